@@ -22,7 +22,7 @@ from support.forms import REPLY, answers_of, is_answer
 from support.inputs import Inputs
 from support.older import OLDER
 from support.programs import FILES, SECONDS, bytes_of, expect, new_desk
-from support.service import Service, answered
+from support.service import TOGETHER, Service, answered
 from support.stretches import HEADERS, file_of, stretches
 from support.sums import expect_sums
 from support.tables import COLUMNS, rows_of, sqlite3
@@ -171,10 +171,12 @@ class Block:
         expect_sums(path, "files")
 
     def streams(self):
-        """Each stream comes whole to one service, in pieces to another, and breaks off at a third."""
-        paths = [self.new_desk(f"{name}.db") for name in ["whole", "pieces", "broken"]]
-        services = [Service(self.program, path, BLOCK * STREAMS) for path in paths]
-        whole, pieces, broken = (service.port for service in services)
+        """Each stream comes whole to one service, in pieces to another, and to one of many connections at once, and breaks off at
+        another."""
+        paths = [self.new_desk(f"{name}.db") for name in ["whole", "pieces", "rounds", "broken"]]
+        forms = [[], [], TOGETHER, TOGETHER]
+        services = [Service(self.program, path, BLOCK * STREAMS, options=options) for path, options in zip(paths, forms)]
+        whole, pieces, rounds, broken = (service.port for service in services)
         try:
             for service in services:
                 service.clock.cancel()
@@ -182,8 +184,9 @@ class Block:
                 stream = self.inputs.stream()
                 found = answered(whole, [stream])
                 expect(answers_of(found) is not None, f"{found}: {stream}")
-                other = answered(pieces, self.inputs.pieces(stream))
-                expect(found == other, f"whole {found}, in pieces {other}: {stream}")
+                for port in (pieces, rounds):
+                    other = answered(port, self.inputs.pieces(stream))
+                    expect(found == other, f"whole {found}, in pieces {other}: {stream}")
                 answered(broken, [stream[: self.inputs.random.randrange(len(stream) + 1)]], is_reset=True)
             for service in services:
                 service.expect_end()
@@ -192,7 +195,7 @@ class Block:
                 service.process.kill()
         for path in paths:
             expect_sums(path, "streams")
-        expect(rows_of(paths[0]) == rows_of(paths[1]), "a stream in pieces leaves other rows")
+        expect(rows_of(paths[0]) == rows_of(paths[1]) == rows_of(paths[2]), "a stream in pieces leaves other rows")
 
     def session_killed(self, path):
         """A session that is killed leaves its log beside the file."""

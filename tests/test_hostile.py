@@ -3,7 +3,7 @@ or gone, heads and bodies at their limits, many connections, a full disk, files 
 
 import contextlib
 import os
-import re
+import select
 import shutil
 import socket
 import subprocess
@@ -12,8 +12,9 @@ import unittest
 
 from support.cases import ProgramCase
 from support.disks import small_disk
+from support.processes import files_of, resident
 from support.programs import NOT_A_DESK, SECONDS, STORE, Session, bytes_of, done, ended, expect, expect_end, new_desk
-from support.service import Service, answered
+from support.service import TOGETHER, Service, answered
 
 CONNECTIONS = 10_000
 NOBODY = 65_534
@@ -25,16 +26,6 @@ GET = b"GET /v1/fields/N1/A-1 HTTP/1.1\r\n\r\n"
 SHOWN = b'{"article":"A-1","branch":"N1","hi":1000000,"inf":0,"lo":0,"sup":0,"value":0}'
 PLACE = b'{"place":1}'
 UNREADABLE = b'{"error":"message"}'
-
-
-def resident(process):
-    """The process's memory, in KiB."""
-    with open(f"/proc/{process.pid}/status", encoding="ascii") as file:
-        return int(re.search(r"VmRSS:\s+(\d+) kB", file.read())[1])
-
-
-def files_of(process):
-    return len(os.listdir(f"/proc/{process.pid}/fd"))
 
 
 def with_field(program, folder):
@@ -60,7 +51,7 @@ def expect_bodies(port, text, bodies):
     expect(found == bodies, f"{text[:100]}: {found} and not {bodies}")
 
 
-class Peers(ProgramCase):
+class Lines(ProgramCase):
     def test_a_line_without_an_end_is_not_kept(self):
         """10,000,000 bytes of it: what is resident stays, the line is bad once, and the next one is answered."""
         session = Session(self.program, new_desk(self.program, self.folder))
@@ -77,9 +68,18 @@ class Peers(ProgramCase):
         finally:
             session.end()
 
+
+class Peers(ProgramCase):
+    """Of a service with these options."""
+
+    options: list[str] = []
+
+    def serve(self, connections):
+        return Service(self.program, with_field(self.program, self.folder), connections, options=self.options)
+
     def test_heads_and_bodies_have_limits(self):
         """At the limit a message is answered, and so is the next; over it the connection ends with one answer."""
-        service = Service(self.program, with_field(self.program, self.folder), 4)
+        service = self.serve(4)
         expect_bodies(service.port, head_of(8_192) + GET, [SHOWN, SHOWN])
         expect_bodies(service.port, head_of(8_193) + GET, [UNREADABLE])
         expect_bodies(service.port, command_of(16_384) + GET, [PLACE, SHOWN])
@@ -87,28 +87,25 @@ class Peers(ProgramCase):
         service.expect_end()
 
     def test_a_slow_client_is_answered(self):
-        """One byte at a time; another client waits meanwhile, and is then answered."""
-        service = Service(self.program, with_field(self.program, self.folder), 2)
+        """One byte at a time; another client waits meanwhile, where there is one connection after the other, and is then
+        answered."""
+        service = self.serve(2)
         with socket.create_connection(("127.0.0.1", service.port), SECONDS) as slow:
-            other = socket.create_connection(("127.0.0.1", service.port), 0.2)
+            other = socket.create_connection(("127.0.0.1", service.port), SECONDS)
             other.sendall(GET)
             for number in range(len(GET)):
                 slow.sendall(GET[number : number + 1])
                 time.sleep(0.01)
             expect(slow.recv(4_096).endswith(SHOWN), "the slow one is not answered")
-            try:
-                other.recv(4_096)
-                expect(False, "the other one is answered before its turn")
-            except TimeoutError:
-                pass
-        other.settimeout(SECONDS)
+            is_answered = bool(select.select([other], [], [], 0.2)[0])
+            expect(is_answered == (self.options == TOGETHER), "the other one is answered before its turn, or too late")
         expect(other.recv(4_096).endswith(SHOWN), "the other one is not answered")
         other.close()
         service.expect_end()
 
     def test_a_client_that_never_reads_holds_up_no_other(self):
         """It sends until nothing more is taken, and goes: the next is served."""
-        service = Service(self.program, with_field(self.program, self.folder), 2)
+        service = self.serve(2)
         with socket.create_connection(("127.0.0.1", service.port), 0.5) as silent:
             sent = 0
             with contextlib.suppress(TimeoutError):
@@ -120,7 +117,7 @@ class Peers(ProgramCase):
 
     def test_many_connections_leave_nothing_behind(self):
         """10,000 one after the other: memory and open files at the end are those of the start."""
-        service = Service(self.program, with_field(self.program, self.folder), CONNECTIONS)
+        service = self.serve(CONNECTIONS)
         first = None
         for number in range(CONNECTIONS):
             if number == 100:
@@ -130,6 +127,12 @@ class Peers(ProgramCase):
             expect(answered(service.port, [GET]).endswith(SHOWN), f"connection {number} is not answered")
         expect(last[1] == first[1] and last[0] - first[0] <= 64, f"{first} KiB and files, then {last}")
         service.expect_end()
+
+
+class PeersTogether(Peers):
+    """Of one that serves many connections at once."""
+
+    options = TOGETHER
 
 
 def ended_as_nobody(program, words, text):

@@ -5,9 +5,10 @@ import os
 import threading
 from collections.abc import Callable
 
+from support.asks import NO_MEMORY, STOPPED
 from support.cases import needs_strict_tables
 from support.failing import NEVER, Failing, FailingCase, Failure, refusals
-from support.messages import answer, answer_to, compact, message
+from support.messages import answer_of, message_of
 from support.older import older
 from support.programs import MEMORY, NOT_A_DESK, STORE, WELL, End, done, ended, expect, expect_end, new_desk, note
 from support.service import NotServed, Service, answered
@@ -18,8 +19,6 @@ from support.works import EACH_KIND, REQUESTS, SCRIPT, SHEETS, OnCopies, copy_de
 WORKS = [*((sheet, [MEMORY]) for sheet in SHEETS), *((work, [MEMORY, STORE]) for work in [SCRIPT, *REQUESTS[:2], *REQUESTS[3:5]])]
 # by how many allocations two tasks may differ until a desk is opened
 SPARE = 100
-NO_MEMORY = answer(503, compact({"error": "memory"}))
-STOPPED = answer(503, compact({"error": "stopped"}))
 
 # words that ask for nothing, and all by which they are told
 NO_TASKS = [["--version"], ["walk"], ["sheet", "none.db", "n1"], ["serve", "none.db", "--port", "65536", "--connections", "1"]]
@@ -36,14 +35,6 @@ FIRST = [
     "M5 deliver N1 A-1 5",
 ]
 SECOND = ["M6 deliver N1 A-1 6", "? field N1 A-1"]
-
-
-def message_of(line: str) -> bytes:
-    key, command = line.split(" ", 1)
-    if key == "?":
-        kind, *names = command.split()
-        return message("GET " + "/".join(["/v1", f"{kind}s", *names]), "")
-    return message("POST /v1/commands", compact({"key": key, "command": command}))
 
 
 def parts_of(text: bytes) -> list[bytes]:
@@ -65,8 +56,7 @@ class Undisturbed:
             if lines not in self.known:
                 path = new_desk(self.program, self.folder, f"undisturbed{len(self.known)}.db")
                 found = done(self.program, ["run", path], "".join(line + "\n" for line in lines))
-                answers = [answer(status, compact(body)) for status, body in map(answer_to, found)]
-                self.known[lines] = answers, rows_of(path)
+                self.known[lines] = [answer_of(line) for line in found], rows_of(path)
             return self.known[lines]
 
 

@@ -8,7 +8,7 @@ import subprocess
 from support.cases import ProgramCase
 from support.messages import answer, message
 from support.programs import SECONDS, done, expect, expect_end, new_desk
-from support.service import Service, answered
+from support.service import NOT_CLIENTS, NOT_TOGETHER, TOGETHER, Service, answered
 
 COMMANDS = "POST /v1/commands"
 FIRST = '{"command":"field N1 A-1 0 100 40","key":"K1"}'
@@ -165,6 +165,12 @@ NO_NUMBERS = [
     ("0", "1 "),
 ]
 
+# options of a service of many connections at once that are out of their range, or no numbers
+NO_TOGETHER = [
+    *[["--together", number] for number in NOT_TOGETHER],
+    *[["--together", "1", "--clients", number] for number in NOT_CLIENTS],
+]
+
 
 def messages_of(rows):
     return b"".join(message(line, body) for line, body, _, _ in rows)
@@ -181,10 +187,10 @@ def expect_answers(port, stream, want, size=None):
     expect(found == want, f"{stream[:200]}: {found} and not {want}")
 
 
-def expect_each(program, folder, streams):
+def expect_each(program, folder, options, streams):
     """Each stream, on a connection of its own and a desk without fields, is answered so; and no field is made."""
     path = new_desk(program, folder)
-    service = Service(program, path, len(streams))
+    service = Service(program, path, len(streams), options=options)
     for stream, want in streams:
         expect_answers(service.port, stream, want)
     service.expect_end()
@@ -207,9 +213,15 @@ def body_of(count, bracket, filling, rest):
 
 
 class Messages(ProgramCase):
+    """Of a service with these options."""
+
+    options: list[str] = []
+    # the same where several commands need several commits
+    few = options
+
     def test_messages_are_answered_in_any_pieces(self):
         for size in [*range(1, 21), 512, None]:
-            service = Service(self.program, new_desk(self.program, self.folder, f"{size}.db"), 1)
+            service = Service(self.program, new_desk(self.program, self.folder, f"{size}.db"), 1, options=self.options)
             expect_answers(service.port, messages_of(WORKED), answers_of(WORKED), size)
             service.expect_end()
 
@@ -218,27 +230,31 @@ class Messages(ProgramCase):
         path = new_desk(self.program, self.folder)
         done(self.program, ["run", path], "K1 field N1 A-1 0 100000 0\n")
         delivered = "".join(f"K{n} deliver N1 A-1 1\n" for n in range(2, 400))
-        service = Service(self.program, path, 2, limit=1_048_576)
+        service = Service(self.program, path, 2, limit=1_048_576, options=self.few)
         rows = [(COMMANDS, f'{{"command":"deliver N1 A-1 1","key":"K{n}"}}', 200, f'{{"place":{n}}}') for n in range(2, 400)]
         found = answered(service.port, [messages_of(rows) + messages_of(ON_A_STOPPED_DESK)])
         # as many are done as find room, and none behind one that does not
         told = found.count(b" 200 OK\r\n")
         rows = rows[:told] + [(line, body, 503, STOPPED) for line, body, _, _ in rows[told:]] + ON_A_STOPPED_DESK
-        expect(found == answers_of(rows), f"{told} are done, then {found[-2000:]}")
+        self.expect_told(found, answers_of(rows), answers_of(rows[: told + 1]))
         service.expect_end((1, b"", b"stockdesk: store\n"))
         replies = done(self.program, ["run", path], delivered)
         expect(0 < told < 398 and replies[:told] == [f"K{n} done {n}" for n in range(2, told + 2)], f"{told} were done")
 
+    def expect_told(self, found, want, least):
+        """All is told of a stopped desk."""
+        expect(found == want, f"{found[-2000:]}")
+
     def test_what_is_unreadable_is_answered_once(self):
         """Nothing behind it is answered or done."""
-        streams = [head + FIRST.encode() + BEHIND for head in NO_HEADS]
-        expect_each(self.program, self.folder, [(stream, answer(400, UNREADABLE)) for stream in streams + CUT])
+        streams = [(head + FIRST.encode() + BEHIND, answer(400, UNREADABLE)) for head in NO_HEADS]
+        expect_each(self.program, self.folder, self.options, streams + [(stream, answer(400, UNREADABLE)) for stream in CUT])
 
     def test_a_head_has_its_limits(self):
         """At the limit it is answered, and so is what stands behind it; over it neither is."""
         streams = [(head + BEHIND, answer(404, NONE) * 2) for head in [head_of_lines(32), head_of_bytes(8_192)]]
         streams += [(head + BEHIND, answer(400, UNREADABLE)) for head in [head_of_lines(33), head_of_bytes(8_193)]]
-        expect_each(self.program, self.folder, streams)
+        expect_each(self.program, self.folder, self.options, streams)
 
     def test_a_connection_goes_on_behind_a_body(self):
         """Long ones, deep ones and others that are no command."""
@@ -251,10 +267,10 @@ class Messages(ProgramCase):
         ]
         streams = [(body + BEHIND, answer(400, BAD_COMMAND) + answer(404, NONE)) for body in bodies]
         streams.append((body_of(16_385, b"{", b" ", FIRST[1:].encode()) + BEHIND, answer(400, UNREADABLE)))
-        expect_each(self.program, self.folder, streams)
+        expect_each(self.program, self.folder, self.options, streams)
 
     def test_a_long_body_may_be_a_command(self):
-        service = Service(self.program, new_desk(self.program, self.folder), 2)
+        service = Service(self.program, new_desk(self.program, self.folder), 2, options=self.options)
         for count in [46, 16_384]:
             stream = body_of(count, b"{", b" ", FIRST[1:].encode()) + BEHIND
             expect_answers(service.port, stream, answer(200, '{"place":1}') + answer(404, NONE))
@@ -263,11 +279,30 @@ class Messages(ProgramCase):
     def test_a_service_that_cannot_begin_is_told(self):
         path = new_desk(self.program, self.folder)
         for port, connections in NO_NUMBERS:
-            words = ["serve", path, "--port", port, "--connections", connections]
+            words = ["serve", path, "--port", port, "--connections", connections, *self.options]
             expect_end(self.program, words, (2, b"", b"stockdesk: usage\n"))
-        words = ["serve", f"{path}.not", "--port", "0", "--connections", "1"]
+        words = ["serve", f"{path}.not", "--port", "0", "--connections", "1", *self.options]
         expect_end(self.program, words, (3, b"", b"stockdesk: not a desk\n"))
 
+
+class MessagesTogether(Messages):
+    """Of one that serves many connections at once."""
+
+    options = TOGETHER
+    few = ["--together", "5"]
+
+    def expect_told(self, found, want, least):
+        """The service ends some turns behind the one that stopped the desk: it is told, and perhaps more."""
+        expect(want.startswith(found) and found.startswith(least), f"{found[-2000:]}")
+
+    def test_numbers_of_those_together_have_their_range(self):
+        path = new_desk(self.program, self.folder)
+        for options in NO_TOGETHER:
+            words = ["serve", path, "--port", "0", "--connections", "1", *options]
+            expect_end(self.program, words, (2, b"", b"stockdesk: usage\n"))
+
+
+class NoConnection(ProgramCase):
     def test_a_service_to_which_no_connection_comes(self):
         """It may open no file more than those of the desk and the socket on which it listens."""
         path, ends = new_desk(self.program, self.folder), set()

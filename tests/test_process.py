@@ -24,17 +24,26 @@ from support.programs import (
     note,
     write_records,
 )
+from support.service import NOT_CLIENTS, NOT_TOGETHER
 from support.tables import COLUMNS, KEYS, rows_of, sqlite3
 
 ROUNDS = 50
 LINES = 1000
 
 # what stands behind the words of a file of requests and is no number of requests that are carried out together
-NOT_TOGETHER = [
+TOGETHER = [
     ["--together"],
-    *[["--together", number] for number in ["0", "1001", "x", "-1", "+1", "01", "", " 1", "1.0", "1_0", "99999999999999999999"]],
+    *[["--together", number] for number in [*NOT_TOGETHER, "-1"]],
     ["--together", "1", "--together", "1"],
     ["--together", "1", "2"],
+]
+
+# likewise behind those of a service
+CLIENTS = [
+    *[["--clients", number] for number in ["1", *NOT_CLIENTS]],
+    *[["--together", "1", "--clients", number] for number in [*NOT_CLIENTS, "-1"]],
+    ["--together", "1", "--clients"],
+    ["--together", "1", "--clients", "1", "--clients", "1"],
 ]
 
 # words that ask for nothing that the program does
@@ -59,8 +68,12 @@ NO_TASK = [
     ["serve", "usage.db", "--port", "-1", "--connections", "1"],
     ["serve", "usage.db", "--port", "0", "--port", "0", "--connections", "1"],
     ["serve", "usage.db", "0", "--port", "0", "--connections", "1"],
-    *[[word, "usage.db", "file.csv", *words] for word in ["orders", "deliveries", "bounds"] for words in NOT_TOGETHER],
+    *[[word, "usage.db", "file.csv", *words] for word in ["orders", "deliveries", "bounds"] for words in TOGETHER],
+    *[["serve", "usage.db", "--port", "0", "--connections", "1", *words] for words in TOGETHER + CLIENTS],
+    ["serve", "usage.db", "--port", "0", "--together", "1"],
+    ["serve", "usage.db", "--connections", "1", "--together", "1"],
     ["deliveries", "--together", "1", "usage.db"],
+    ["deliveries", "usage.db", "file.csv", "--together", "1", "--clients", "1"],
     ["run", "usage.db", "--together", "1"],
     ["sheet", "usage.db", "N1", "--together", "1"],
     ["--help"],
@@ -77,7 +90,7 @@ HELP = [
     (["bounds", "--help"], ["FILE", "CSV", "--together"]),
     (["sheet", "--help"], ["FILE", "BRANCH"]),
     (["article", "--help"], ["FILE", "ARTICLE"]),
-    (["serve", "--help"], ["FILE", "--port", "--connections"]),
+    (["serve", "--help"], ["FILE", "--port", "--connections", "--together", "--clients"]),
     (["upgrade", "--help"], ["FILE"]),
 ]
 

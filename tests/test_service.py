@@ -12,7 +12,7 @@ import threading
 from support.cases import ProgramCase, needs
 from support.messages import answer_to, compact
 from support.programs import SECONDS, done, expect, expect_end, new_desk, note
-from support.service import JSON, Service, answered, ask, post
+from support.service import JSON, TOGETHER, Service, answered, ask, post
 from support.tables import rows_of, sqlite3
 
 GREATEST_PORT, MOST_CONNECTIONS = 65_535, 1_000_000
@@ -75,10 +75,9 @@ def curl(port, target, *words):
     return run.stderr.decode(), run.stdout.decode()
 
 
-def killed(program, path, first, seconds):
+def killed(service, first, seconds):
     """Delivers one piece after another, from that place on, until the service is killed after so many seconds: how many commands
     were answered."""
-    service = Service(program, path, 1)
     connection = service.connect()
     moment = threading.Timer(seconds, service.process.kill)
     moment.start()
@@ -98,11 +97,19 @@ def killed(program, path, first, seconds):
 
 
 class Services(ProgramCase):
+    """Of a service with these options."""
+
+    options: list[str] = []
+
+    def serve(self, path, connections, **more):
+        return Service(self.program, path, connections, options=self.options, **more)
+
     def test_a_port_is_told_and_taken(self):
         """One of 127.0.0.1 alone that is free, or the one that is asked for; one that is taken is a fault."""
         path = new_desk(self.program, self.folder)
-        service = Service(self.program, path, 1)
+        service = self.serve(path, 1)
         words = ["serve", new_desk(self.program, self.folder, "other.db"), "--port", str(service.port), "--connections", "1"]
+        words += self.options
         expect_end(self.program, words, (1, b"", b"stockdesk: io\n"))
         try:
             socket.create_connection(("127.0.0.2", service.port), SECONDS).close()
@@ -111,7 +118,7 @@ class Services(ProgramCase):
             pass
         connect_once(service)
         service.expect_end()
-        again = Service(self.program, path, 1, port=service.port)
+        again = self.serve(path, 1, port=service.port)
         expect(again.port == service.port, f"another port: {again.port}")
         connect_once(again)
         again.expect_end()
@@ -126,7 +133,7 @@ class Services(ProgramCase):
             except OSError as fault:
                 self.skipTest(f"port {GREATEST_PORT} is taken: {fault}")
         for port, connections in [(GREATEST_PORT, MOST_CONNECTIONS), (0, 1)]:
-            service = Service(self.program, path, connections, port=port)
+            service = self.serve(path, connections, port=port)
             expect(service.port == port or not port, f"another port: {service.port}")
             with contextlib.closing(service.connect()) as connection:
                 found = post(connection, *FIRST)
@@ -141,7 +148,7 @@ class Services(ProgramCase):
         served, played = new_desk(self.program, self.folder), new_desk(self.program, self.folder, "played.db")
         script = "".join(f"{key} {command}\n? {view}\n" for key, command, view in steps())
         lines = iter(done(self.program, ["run", played], script))
-        service = Service(self.program, served, 1)
+        service = self.serve(served, 1)
         connection = service.connect()
         refused = 0
         for key, command, view in steps():
@@ -179,7 +186,7 @@ class Services(ProgramCase):
             (("/v1/sheets/N1",), ("200", sheet)),
             (("/v1/orders/7",), ("404", compact({"error": "none"}))),
         ]
-        service = Service(self.program, new_desk(self.program, self.folder), len(asked))
+        service = self.serve(new_desk(self.program, self.folder), len(asked))
         for words, want in asked:
             found = curl(service.port, *words)
             expect(found == want, f"{words}: {found} and not {want}")
@@ -187,7 +194,7 @@ class Services(ProgramCase):
 
     def test_a_connection_that_breaks_off_is_the_last_of_nothing(self):
         """One that is reset, one that ends within a body, one that is no HTTP: the next is served."""
-        service = Service(self.program, new_desk(self.program, self.folder), 4)
+        service = self.serve(new_desk(self.program, self.folder), 4)
         cut = b"POST /v1/commands HTTP/1.1\r\nContent-Length: 46\r\n\r\n{"
         answered(service.port, [cut], is_reset=True)
         for text in [cut, b"K1 expire 1\n"]:
@@ -204,19 +211,23 @@ class Services(ProgramCase):
         """A file that may not grow: what was answered is kept, the rest is answered as by a stopped desk, and then it ends."""
         path = new_desk(self.program, self.folder)
         done(self.program, ["run", path], "K1 field N1 A-1 0 1000 0\n")
-        service = Service(self.program, path, 2, limit=1_048_576)
+        service = self.serve(path, 2, limit=1_048_576)
         connection = service.connect()
         place, stopped = 2, (503, JSON, compact({"error": "stopped"}))
         while (found := post(connection, f"K{place}", "deliver N1 A-1 1")) != stopped:
             expect(found == (200, JSON, compact({"place": place})), f"{found}")
             place += 1
-        for target in ["/v1/fields/N1/A-1", "/v1/orders/7", "/v1/sheets/N1"]:
-            expect(ask(connection, "GET", target) == stopped, f"{target} is answered")
+        self.expect_views(connection, stopped)
         connection.close()
         service.expect_end((1, b"", b"stockdesk: store\n"))
         [shown] = done(self.program, ["run", path], "? field N1 A-1\n")
         found = int(shown.split()[9])
         expect(place > 2 and found in (place - 2, place - 1), f"{place - 2} were answered, {found} are found")
+
+    def expect_views(self, connection, want):
+        """Each is answered so."""
+        for target in ["/v1/fields/N1/A-1", "/v1/orders/7", "/v1/sheets/N1"]:
+            expect(ask(connection, "GET", target) == want, f"{target} is answered")
 
     def test_nothing_answered_is_lost(self):
         generator = random.Random(1986)
@@ -224,7 +235,7 @@ class Services(ProgramCase):
         done(self.program, ["run", path], "K1 field N1 A-1 0 1000000000 0\n")
         place, cut = 2, 0
         for _ in range(ROUNDS):
-            answered = killed(self.program, path, place, generator.uniform(0, 0.4))
+            answered = killed(self.serve(path, 1), place, generator.uniform(0, 0.4))
             [shown] = done(self.program, ["run", path], "? field N1 A-1\n")
             found = int(shown.split()[9]) - (place - 2)
             expect(answered <= found <= answered + 1, f"{answered} answered, {found} found")
@@ -235,3 +246,14 @@ class Services(ProgramCase):
             cut += answered < KILLED_IN
             place += found
         note(f"{ROUNDS} services, {cut} of them killed before their end, {place - 1} commands")
+
+
+class ServicesTogether(Services):
+    """Of one that serves many connections at once."""
+
+    options = TOGETHER
+
+    def expect_views(self, connection, want):
+        """Those that are answered before the service ends, which is soon."""
+        with contextlib.suppress(OSError, http.client.HTTPException):
+            super().expect_views(connection, want)

@@ -12,7 +12,7 @@ import tempfile
 from support.cases import ProgramCase
 from support.inputs import Inputs
 from support.killed import START, Killed, orders_of
-from support.power_cuts import NAME, NO_CUTS, Recorded, calls_of, may_be_cut, rows_after_each, try_cuts
+from support.power_cuts import NAME, NO_CUTS, Recorded, calls_of, may_be_cut, may_be_kept, rows_after_each, try_cuts
 from support.programs import SECONDS, bytes_of, done, ended, expect, new_desk, note
 from support.recorded import OUTPUT
 from support.stretches import file_of, kind_of
@@ -142,13 +142,6 @@ def ends_of(replies, places, most):
         has_refused = has_refused or " refused " in reply
         places += is_accepted(reply, places)
     return [*ends, len(replies)]
-
-
-def may_be_kept(ends, told):
-    """How many requests may be kept where so many replies were written: a batch is kept before its first reply is written, and
-    the next one behind its last."""
-    behind = [end for end in ends if end > told][:1]
-    return [told, *behind] if told in ends else behind
 
 
 class Files:

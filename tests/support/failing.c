@@ -4,6 +4,7 @@
  *     read     reads of input, sockets and files that are read from their start to their end
  *     write    writes of output, but for those of what tells of a fault, and of sockets
  *     store    reads, writes, cuts and syncs of files at a place
+ *     sync     syncs of files
  * Where FAILING_BEHIND names a kind, too, none is counted before the first call of that. All but an allocation fail with the error
  * FAILING_ERROR; where that is 0 they read or write nothing, and fail not. What is random is the same in each run. */
 
@@ -21,7 +22,7 @@ extern void *__libc_malloc(size_t);
 extern void *__libc_calloc(size_t, size_t);
 extern void *__libc_realloc(void *, size_t);
 
-enum kind { NONE, MEMORY, READ, WRITE, STORE };
+enum kind { NONE, MEMORY, READ, WRITE, STORE, SYNC };
 
 static enum kind asked, behind;
 static unsigned long from, to, count;
@@ -35,9 +36,9 @@ static unsigned long number(const char *name)
 
 static enum kind kind_of(const char *name)
 {
-    static const char *const names[] = {"none", "memory", "read", "write", "store"};
+    static const char *const names[] = {"none", "memory", "read", "write", "store", "sync"};
     const char *text = getenv(name);
-    for (enum kind kind = MEMORY; text && kind <= STORE; kind++)
+    for (enum kind kind = MEMORY; text && kind <= SYNC; kind++)
         if (strcmp(text, names[kind]) == 0)
             return kind;
     return NONE;
@@ -137,12 +138,12 @@ int ftruncate(int file, off_t size)
 
 int fsync(int file)
 {
-    return (int)(fails(STORE) ? failed() : syscall(SYS_fsync, file));
+    return (int)(fails(STORE) || fails(SYNC) ? failed() : syscall(SYS_fsync, file));
 }
 
 int fdatasync(int file)
 {
-    return (int)(fails(STORE) ? failed() : syscall(SYS_fdatasync, file));
+    return (int)(fails(STORE) || fails(SYNC) ? failed() : syscall(SYS_fdatasync, file));
 }
 
 int getentropy(void *buffer, size_t size)

@@ -1,4 +1,5 @@
-"""Runs of the built program of which calls fail that else would not: allocations, reads and writes, and what its store calls."""
+"""Runs of the built program of which calls fail that else would not: allocations, reads and writes, and what its store calls; or
+whose syncs are slow."""
 
 import contextlib
 import errno
@@ -12,11 +13,13 @@ from dataclasses import dataclass
 from queue import SimpleQueue
 from typing import TypeVar
 
+from support import TOP
 from support.cases import ProgramCase
 from support.disks import IN_MEMORY
 from support.programs import End, ended, expect
 
 SOURCE = os.path.join(os.path.dirname(os.path.abspath(__file__)), "failing.c")
+SLOW_SOURCE = os.path.join(TOP, "bench", "slow_sync.c")
 # a number that no call has
 NEVER = 1 << 62
 # of so many allocations one is refused with all behind it
@@ -52,12 +55,12 @@ class NotBuilt(Exception):
     """Why there is no library by which calls fail."""
 
 
-def library_in(folder: str) -> str:
-    """The path of the library by which calls fail."""
+def library_in(folder: str, source: str) -> str:
+    """The path of the library by which calls fail, or syncs are slow."""
     if not (compiler := shutil.which("cc")):
         raise NotBuilt("cc not here")
-    path = os.path.join(folder, "failing.so")
-    words = [compiler, "-shared", "-fPIC", "-O2", "-o", path, SOURCE]
+    path = os.path.join(folder, os.path.basename(source).replace(".c", ".so"))
+    words = [compiler, "-shared", "-fPIC", "-O2", "-o", path, source, "-ldl"]
     if (run := subprocess.run(words, capture_output=True, text=True, check=False)).returncode:
         raise NotBuilt(f"cc builds no library here: {run.stderr.strip()[-200:]}")
     return path
@@ -67,7 +70,7 @@ class Failing:
     """The built program, the library by which its calls fail, and lanes: folders for runs that are tried side by side."""
 
     def __init__(self, program: str, folder: str):
-        self.program, self.library = program, library_in(folder)
+        self.program, self.library, self.slow = program, library_in(folder, SOURCE), library_in(folder, SLOW_SOURCE)
         self.lanes: SimpleQueue[str] = SimpleQueue()
         for number in range(LANES):
             os.mkdir(os.path.join(folder, str(number)))
@@ -82,15 +85,16 @@ class Failing:
         finally:
             self.lanes.put(folder)
 
-    def environment(self, failure: Failure, lane: str) -> dict[str, str]:
-        """In which the program is called so that calls fail."""
+    def environment(self, failure: Failure, lane: str, micros: int = 0) -> dict[str, str]:
+        """In which the program is called so that calls fail, and so many microseconds go by behind each sync."""
         told = os.path.join(lane, "counted")
         with contextlib.suppress(FileNotFoundError):
             os.remove(told)
         return {
             **os.environ,
             **CHEAPER,
-            "LD_PRELOAD": self.library,
+            "LD_PRELOAD": f"{self.slow}:{self.library}" if micros else self.library,
+            "SLOW_SYNC": str(micros),
             "FAILING_KIND": failure.kind,
             "FAILING_FROM": str(failure.first),
             "FAILING_TO": str(NEVER if failure.for_good else failure.first),

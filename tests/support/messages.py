@@ -27,6 +27,21 @@ def answer(status: int, body: str) -> bytes:
     return (head + body).encode()
 
 
+def message_of(line: str) -> bytes:
+    """The message that asks for the same as a line of a script, or for a sheet: `? sheet BRANCH`."""
+    key, command = line.split(" ", 1)
+    if key == "?":
+        kind, *names = command.split()
+        return message("GET " + "/".join(["/v1", f"{kind}s", *names]), "")
+    return message("POST /v1/commands", compact({"key": key, "command": command}))
+
+
+def answer_of(line: str) -> bytes:
+    """The answer where a script is answered by this line."""
+    status, body = answer_to(line)
+    return answer(status, compact(body))
+
+
 def answer_to(line: str) -> tuple[int, dict[str, Any]]:
     """The status and the object that HTTP answers where a script is answered by this line."""
     _, kind, *words = line.split()
@@ -45,4 +60,4 @@ def answer_to(line: str) -> tuple[int, dict[str, Any]]:
     if kind == "done":
         return 200, {"place": int(words[0])}
     code, name, number = words
-    return 409, {"code": int(code), "refused": name, "line": int(number)}
+    return 400 if name == "BadCommand" else 409, {"code": int(code), "refused": name, "line": int(number)}

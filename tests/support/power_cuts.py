@@ -48,22 +48,35 @@ def without_some_syncs(calls: Sequence[Call]) -> list[Call]:
     return [call for call in calls if call not in left_out]
 
 
+def may_be_kept(ends: Sequence[int], told: int) -> list[int]:
+    """How many requests may be kept where so many were told, in batches that end there: a batch is kept before the first of it is
+    told, and the next one behind its last."""
+    behind = [end for end in ends if end > told][:1]
+    return [told, *behind] if told in ends else behind
+
+
+def lines_in(written: bytes) -> int:
+    return written.count(b"\n")
+
+
 @dataclass
 class Recorded:
     """Calls that were recorded, with their folder and its files before the first of them; and what may be found by how many
-    replies were written whole, where None says that the desk is not made yet."""
+    replies were written whole, where None says that the desk is not made yet. How many these are is told of all that was
+    written: they are its lines, or something else."""
 
     folder: str
     files: dict[str, bytes]
     calls: list[Call]
     may: Callable[[int | None], list[Found]]
+    told: Callable[[bytes], int] = lines_in
 
 
 class Cuts:
     """Cuts that are tried, and what was found after them."""
 
-    def __init__(self, program: str, folder: str, may: Callable[[int | None], list[Found]], chance: Random):
-        self.program, self.folder, self.may, self.chance = program, folder, may, chance
+    def __init__(self, program: str, folder: str, recorded: Recorded, chance: Random):
+        self.program, self.folder, self.recorded, self.chance = program, folder, recorded, chance
         self.tried = self.openings = self.lost = 0
 
     def laid(self, files: dict[str, bytes]) -> str:
@@ -99,7 +112,7 @@ class Cuts:
         if self.chance.randrange(OPENINGS) == 0:
             files = self.left_by_an_opening(files)
         self.tried += 1
-        self.lost += self.opened(files) not in self.may(replies)
+        self.lost += self.opened(files) not in self.recorded.may(replies)
 
     def after_each(self, disk: Disk, calls: Sequence[Call], count: int) -> None:
         """Cuts the power so often, about as often after each of the calls that the disk carries out."""
@@ -110,11 +123,11 @@ class Cuts:
             else:
                 written += disk.carry_out(call)
             for _ in range(count * (number + 1) // len(calls) - count * number // len(calls)):
-                self.cut(disk, written.count(b"\n") if made else None)
+                self.cut(disk, self.recorded.told(written) if made else None)
 
 
 def try_cuts(program: str, folder: str, recorded: Recorded, seed: int, count: int) -> None:
-    cuts, blind = (Cuts(program, folder, recorded.may, Random(seed)) for _ in range(2))
+    cuts, blind = (Cuts(program, folder, recorded, Random(seed)) for _ in range(2))
     cuts.after_each(Disk(recorded.folder, recorded.files), recorded.calls, count)
     expect(cuts.lost == 0, f"seed {seed}: {cuts.lost} of {cuts.tried} cuts lost something")
     blind.after_each(Disk(recorded.folder, recorded.files), without_some_syncs(recorded.calls), BLIND_CUTS)

@@ -19,6 +19,8 @@ CHANGES = (
     "renameat2,unlink,unlinkat,link,linkat,mkdir,mkdirat,sync_file_range,copy_file_range,sendfile"
 )
 SYNCS = ("fsync", "fdatasync")
+# those by which a service sends, too
+SENDS = ("write", "sendto")
 LONGEST = 1 << 20
 CALL = re.compile(r"(\w+)\((.*)\)\s+= (-?\d+)(?:<([^>]*)>)?")
 FILE = re.compile(r"(\d+)<([^>]*)>")
@@ -60,14 +62,24 @@ def traced() -> bool:
     return subprocess.run(["strace", "-o", os.devnull, "true"], capture_output=True, check=False).returncode == 0
 
 
+def recorder(path: str) -> list[str]:
+    """What stands in front of a program whose calls are recorded in a file; it stays the child of whoever begins it."""
+    return ["strace", "-D", "-y", "-xx", "-s", str(LONGEST), "-o", path, "-e", f"trace={CHANGES},sendto,sendmsg,sendmmsg"]
+
+
+def recorded_in(path: str) -> list[Call]:
+    """The calls in their order."""
+    with open(path, encoding="ascii") as file:
+        return [call for call in map(read_call, file) if call]
+
+
 def record(program: str, words: list[str], text: str) -> tuple[int, list[Call]]:
-    """The status of a run, and its calls in their order."""
+    """The status of a run, and its calls."""
     with tempfile.TemporaryDirectory() as folder:
         path = os.path.join(folder, "calls")
-        strace = ["strace", "-y", "-xx", "-s", str(LONGEST), "-o", path, "-e", f"trace={CHANGES}", program, *words]
+        strace = [*recorder(path), program, *words]
         run = subprocess.run(strace, input=text.encode(), capture_output=True, timeout=SECONDS, check=False)
-        with open(path, encoding="ascii") as file:
-            return run.returncode, [call for call in map(read_call, file) if call]
+        return run.returncode, recorded_in(path)
 
 
 class File:
@@ -134,9 +146,9 @@ class Disk:
             raise AssertionError(f"a call that is not understood: {call}")
 
     def carry_out(self, call: Call) -> bytes:
-        """Carries out a call, and gives what it has written on standard output."""
-        if call.name == "write" and call.number == OUTPUT:
-            return call.data[: call.result]
+        """Carries out a call, and gives what it has written on standard output, or sent."""
+        if call.name in SENDS and (call.number == OUTPUT or call.path.startswith(("socket:", "TCP"))):
+            return call.data[: max(0, call.result)]
         if call.path == self.folder and call.name in SYNCS:
             self.synced = dict(self.names)
         elif os.path.dirname(call.path) == self.folder and call.result >= 0:

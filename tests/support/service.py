@@ -9,11 +9,28 @@ import struct
 import subprocess
 import threading
 import time
+from collections.abc import Callable, Sequence
 
 from support.messages import compact
 from support.programs import SECONDS, End, expect
 
 JSON = "application/json"
+# what makes a service one of many connections at once
+TOGETHER = ["--together", "1000"]
+# what is no number of requests that are carried out together, and none of connections that are there at once
+NO_NUMBERS = ["0", "x", "+1", "01", "", " 1", "1.0", "1_0", "99999999999999999999"]
+NOT_TOGETHER, NOT_CLIENTS = [*NO_NUMBERS, "1001"], [*NO_NUMBERS, "4001"]
+
+# a resource, and how much of it there may be
+Limit = tuple[int, int]
+
+
+def limited(limit: int | Limit | None) -> Callable[[], None] | None:
+    """What sets a limit in the process that is begun, the hard one too."""
+    if limit is None:
+        return None
+    kind, size = (resource.RLIMIT_FSIZE, limit) if isinstance(limit, int) else limit
+    return lambda: resource.setrlimit(kind, (size, size))
 
 
 class NotServed(AssertionError):
@@ -25,7 +42,8 @@ class NotServed(AssertionError):
 
 
 class Service:
-    """A desk in a file that is served to so many connections; its file may grow to so many bytes."""
+    """A desk in a file that is served to so many connections; its file may grow to so many bytes, or there is so much of another
+    resource. What stands in front of the program has it run."""
 
     def __init__(
         self,
@@ -33,20 +51,23 @@ class Service:
         path: str,
         connections: int,
         port: int = 0,
-        limit: int | None = None,
+        limit: int | Limit | None = None,
         environment: dict[str, str] | None = None,
+        options: Sequence[str] = (),
+        runner: Sequence[str] = (),
+        seconds: float = SECONDS,
     ):
         self.process = subprocess.Popen(
-            [program, "serve", path, "--port", str(port), "--connections", str(connections)],
+            [*runner, program, "serve", path, "--port", str(port), "--connections", str(connections), *options],
             stdin=subprocess.DEVNULL,
             stdout=subprocess.PIPE,
             stderr=subprocess.PIPE,
             env=environment,
             restore_signals=limit is None,
-            preexec_fn=None if limit is None else lambda: resource.setrlimit(resource.RLIMIT_FSIZE, (limit, limit)),
+            preexec_fn=limited(limit),
         )
         # an answer that never comes ends the test
-        self.clock = threading.Timer(SECONDS, self.process.kill)
+        self.clock = threading.Timer(seconds, self.process.kill)
         self.clock.start()
         assert self.process.stdout
         told = self.process.stdout.readline()

@@ -1,10 +1,8 @@
 -- How what is answered in a dialogue goes on, and how it ends.
 use Rattle.std.proofs.Common.{◌≡◌, ◌≢◌, ◌≤◌, ◌∙◌, ◌+◌, Bool, true, false, true≢false, ℕ, List, [], ◌∷◌, ◌++◌, Option, ap, append-nil, append_assoc, arith, inl, inr, length, refl, subst, sym}
 use Rattle.std.specs.Io.KnownBytes.{Appends, Consumes, IsAtEnd, Keeps}
-use Rattle.std.specs.List.{AllByRecursion as Each}
 use Rattle.std.proofs.KnownBytes.{Appends-nil, Appends-trans, Consumes-kept, Consumes-nil, Consumes-trans}
 use Rattle.std.proofs.lemmas.List.{length-append}
-use Rattle.words.specs.declared.command.Request.{Request}
 use Rattle.book.specs.Answers.{IsAccepted}
 use Rattle.book.specs.Ledger.{Ledger}
 use Rattle.book.specs.Next.{accept}
@@ -15,73 +13,9 @@ use Rattle.desk.specs.Streams.{Streams, streams}
 use Rattle.desk.specs.declared.fault.CallFault.{CallFault}
 use Rattle.desk.specs.declared.fault.ScriptFault.{ScriptFault}
 use Rattle.desk.proofs.Faults.{memory_stops_nothing, read_stops_nothing, write_stops_nothing}
+use Rattle.desk.proofs.Answering.{answers_on, each_both, first_behind, first_on, first_wider, text_on}
 
 module _ {Q A : Type 0} (L : Language Q A) where
-  -- the answers to the first questions, and then those to others
-  pub answers_on : (questions others : List Q) (kinds more : List AnswerKind) (xs ys : List A) (old mid new : Snapshot)
-      → AreAnswers L old questions kinds xs mid → AreAnswers L mid others more ys new → AreAnswers L old (questions ++ others) (kinds ++ more) (xs ++ ys) new
-  answers_on [] others [] more [] ys old mid new h k = subst (λ (s : Snapshot). AreAnswers L s others more ys new) h k
-  answers_on (q ∷ questions) others (kind ∷ kinds) more (x ∷ xs) ys old mid new (next, first, rest) k = (next, first, answers_on questions others kinds more xs ys next mid new rest k)
-  answers_on [] others [] more (x ∷ xs) ys old mid new h k = absurd h
-  answers_on [] others (kind ∷ kinds) more xs ys old mid new h k = absurd h
-  answers_on (q ∷ questions) others [] more xs ys old mid new h k = absurd h
-  answers_on (q ∷ questions) others (kind ∷ kinds) more [] ys old mid new h k = absurd h
-
-  pub text_on : (xs ys : List A) → text_of L (xs ++ ys) ≡ text_of L xs ++ text_of L ys
-  text_on [] ys = refl
-  text_on (x ∷ xs) ys = ap (λ (t : List ℕ). L.text x ++ t) (text_on xs ys) ∙ sym (append_assoc (L.text x) (text_of L xs) (text_of L ys))
-
-  -- the last answer, and those before it
-  pub last_answer : (questions : List Q) (kinds : List AnswerKind) (xs : List A) (x : A) (old new : Snapshot) → AreAnswers L old questions kinds (xs ++ x ∷ []) new
-      → (before : List Q) × (last : Q) × (more : List AnswerKind) × (kind : AnswerKind) × (mid : Snapshot) × (questions ≡ before ++ last ∷ []) × AreAnswers L old before more xs mid × L.answers mid last kind x new
-  last_answer [] [] [] x old new h = absurd h
-  last_answer [] [] (y ∷ xs) x old new h = absurd h
-  last_answer [] (kind ∷ kinds) xs x old new h = absurd h
-  last_answer (q ∷ questions) [] xs x old new h = absurd h
-  last_answer (q ∷ []) (kind ∷ []) [] x old new (mid, first, more) = ([], q, [], kind, old, refl, refl, subst (λ (s : Snapshot). L.answers old q kind x s) (sym more) first)
-  last_answer (q ∷ r ∷ questions) (kind ∷ []) [] x old new (mid, first, more) = absurd more
-  last_answer (q ∷ []) (kind ∷ other ∷ kinds) [] x old new (mid, first, more) = absurd more
-  last_answer (q ∷ r ∷ questions) (kind ∷ other ∷ kinds) [] x old new (mid, first, more) = absurd more
-  last_answer (q ∷ questions) (kind ∷ kinds) (y ∷ xs) x old new (mid, first, more) =
-      let (before, last, others, at, then, split, front, end) = last_answer questions kinds xs x mid new more in
-      (q ∷ before, last, kind ∷ others, at, then, ap (λ (qs : List Q). q ∷ qs) split, (mid, first, front), end)
-
-  -- ---- the request that stopped the desk
-
-  -- it stays the first
-  first_on : (questions others : List Q) (kinds more : List AnswerKind) (xs : List A) (old new : Snapshot) (r : Request) → AreAnswers L old questions kinds xs new
-      → IsStoppedBy L questions kinds r → IsStoppedBy L (questions ++ others) (kinds ++ more) r
-  first_on [] others kinds more xs old new r h s = absurd s
-  first_on (q ∷ questions) others [] more xs old new r h s = absurd h
-  first_on (q ∷ questions) others (kind ∷ kinds) more [] old new r h s = absurd h
-  first_on (q ∷ questions) others (stopping ∷ kinds) more (x ∷ xs) old new r h s = s
-  first_on (q ∷ questions) others (ordinary ∷ kinds) more (x ∷ xs) old new r (mid, first, rest) s = first_on questions others kinds more xs mid new r rest s
-  first_on (q ∷ questions) others (no_memory ∷ kinds) more (x ∷ xs) old new r (mid, first, rest) s = first_on questions others kinds more xs mid new r rest s
-
-  -- it is the first where none before it stopped the desk
-  first_behind : (questions others : List Q) (kinds more : List AnswerKind) (xs : List A) (old new : Snapshot) (r : Request) → AreAnswers L old questions kinds xs new → Each IsNoStop kinds
-      → IsStoppedBy L others more r → IsStoppedBy L (questions ++ others) (kinds ++ more) r
-  first_behind [] others [] more [] old new r h none s = s
-  first_behind [] others [] more (x ∷ xs) old new r h none s = absurd h
-  first_behind [] others (kind ∷ kinds) more xs old new r h none s = absurd h
-  first_behind (q ∷ questions) others [] more xs old new r h none s = absurd h
-  first_behind (q ∷ questions) others (kind ∷ kinds) more [] old new r h none s = absurd h
-  first_behind (q ∷ questions) others (stopping ∷ kinds) more (x ∷ xs) old new r h none s = absurd (none.0)
-  first_behind (q ∷ questions) others (ordinary ∷ kinds) more (x ∷ xs) old new r (mid, first, rest) none s = first_behind questions others kinds more xs mid new r rest none.1 s
-  first_behind (q ∷ questions) others (no_memory ∷ kinds) more (x ∷ xs) old new r (mid, first, rest) none s = first_behind questions others kinds more xs mid new r rest none.1 s
-
-  -- whatever is asked behind it
-  first_wider : (questions others : List Q) (kinds : List AnswerKind) (r : Request) → IsStoppedBy L questions kinds r → IsStoppedBy L (questions ++ others) kinds r
-  first_wider [] others kinds r s = absurd s
-  first_wider (q ∷ questions) others [] r s = s
-  first_wider (q ∷ questions) others (stopping ∷ kinds) r s = s
-  first_wider (q ∷ questions) others (ordinary ∷ kinds) r s = first_wider questions others kinds r s
-  first_wider (q ∷ questions) others (no_memory ∷ kinds) r s = first_wider questions others kinds r s
-
-  each_both : (kinds more : List AnswerKind) → Each IsNoStop kinds → Each IsNoStop more → Each IsNoStop (kinds ++ more)
-  each_both [] more h k = k
-  each_both (kind ∷ kinds) more h k = (h.0, each_both kinds more h.1 k)
-
   -- ---- one question
 
   pub answered_none : (desk : DeskState) (W : Option (List ℕ)) → Answered L desk [] desk W W
@@ -202,18 +136,18 @@ module _ {Q A : Type 0} (L : Language Q A) where
         by true then =
             let same = untouched then in
             let s = subst (λ (d : DeskState). StopsDesk L d before done.kinds) (sym same) (done.stops began then (subst (λ (d : DeskState). d.is_honest) same honest)) in
-            record { request = s.request; first = first_on before others done.kinds more done.answers (snapshot old) (snapshot mid) s.request done.are_answers s.first; accepted = s.accepted; either = s.either }
+            record { request = s.request; first = first_on L before others done.kinds more done.answers (snapshot old) (snapshot mid) s.request done.are_answers s.first; accepted = s.accepted; either = s.either }
         by false then =
             let s = stops then halted honest in
-            record { request = s.request; first = first_behind before others done.kinds more done.answers (snapshot old) (snapshot mid) s.request done.are_answers (done.none_stopped then) s.first; accepted = s.accepted; either = s.either }
+            record { request = s.request; first = first_behind L before others done.kinds more done.answers (snapshot old) (snapshot mid) s.request done.are_answers (done.none_stopped then) s.first; accepted = s.accepted; either = s.either }
 
     pub answered_on : (others : List Q) (w : Option (List ℕ)) → Answered L mid others new v w → Answered L old (before ++ others) new W w
     answered_on others w more = record {
       kinds = done.kinds ++ more.kinds;
       answers = done.answers ++ more.answers;
-      are_answers = answers_on before others done.kinds more.kinds done.answers more.answers (snapshot old) (snapshot mid) (snapshot new) done.are_answers more.are_answers;
-      writes = subst (λ (t : List ℕ). Appends W w t) (sym (text_on done.answers more.answers)) (Appends-trans _ _ _ _ _ done.writes more.writes);
-      none_stopped = λ going. each_both done.kinds more.kinds (done.none_stopped (went going)) (more.none_stopped going);
+      are_answers = answers_on L before others done.kinds more.kinds done.answers more.answers (snapshot old) (snapshot mid) (snapshot new) done.are_answers more.are_answers;
+      writes = subst (λ (t : List ℕ). Appends W w t) (sym (text_on L done.answers more.answers)) (Appends-trans _ _ _ _ _ done.writes more.writes);
+      none_stopped = λ going. each_both L done.kinds more.kinds (done.none_stopped (went going)) (more.none_stopped going);
       stops = stopped_by others more.kinds more.stops;
     }
 
@@ -225,9 +159,9 @@ module _ {Q A : Type 0} (L : Language Q A) where
       answers = done.answers ++ cut.answers;
       behind = cut.behind;
       split = ap (λ (xs : List Q). before ++ xs) cut.split ∙ sym (append_assoc before cut.answered cut.left);
-      are_answers = answers_on before cut.answered done.kinds cut.kinds done.answers cut.answers (snapshot old) (snapshot mid) cut.behind done.are_answers cut.are_answers;
+      are_answers = answers_on L before cut.answered done.kinds cut.kinds done.answers cut.answers (snapshot old) (snapshot mid) cut.behind done.are_answers cut.are_answers;
       almost = almost cut.almost;
-      told = λ other. ap (λ (t : List ℕ). text_of L done.answers ++ t) (cut.told other) ∙ sym (text_on done.answers cut.answers);
+      told = λ other. ap (λ (t : List ℕ). text_of L done.answers ++ t) (cut.told other) ∙ sym (text_on L done.answers cut.answers);
       same = cut.same;
       going = cut.going;
       stopped = cut.stopped;
@@ -235,7 +169,7 @@ module _ {Q A : Type 0} (L : Language Q A) where
     }
       where
         almost : AlmostWritten L cut.answers written → AlmostWritten L (done.answers ++ cut.answers) (text_of L done.answers ++ written)
-        almost (inl all) = inl (ap (λ (t : List ℕ). text_of L done.answers ++ t) all ∙ sym (text_on done.answers cut.answers))
+        almost (inl all) = inl (ap (λ (t : List ℕ). text_of L done.answers ++ t) all ∙ sym (text_on L done.answers cut.answers))
         almost (inr l) = inr (record {
           before = done.answers ++ l.before;
           last = l.last;
@@ -244,7 +178,7 @@ module _ {Q A : Type 0} (L : Language Q A) where
           split = ap (λ (xs : List A). done.answers ++ xs) l.split ∙ sym (append_assoc done.answers l.before (l.last ∷ []));
           cut = l.cut;
           written_are = ap (λ (t : List ℕ). text_of L done.answers ++ t) l.written_are ∙ sym (append_assoc (text_of L done.answers) (text_of L l.before) l.begun)
-              ∙ ap (λ (t : List ℕ). t ++ l.begun) (sym (text_on done.answers l.before));
+              ∙ ap (λ (t : List ℕ). t ++ l.begun) (sym (text_on L done.answers l.before));
         })
 
   length_one : (question : Q) (kinds : List AnswerKind) (xs : List A) (old new : Snapshot) → AreAnswers L old (question ∷ []) kinds xs new → length xs ≡ 1
@@ -295,7 +229,7 @@ module _ {Q A : Type 0} (L : Language Q A) where
         (halted, (question, more ++ others, request, ap (λ (xs : List Q). xs ++ others) next, calls));
     stops = λ began halted honest.
         let s = cut.stops began halted honest in
-        record { request = s.request; first = first_wider questions others cut.kinds s.request s.first; accepted = s.accepted; either = s.either };
+        record { request = s.request; first = first_wider L questions others cut.kinds s.request s.first; accepted = s.accepted; either = s.either };
   }
 
   -- ---- the whole dialogue
@@ -347,7 +281,7 @@ module _ {Q A : Type 0} (L : Language Q A) where
             stopped = λ e. absurd (other e);
             stops = λ began halted honest.
                 let s = at.done.stops began halted honest in
-                record { request = s.request; first = first_wider at.questions others at.done.kinds s.request s.first; accepted = s.accepted; either = s.either };
+                record { request = s.request; first = first_wider L at.questions others at.done.kinds s.request s.first; accepted = s.accepted; either = s.either };
           };
           settled = λ behind ended. subst (λ (input : List ℕ). Begins L input at.questions) (sym (append_assoc at.read piece behind)) (at.settled (piece ++ behind));
           come = come;

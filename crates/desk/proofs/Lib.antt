@@ -1,6 +1,7 @@
 pub mod NextRows
 pub mod GoesOn
 pub mod Faults
+pub mod Answering
 pub mod Conversing
 pub mod LineAnswers
 pub mod RunsOn

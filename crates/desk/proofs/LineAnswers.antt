@@ -8,7 +8,7 @@ use Rattle.std.specs.Prelude.{Err, IfErr, Ok, OnOk, Result}
 use Rattle.desk.specs.Desk.{DeskState, Snapshot, TellsStop, snapshot}
 use Rattle.desk.specs.Streams.{Streams}
 use Rattle.desk.specs.declared.fault.ScriptFault.{ScriptFault}
-use Rattle.desk.proofs.Conversing.{last_answer, text_on}
+use Rattle.desk.proofs.Answering.{last_answer, text_on}
 use Rattle.desk.proofs.Faults.{error_or}
 use Rattle.words.proofs.OneFeed.{feeds_one}
 use Rattle.words.proofs.TwoPieces.{feeds_joined}

@@ -5,18 +5,37 @@ use Rattle.std.proofs.Props.{props}
 use Rattle.std.proofs.lemmas.List.Elements.{All-append}
 use Rattle.book.specs.Good.{Good}
 use Rattle.book.specs.Ledger.{Ledger}
-use Rattle.book.specs.Rows.{Content, DeskCells, IsRowsOf}
+use Rattle.book.specs.Rows.{Content, DeskCells, FieldCells, FirmCells, IsRowsOf, KeptCells, LineCells, MoveCells, OrderCells}
 use Rattle.book.specs.Changes.{put_content}
-use Rattle.book.specs.Tables.{rows_among}
+use Rattle.book.specs.Tables.{rows_among, with_change}
 use Rattle.book.specs.declared.rows.Change.{Change}
+use Rattle.book.specs.declared.rows.Change.TheVariants as change
 use Rattle.book.proofs.Puts.{put_in_turn}
 use Rattle.keep.specs.Content.{IsAmong, IsTheRow}
 use Rattle.keep.specs.declared.keep.Keep.{Ghosts}
-use Rattle.desk.specs.Deferred.{PutsOff, PutsOffOneOf}
+use Rattle.std.specs.List.{AllZip}
+use Rattle.desk.specs.Deferred.{IsSameRow, PutsOff, PutsOffOneOf}
 use Rattle.desk.specs.Desk.{IsStored, LeavesEither}
 use Rattle.std.specs.Prelude.{OnErr, OnOk}
 use Rattle.keep.specs.Transactions.{with_changes}
 use Rattle.desk.proofs.Batches.{desk_joined}
+
+-- a row of the same cells goes in alike
+same_put : (c d : Change) (x : Content) → IsSameRow c d → with_change d x ≡ with_change c x
+same_put (change.Desk row) d x (copy, is, cells) = ap (λ (c : Change). with_change c x) is ∙ ap (λ (r : DeskCells). record x { desk = r ∷ x.desk }) cells
+same_put (change.Field row) d x (copy, is, cells) = ap (λ (c : Change). with_change c x) is ∙ ap (λ (r : FieldCells). record x { fields = r ∷ x.fields }) cells
+same_put (change.Move row) d x (copy, is, cells) = ap (λ (c : Change). with_change c x) is ∙ ap (λ (r : MoveCells). record x { moves = r ∷ x.moves }) cells
+same_put (change.Order row) d x (copy, is, cells) = ap (λ (c : Change). with_change c x) is ∙ ap (λ (r : OrderCells). record x { orders = r ∷ x.orders }) cells
+same_put (change.Line row) d x (copy, is, cells) = ap (λ (c : Change). with_change c x) is ∙ ap (λ (r : LineCells). record x { lines = r ∷ x.lines }) cells
+same_put (change.Kept row) d x (copy, is, cells) = ap (λ (c : Change). with_change c x) is ∙ ap (λ (r : KeptCells). record x { kept = r ∷ x.kept }) cells
+same_put (change.Firm row) d x (copy, is, cells) = ap (λ (c : Change). with_change c x) is ∙ ap (λ (r : FirmCells). record x { firms = r ∷ x.firms }) cells
+
+-- copies have the same rows
+pub copies_same : (cs ds : List Change) → AllZip IsSameRow cs ds → rows_among ds ≡ rows_among cs
+copies_same [] [] h = refl
+copies_same [] (d ∷ ds) h = absurd h
+copies_same (c ∷ cs) [] h = absurd h
+copies_same (c ∷ cs) (d ∷ ds) h = same_put c d (rows_among ds) h.0 ∙ ap (with_change c) (copies_same cs ds h.1)
 
 -- the rows of `desk` among copies, behind others
 pub rows_joined : (xs ys zs all : List Change) → all ≡ xs ++ zs → rows_among zs ≡ rows_among ys → All IsTheRow (rows_among xs).desk

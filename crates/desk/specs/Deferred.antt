@@ -1,7 +1,19 @@
 -- A keeper that puts commits off: what it would hold once all of that is kept.
-use Rattle.std.specs.Prelude.{◌≡◌, Bool, List, [], ◌∷◌}
+use Rattle.std.specs.Prelude.{◌≡◌, ◌+◌, ◌≤◌, Bool, List, [], ◌∷◌, Vec, length}
+use Rattle.std.specs.Global.{Global}
+use Rattle.std.specs.List.{AllZip}
+use Rattle.std.specs.Vec.{vec_capacity, vec_len}
 use Rattle.book.specs.Rows.{Content}
+use Rattle.book.specs.Tables.{desk_cells, field_cells, firm_cells, kept_cells, line_cells, move_cells, order_cells}
 use Rattle.book.specs.declared.rows.Change.{Change}
+use Rattle.book.specs.declared.rows.Change.TheVariants as change
+use Rattle.book.specs.declared.rows.DeskRow.{DeskRow}
+use Rattle.book.specs.declared.rows.FieldRow.{FieldRow}
+use Rattle.book.specs.declared.rows.FirmRow.{FirmRow}
+use Rattle.book.specs.declared.rows.KeptRow.{KeptRow}
+use Rattle.book.specs.declared.rows.LineRow.{LineRow}
+use Rattle.book.specs.declared.rows.MoveRow.{MoveRow}
+use Rattle.book.specs.declared.rows.OrderRow.{OrderRow}
 use Rattle.keep.specs.Content.{IsAmong}
 use Rattle.keep.specs.Transactions.{with_changes}
 use Rattle.keep.specs.declared.keep.Keep.{Ghosts}
@@ -33,3 +45,20 @@ HasTablesOff g keep changes x = (base : Content) × g.has_tables keep base × (x
 -- a desk over such a keeper, as who asks it sees it
 abbrev pub snapshot_off : {K : Type 0} → DeskView (DeferredView K) → Snapshot
 snapshot_off desk = record { ledger = desk.ledger; is_stopped = desk.keep.stopped }
+
+-- ---- copies that are made before (private)
+
+-- the other is a row of the same table, with the same cells
+abbrev pub IsSameRow : Change → Change → Type 0
+IsSameRow (change.Desk row) other = (copy : DeskRow) × (other ≡ change.Desk copy) × (desk_cells copy ≡ desk_cells row)
+IsSameRow (change.Field row) other = (copy : FieldRow) × (other ≡ change.Field copy) × (field_cells copy ≡ field_cells row)
+IsSameRow (change.Move row) other = (copy : MoveRow) × (other ≡ change.Move copy) × (move_cells copy ≡ move_cells row)
+IsSameRow (change.Order row) other = (copy : OrderRow) × (other ≡ change.Order copy) × (order_cells copy ≡ order_cells row)
+IsSameRow (change.Line row) other = (copy : LineRow) × (other ≡ change.Line copy) × (line_cells copy ≡ line_cells row)
+IsSameRow (change.Kept row) other = (copy : KeptRow) × (other ≡ change.Kept copy) × (kept_cells copy ≡ kept_cells row)
+IsSameRow (change.Firm row) other = (copy : FirmRow) × (other ≡ change.Firm copy) × (firm_cells copy ≡ firm_cells row)
+
+-- copies of the changes are made, and there is room for them behind those that are put off
+pub record IsReady (kept : Vec Change Global) (made changes : List Change) : Type 0 where
+  pub copies : AllZip IsSameRow changes made
+  pub room : vec_len kept + length changes ≤ vec_capacity kept

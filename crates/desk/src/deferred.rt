@@ -1,10 +1,11 @@
 //! A keeper that puts commits off, so that many of them are one transaction.
 
-use crate::copies::put_off;
+use crate::copies::{make_ready, put_off};
 use book::{Change, Tables};
 use keep::{Keep, KeepFault};
-use std::alloc::Global;
+use std::alloc::{AllocError, Global};
 use std::marker::Model;
+use std::mem;
 
 /// Takes what is committed up, and puts all of it into the keeper behind it when it is settled.
 #[derive(Drop)]
@@ -13,6 +14,8 @@ pub struct Deferred<K: Keep> {
     alloc: Global,
     /// The rows that are put off.
     changes: Vec<Change>,
+    /// Copies of rows that are to be committed next, for which there is room among those.
+    made: Vec<Change>,
     stopped: bool,
 }
 
@@ -31,7 +34,7 @@ impl<K: Keep> Model for Deferred<K> {
 }
 
 impl<K: Keep> Deferred<K> {
-    ghost use Rattle.std.specs.Prelude.{◌≡◌, ◌≢◌, ◌∷◌, [], false, length, IsTrue, OnErr, OnOk};
+    ghost use Rattle.std.specs.Prelude.{◌≡◌, ◌≢◌, ◌↔◌, ◌∷◌, [], false, length, IsTrue, OnErr, OnOk};
     ghost use Rattle.book.specs.Rows.{Content};
     ghost use Rattle.desk.specs.Deferred.{PutsOff};
     ghost use Rattle.keep.specs.Transactions.{with_changes};
@@ -47,13 +50,14 @@ impl<K: Keep> Deferred<K> {
             keep,
             alloc,
             changes: Vec::new(alloc),
+            made: Vec::new(alloc),
             stopped,
         }
     }
 
     /// Whether nothing is put off.
     pub fn is_settled(&self) -> bool
-        ensures { IsTrue result → self.now.changes ≡ [] }
+        ensures { IsTrue result ↔ self.now.changes ≡ [] }
     {
         self.changes.is_empty()
     }
@@ -65,12 +69,21 @@ impl<K: Keep> Deferred<K> {
         self.changes.len()
     }
 
+    /// While it is not stopped, the keeper behind it is not.
+    pub(crate) fn expect_going(&self)
+        ensures { self.now.stopped ≡ false → K.stopped self.now.keep ≡ false }
+    {
+        // what is always so of it is known where it is read
+        let _stopped = self.stopped;
+    }
+
     /// Puts all that was put off into the keeper, in one transaction. Nothing is put off then, whatever is answered: an
     /// error stops it.
     pub fn settle(&mut self) -> Result<(), KeepFault>
         ensures none { self.new.changes ≡ [] }
         ensures ok { OnOk result (self.new.stopped ≡ self.old.stopped) }
         ensures err { OnErr result (IsTrue self.new.stopped × (self.old.changes ≢ [])) }
+        ensures behind { OnErr result (self.old.stopped ≡ false → IsTrue (K.stopped self.new.keep)) }
         ensures honest { K.is_honest self.new.keep → K.is_honest self.old.keep }
         ensures untouched { IsTrue self.old.stopped → self.new.keep ≡ self.old.keep }
         // what was put off is held then, and a stop leaves that alone
@@ -93,6 +106,7 @@ impl<K: Keep> Deferred<K> {
         ensures changes { self.new.changes ≡ self.old.changes }
         ensures ok { OnOk result (self.new.stopped ≡ self.old.stopped) }
         ensures err { OnErr result (IsTrue self.new.stopped) }
+        ensures behind { OnErr result (self.old.stopped ≡ false → IsTrue (K.stopped self.new.keep)) }
         ensures honest { K.is_honest self.new.keep → K.is_honest self.old.keep }
         ensures untouched { IsTrue self.old.stopped → self.new.keep ≡ self.old.keep }
         ensures put { K.is_honest self.new.keep → OnOk result ((x : Content) → K.holds self.old.keep x
@@ -123,6 +137,7 @@ impl<K: Keep> Deferred<K> {
             keep,
             alloc: _,
             changes: _,
+            made: _,
             stopped: _,
         } = self;
         keep
@@ -178,11 +193,17 @@ impl<K: Keep> Keep for Deferred<K> {
         Err(KeepFault::Store)
     }
 
+    fn make_room(&mut self, alloc: Global, changes: &[Change]) -> Result<(), AllocError> {
+        make_ready(alloc, &mut self.changes, &mut self.made, changes)
+    }
+
+    /// Wants no memory where there is room for these rows.
     fn commit(&mut self, changes: &[Change]) -> Result<(), KeepFault> {
         if self.stopped {
             return Err(KeepFault::Stopped);
         }
-        match put_off(self.alloc, &mut self.changes, changes) {
+        let made = mem::replace(&mut self.made, Vec::new(self.alloc));
+        match put_off(self.alloc, &mut self.changes, made, changes) {
             Ok(()) => Ok(()),
             Err(_) => {
                 self.stopped = true;

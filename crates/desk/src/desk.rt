@@ -1,6 +1,6 @@
 //! A ledger, and the keeper of its rows.
 
-ghost use Rattle.std.specs.Prelude.{◌≡◌, ◌≢◌, ◌*◌, ◌<◌, ◌≤◌, ◌⊎◌, [], false, length, take, IsTrue, IfOk, IfErr, IsSomeAnd, MatchOption, OnErr, OnOk, Err};
+ghost use Rattle.std.specs.Prelude.{◌≡◌, ◌≢◌, ◌*◌, ◌<◌, ◌≤◌, ◌⊎◌, ◌↔◌, [], false, length, take, IsTrue, IfOk, IfErr, IsSomeAnd, MatchOption, OnErr, OnOk, Err};
 ghost use Rattle.escrow.specs.Codes.{IsKey};
 ghost use Rattle.words.specs.Spelling.{IsInRange};
 ghost use Rattle.book.specs.Answers.{Answers, IsAccepted};
@@ -164,14 +164,14 @@ impl<K: Keep> Desk<K> {
         request.key.as_bytes();
         request.command.words();
         let done = teller.tell(alloc, request.key, &Reply::Done(plan.place()))?;
-        self.carry_out(plan)?;
+        self.carry_out(alloc, plan)?;
         Ok(done)
     }
 
     /// Carries out the plan of an accepted request, after its rows are kept: it is done at the plan's place. The plan
     /// is one that `plan` made at the desk's ledger, and the desk is not stopped. After `Memory` and `Stopped` the
     /// ledger is as it was; after `Stopped` a stop leaves its rows or those after the request.
-    fn carry_out(&mut self, plan: Plan) -> Result<Reply, CallFault>
+    fn carry_out(&mut self, alloc: Global, plan: Plan) -> Result<Reply, CallFault>
         requires going { K.stopped self.old.keep ≡ false }
         requires fits { Fits self.old.ledger plan }
         requires key { IsKey plan.request.key }
@@ -189,6 +189,9 @@ impl<K: Keep> Desk<K> {
     {
         let place = plan.place();
         let Ok(()) = self.book.make_room(&plan) else {
+            return Err(CallFault::Memory);
+        };
+        let Ok(()) = self.keep.make_room(alloc, plan.changes()) else {
             return Err(CallFault::Memory);
         };
         let Ok(()) = self.keep.commit(plan.changes()) else {
@@ -286,6 +289,9 @@ impl<K: Keep> Desk<K> {
     /// The same desk, whose commits are put off until it is settled. Takes no memory.
     pub fn defer(self, alloc: Global) -> Desk<Deferred<K>>
         ensures ledger { result.ledger ≡ self.ledger }
+        ensures keep { result.keep.keep ≡ self.keep }
+        ensures none { result.keep.changes ≡ [] }
+        ensures stopped { result.keep.stopped ≡ K.stopped self.keep }
     {
         let Desk { book, keep } = self;
         Desk {
@@ -298,7 +304,7 @@ impl<K: Keep> Desk<K> {
 impl<K: Keep> Desk<Deferred<K>> {
     /// Whether nothing is put off.
     pub fn is_settled(&self) -> bool
-        ensures { IsTrue result → self.now.keep.changes ≡ [] }
+        ensures { IsTrue result ↔ self.now.keep.changes ≡ [] }
     {
         self.keep.is_settled()
     }
@@ -310,12 +316,15 @@ impl<K: Keep> Desk<Deferred<K>> {
         self.keep.put_off()
     }
 
-    /// Where nothing is put off, the keeper behind it holds the rows of the ledger, and a stop leaves these alone.
+    /// While it is not stopped, the keeper behind it is not. Where nothing is put off, that holds the rows of the ledger,
+    /// and a stop leaves these alone.
     pub fn is_kept(&self)
         ensures good { Good self.now.ledger }
+        ensures going { self.now.keep.stopped ≡ false → K.stopped self.now.keep.keep ≡ false }
         ensures stored { self.now.keep.changes ≡ [] → self.now.keep.stopped ≡ false → K.is_honest self.now.keep.keep
             → IsStored (K.holds self.now.keep.keep) (K.leaves self.now.keep.keep) self.now.ledger }
     {
+        self.keep.expect_going();
         // what is always so of a desk is known where it is read
         let _book = &self.book;
     }
@@ -327,6 +336,7 @@ impl<K: Keep> Desk<Deferred<K>> {
         ensures ledger { self.new.ledger ≡ self.old.ledger }
         ensures ok { OnOk result (self.new.keep.stopped ≡ self.old.keep.stopped) }
         ensures err { OnErr result (IsTrue self.new.keep.stopped × (self.old.keep.changes ≢ [])) }
+        ensures behind { OnErr result (self.old.keep.stopped ≡ false → IsTrue (K.stopped self.new.keep.keep)) }
         ensures none { self.new.keep.changes ≡ [] }
         ensures honest { K.is_honest self.new.keep.keep → K.is_honest self.old.keep.keep }
         ensures untouched { IsTrue self.old.keep.stopped → self.new.keep.keep ≡ self.old.keep.keep }

@@ -13,6 +13,7 @@ mod lines;
 mod lists;
 mod reply;
 mod run;
+mod same;
 mod scripts;
 mod telling;
 mod together;

@@ -4,7 +4,7 @@ ghost use Rattle.std.specs.Prelude.{◌≡◌, ◌≢◌, ◌⊎◌};
 
 use book::{Change, Tables};
 use sqlite::{Error as SqlError, ErrorCode};
-use std::alloc::Global;
+use std::alloc::{AllocError, Global};
 use thiserror::Error;
 
 /// Why a keeper did not do it.
@@ -98,6 +98,13 @@ pub trait Keep {
         ensures left { is_honest self.new → AddsNothing leaves may_leave may_leave_trees self.old self.new }
         ensures other { stopped self.old ≡ false → TellsOther (schema self.old) result
             (self.new ≡ when_stopped self.old) };
+
+    /// Makes room for what a commit of these rows wants of memory beside the store. Changes nothing that is seen.
+    fn make_room(&mut self, _alloc: Global, _changes: &[Change]) -> Result<(), AllocError>
+        ensures { self.new ≡ self.old }
+    {
+        Ok(())
+    }
 
     /// Puts the rows in by their keys, all or none. Each row of `desk` among them has one = 1 and the version of the
     /// schema. Whatever is answered, the keeper is set as it was.

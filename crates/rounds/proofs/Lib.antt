@@ -2,8 +2,10 @@ pub mod Lists
 pub mod Orders
 pub mod OneLine
 pub mod Saying
+pub mod Standings
 pub mod OneTurn
 pub mod Telling
 pub mod Reaching
+pub mod Holding
 pub mod Settings
 pub mod Serving

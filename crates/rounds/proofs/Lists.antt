@@ -108,6 +108,14 @@ module _ {V : Type 0} (R : Option V → Option V → Type 0) where
   each_on on (x ∷ xs) (y ∷ ys) [] h k = absurd k
   each_on on (x ∷ xs) (y ∷ ys) (z ∷ zs) (h, hs) (k, ks) = (on x y z h k, each_on on xs ys zs hs ks)
 
+-- what is so of each pair that R holds of, is so at each place
+pub each_so : {V : Type 0} (R T : Option V → Option V → Type 0) → ((v w : Option V) → R v w → T v w) → (old new : List (Option V))
+    → AtEach R old new → AtEach T old new
+each_so R T so [] [] h = tt
+each_so R T so [] (w ∷ new) h = absurd h
+each_so R T so (v ∷ old) [] h = absurd h
+each_so R T so (v ∷ old) (w ∷ new) (here, others) = (so v w here, each_so R T so old new others)
+
 -- R holds at the places before a bound, and the others are as they were
 pub record HasGoneOver {V : Type 0} (R : Option V → Option V → Type 0) (old new : List (Option V)) (bound : ℕ) : Type 0 where
   pub size : length new ≡ length old

@@ -1,5 +1,5 @@
 -- How one connection stands, from step to step.
-use Rattle.std.proofs.Common.{◌≡◌, ◌∙◌, ◌+◌, ◌≤◌, ◌++◌, ◌∷◌, ℕ, zero, suc, Bool, false, List, [], add-one, ap, append-nil, append_assoc, arith, drop, inl, inr, length, refl, subst, sym, take}
+use Rattle.std.proofs.Common.{◌≡◌, ◌∙◌, ◌+◌, ◌≤◌, ◌++◌, ◌∷◌, ℕ, zero, suc, Bool, true, false, List, [], add-one, ap, append-nil, append_assoc, arith, drop, length, refl, subst, sym, take}
 use Rattle.std.specs.Prelude.{slice_index_or}
 use Rattle.std.proofs.lemmas.List.{map-append}
 use Rattle.desk.specs.Desk.{DeskState, Snapshot, snapshot}
@@ -128,10 +128,10 @@ module _ {S P T Q A : Type 0} (g : Speaks S P T Q A) where
       subst (λ (k : Heard Q A). IsHeard g v k []) (sym (ap (with_said h) (nothing_said v h said none is) ∙ with_none h)) (heard_nothing v h said none is)
 
   -- a turn of one that is the same connection
-  pub turn_from : (u v w : LineView S P T) (old new : Snapshot) (h : Heard Q A) (said : List (Said Q A)) → v.connection ≡ u.connection
-      → HasTurn g v w old new h said → HasTurn g u w old new h said
-  turn_from u v w old new h said same (inl still) = inl still
-  turn_from u v w old new h said same (inr (s, is, answers, told, stands)) = inr (s, is ∙ same, answers, told, stands)
+  pub turn_from : (is_answered : Bool) (u v w : LineView S P T) (old new : Snapshot) (h : Heard Q A) (said : List (Said Q A)) → v.connection ≡ u.connection
+      → HasTurn g is_answered v w old new h said → HasTurn g is_answered u w old new h said
+  turn_from false u v w old new h said same still = still
+  turn_from true u v w old new h said same (s, is, answers, told, stands) = (s, is ∙ same, answers, told, stands)
 
   -- it is forgotten
   pub heard_forgotten : (v w : LineView S P T) (h : Heard Q A) (said : List (Said Q A)) → IsHeard g v h said → w.dialogue ≡ v.dialogue → w.asked ≡ []

@@ -1,10 +1,10 @@
 -- A round, turn by turn.
-use Rattle.std.proofs.Common.{◌≡◌, ◌≢◌, ◌⊎◌, ◌∙◌, ◌++◌, ◌∷◌, ℕ, true, false, List, [], Option, None, Some, ap, inl, inr, refl, set, subst, sym}
+use Rattle.std.proofs.Common.{◌≡◌, ◌≢◌, ◌⊎◌, ◌∙◌, ◌++◌, ◌∷◌, ℕ, Bool, true, false, List, [], Option, None, Some, ap, inl, inr, refl, set, subst, sym}
 use Rattle.std.specs.Prelude.{nat_eq, slice_get}
 use Rattle.std.proofs.lemmas.Bool.Decides.{eqb_tells}
 use Rattle.desk.specs.Desk.{Snapshot}
 use Rattle.rounds.specs.Lines.{Heard, IsTold, LineView, Said, Speaks, Stands, with_said}
-use Rattle.rounds.specs.Rounds.{Apart, AreSaid, AtEach, HasTurn, HasTurnAt, InRound, IsAt, IsNowhere, IsSameSeat, SameAt, heard_with, said_on}
+use Rattle.rounds.specs.Rounds.{Apart, AreSaid, AtEach, HasTurnAt, InRound, IsAt, IsForgotten, IsNowhere, IsSameSeat, IsShown, SameAt, heard_with, said_on}
 use Rattle.rounds.proofs.Lists.{all_set, each_at, each_from, each_set, get_other, get_set}
 use Rattle.rounds.proofs.Saying.{on_other, on_same, said_more}
 
@@ -22,6 +22,18 @@ module _ {S P T : Type 0} where
   seat_on (Some u) None w h k = absurd h
   seat_on (Some u) (Some v) None h k = absurd k
   seat_on (Some u) (Some v) (Some w) (c, s) (d, t) = (d ∙ c, t ∙ s)
+
+  pub seat_shown : {Q A : Type 0} (g : Speaks S P T Q A) (v w : Option (LineView S P T)) → IsShown g v w → SameAt v w
+  seat_shown g None None h = tt
+  seat_shown g None (Some w) h = absurd h
+  seat_shown g (Some v) None h = absurd h
+  seat_shown g (Some v) (Some w) h = h.0
+
+  pub seat_forgotten : {Q A : Type 0} (g : Speaks S P T Q A) (v w : Option (LineView S P T)) → IsForgotten g v w → SameAt v w
+  seat_forgotten g None None h = tt
+  seat_forgotten g None (Some w) h = absurd h
+  seat_forgotten g (Some v) None h = absurd h
+  seat_forgotten g (Some v) (Some w) h = h.0
 
   -- who is at a place now was there before, with the same stream
   pub seat_before : (old new : List (Option (LineView S P T))) (p : ℕ) (w : LineView S P T) → AtEach SameAt old new → IsAt new p w
@@ -64,15 +76,23 @@ module _ {S P T : Type 0} where
       let (y, y_at, y_same) = seat_before old new q w seats at_q in
       apart p q x y x_at y_at (sym x_same.0 ∙ same ∙ y_same.0)
 
+  -- those at the places now were there before, under their numbers
+  pub apart_by : (old new : List (Option (LineView S P T)))
+      → ((p : ℕ) (v : LineView S P T) → IsAt new p v → (u : LineView S P T) × IsAt old p u × (u.connection ≡ v.connection)) → Apart old → Apart new
+  apart_by old new before apart p q v w at_p at_q same =
+      let (x, x_at, x_same) = before p v at_p in
+      let (y, y_at, y_same) = before q w at_q in
+      apart p q x y x_at y_at (x_same ∙ same ∙ sym y_same)
+
 -- ---- a turn
 
 module _ {S P T Q A : Type 0} (g : Speaks S P T Q A) where
   -- a turn leaves who is at the place
-  pub turn_seat : (v w : Option (LineView S P T)) (mid now : Snapshot) → HasTurnAt g v w mid now → SameAt v w
-  turn_seat None None mid now h = tt
-  turn_seat None (Some w) mid now h = absurd h
-  turn_seat (Some v) None mid now h = absurd h
-  turn_seat (Some v) (Some w) mid now h = h.0
+  pub turn_seat : (is_answered : Bool) (v w : Option (LineView S P T)) (mid now : Snapshot) → HasTurnAt g is_answered v w mid now → SameAt v w
+  turn_seat is_answered None None mid now h = tt
+  turn_seat is_answered None (Some w) mid now h = absurd h
+  turn_seat is_answered (Some v) None mid now h = absurd h
+  turn_seat is_answered (Some v) (Some w) mid now h = h.0
 
   module _ (start mid now : Snapshot) (lines : List (Option (LineView S P T))) (heard : ℕ → Heard Q A) (p : ℕ)
       (round : InRound g start mid lines heard) where
@@ -130,17 +150,17 @@ module _ {S P T Q A : Type 0} (g : Speaks S P T Q A) where
             (sym (on_other m round.said s (λ here. other (sym here ∙ is)))) (round.told m before)
 
     -- a place has its turn
-    pub turn_more : (v w : Option (LineView S P T)) → slice_get lines p ≡ Some v → HasTurnAt g v w mid now
+    pub turn_more : (is_answered : Bool) (v w : Option (LineView S P T)) → slice_get lines p ≡ Some v → HasTurnAt g is_answered v w mid now
         → InRound g start now (set lines p w) heard
-    turn_more None None at_p still = none_more still None None at_p tt (λ v e. absurd (cc))
-    turn_more None (Some w) at_p h = absurd h
-    turn_more (Some v) None at_p h = absurd h
-    turn_more (Some v) (Some w) at_p (same, turn) =
-        by (turn (heard v.connection) (said_on v.connection round.said) (round.stand p v at_p))
-      where
-        by : HasTurn g v w mid now (heard v.connection) (said_on v.connection round.said) → InRound g start now (set lines p (Some w)) heard
-        by (inl (still, stands)) = none_more still (Some v) (Some w) at_p same
-            (λ x e. let same_x : w ≡ x = cc in
-            subst (λ (x : LineView S P T). Stands g x (heard x.connection) (said_on x.connection round.said)) same_x
-            (subst (λ (m : ℕ). Stands g w (heard m) (said_on m round.said)) (sym same.0) stands))
-        by (inr (s, is, answers, told, stands)) = one_more v w at_p same s is answers told stands
+    turn_more is_answered None None at_p (none, still) = none_more still None None at_p tt (λ v e. absurd (cc))
+    turn_more is_answered None (Some w) at_p h = absurd h
+    turn_more is_answered (Some v) None at_p h = absurd h
+    turn_more false (Some v) (Some w) at_p (same, turn) =
+        let (still, stands) = turn (heard v.connection) (said_on v.connection round.said) (round.stand p v at_p) in
+        none_more still (Some v) (Some w) at_p same
+        (λ x e. let same_x : w ≡ x = cc in
+        subst (λ (x : LineView S P T). Stands g x (heard x.connection) (said_on x.connection round.said)) same_x
+        (subst (λ (m : ℕ). Stands g w (heard m) (said_on m round.said)) (sym same.0) stands))
+    turn_more true (Some v) (Some w) at_p (same, turn) =
+        let (s, is, answers, told, stands) = turn (heard v.connection) (said_on v.connection round.said) (round.stand p v at_p) in
+        one_more v w at_p same s is answers told stands

@@ -1,5 +1,5 @@
 -- The rounds of a history are one order.
-use Rattle.std.proofs.Common.{Option, Some, ◌≡◌, ◌≢◌, ◌⊎◌, ◌∙◌, ◌++◌, ℕ, true, false, List, [], ap, append-nil, append_assoc, inl, inr, map, refl, sym}
+use Rattle.std.proofs.Common.{Option, None, Some, ◌≡◌, ◌≢◌, ◌⊎◌, ◌∙◌, ◌++◌, ℕ, true, false, List, [], ap, append-nil, append_assoc, inl, inr, map, refl, subst, sym}
 use Rattle.std.specs.Prelude.{nat_eq}
 use Rattle.std.proofs.lemmas.Bool.Decides.{eqb_tells}
 use Rattle.std.proofs.lemmas.List.{map-append}
@@ -7,15 +7,16 @@ use Rattle.desk.specs.Desk.{Snapshot}
 use Rattle.desk.specs.Dialogue.{Language}
 use Rattle.rounds.specs.Histories.{AreRounds, History, begun, came, heard_in, kept, lost, order_of, wrote}
 use Rattle.rounds.specs.Lines.{Heard, Said, answers_of, questions_of, unheard, with_piece, with_said, with_written}
-use Rattle.rounds.specs.Rounds.{AreSaid, IsOneOrder, Loss, heard_on, lost_between, said_on, stopped_at}
+use Rattle.rounds.specs.Rounds.{AreSaid, IsCutOnce, IsOneOrder, Loss, heard_on, lost_between, said_on, stopped_at}
 use Rattle.rounds.proofs.Saying.{on_joined, said_joined}
 
-module _ {Q A : Type 0} (L : Language Q A) (loss : Option Loss) (start : Snapshot) where
+module _ {Q A : Type 0} (L : Language Q A) where
   -- a round more is kept
-  kept_more : (before said : List (Said Q A)) (mid now : Snapshot) → IsOneOrder L loss start before mid → AreSaid L mid said now
-      → (mid.is_stopped ≡ true → now ≡ mid) → IsOneOrder L loss start (before ++ said) now
-  kept_more before said mid now (inl are) more still = inl (said_joined L before said start mid now are more)
-  kept_more before said mid now (inr cut) more still = inr (record {
+  kept_more : (loss : Option Loss) (start : Snapshot) (before said : List (Said Q A)) (mid now : Snapshot)
+      → IsOneOrder L loss start before mid → AreSaid L mid said now → (mid.is_stopped ≡ true → now ≡ mid)
+      → IsOneOrder L loss start (before ++ said) now
+  kept_more None start before said mid now are more still = said_joined L before said start mid now are more
+  kept_more (Some loss) start before said mid now cut more still = record {
     before = cut.before;
     untold = cut.untold;
     behind = cut.behind ++ said;
@@ -28,12 +29,13 @@ module _ {Q A : Type 0} (L : Language Q A) (loss : Option Loss) (start : Snapsho
     left = cut.left;
     are_behind = said_joined L cut.behind said (stopped_at cut.last.ledger) mid now cut.are_behind more;
     stays = still (ap (λ (s : Snapshot). s.is_stopped) cut.stays) ∙ cut.stays;
-  })
+  }
 
   -- a round is lost
-  lost_more : (said untold : List (Said Q A)) (mid last now : Snapshot) → IsOneOrder L loss start said mid → mid.is_stopped ≡ false
-      → AreSaid L mid untold last → loss ≡ Some (lost_between mid last) → now ≡ stopped_at last.ledger → IsOneOrder L loss start said now
-  lost_more said untold mid last now (inl are) going more left is = inr (record {
+  lost_more : (start : Snapshot) (said untold : List (Said Q A)) (mid last now : Snapshot) → AreSaid L start said mid
+      → mid.is_stopped ≡ false → AreSaid L mid untold last → now ≡ stopped_at last.ledger
+      → IsCutOnce L (lost_between mid last) start said now
+  lost_more start said untold mid last now are going more is = record {
     before = said;
     untold = untold;
     behind = [];
@@ -43,20 +45,21 @@ module _ {Q A : Type 0} (L : Language Q A) (loss : Option Loss) (start : Snapsho
     are_before = are;
     going = going;
     are_untold = more;
-    left = left;
+    left = refl;
     are_behind = is;
     stays = is;
-  })
-  lost_more said untold mid last now (inr cut) going more left is =
-      let halted : mid.is_stopped ≡ true = ap (λ (s : Snapshot). s.is_stopped) cut.stays in absurd (cc)
+  }
 
-  pub one_order : (history : History Q A) (now : Snapshot) → AreRounds L loss start history now → IsOneOrder L loss start (order_of history) now
-  one_order begun now is = inl is
-  one_order (came history connection piece) now are = one_order history now are
-  one_order (wrote history connection bytes) now are = one_order history now are
-  one_order (kept history said) now (mid, are, more, still) = kept_more (order_of history) said mid now (one_order history mid are) more still
-  one_order (lost history untold) now (mid, last, are, going, more, left, is) =
-      lost_more (order_of history) untold mid last now (one_order history mid are) going more left is
+  pub one_order : (loss : Option Loss) (start : Snapshot) (history : History Q A) (now : Snapshot)
+      → AreRounds L loss start history now → IsOneOrder L loss start (order_of history) now
+  one_order loss start begun now (is, none) = subst (λ (l : Option Loss). IsOneOrder L l start [] now) (sym none) is
+  one_order loss start (came history connection piece) now are = one_order loss start history now are
+  one_order loss start (wrote history connection bytes) now are = one_order loss start history now are
+  one_order loss start (kept history said) now (mid, are, more, still) =
+      kept_more loss start (order_of history) said mid now (one_order loss start history mid are) more still
+  one_order loss start (lost history untold) now (mid, last, are, going, more, left, is) =
+      subst (λ (l : Option Loss). IsOneOrder L l start (order_of history) now) (sym left)
+      (lost_more start (order_of history) untold mid last now (one_order None start history mid are) going more is)
 
 module _ {Q A T : Type 0} (part : Heard Q A → List T) (of : Said Q A → T)
     (on : (h : Heard Q A) (said : List (Said Q A)) → part (with_said h said) ≡ part h ++ map of said)

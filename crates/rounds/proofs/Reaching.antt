@@ -1,18 +1,17 @@
 -- How a history grows, and what is known behind it.
-use Rattle.std.proofs.Common.{◌≡◌, ◌≢◌, ◌⊎◌, ◌∙◌, ◌+◌, ◌<◌, ◌≤◌, ◌++◌, ◌∷◌, ℕ, Bool, true, false, List, [], Option, None, Some, ap, append-nil, append_assoc, arith, inl, inr, length, length-append, length-set, refl, set, subst, sym}
-use Rattle.std.specs.Prelude.{IfSome, nat_eq, option_map, slice_get}
-use Rattle.std.specs.Io.KnownBytes.{Appends, Consumes, Keeps}
-use Rattle.std.proofs.lemmas.Bool.{eq-eqb, ne_eqb}
+use Rattle.std.proofs.Common.{◌≡◌, ◌≢◌, ◌⊎◌, ◌∙◌, ◌+◌, ◌<◌, ◌≤◌, ◌++◌, ◌∷◌, ℕ, true, false, List, [], Option, None, Some, ap, arith, inl, inr, length, length-append, length-set, refl, set, subst, sym, take}
+use Rattle.std.specs.Prelude.{IfSome, Result, Err, Ok, nat_eq, option_map, slice_get}
 use Rattle.std.proofs.lemmas.Bool.Decides.{eqb_tells}
 use Rattle.std.proofs.lemmas.Option.{slice_get_within}
 use Rattle.desk.specs.Desk.{Snapshot}
-use Rattle.desk.specs.Dialogue.{Begins, Language, text_of}
-use Rattle.rounds.specs.Lines.{Heard, IsHeard, IsTold, LineView, Said, Speaks, Stands, answers_of, questions_of, unheard, with_piece, with_said, with_written}
-use Rattle.rounds.specs.Rounds.{Apart, AtEach, InRound, IsAt, IsForgotten, IsLooked, IsNowhere, IsRead, IsSameSeat, IsShown, IsWritten, Loss, SameAt, heard_on, heard_with, lost_between, said_on, stopped_at}
-use Rattle.rounds.specs.Histories.{AreRounds, History, IsHeardOn, IsReached, IsSeated, PlacesView, Visit, begun, came, heard_in, kept, lost, visit_of, wrote}
-use Rattle.rounds.proofs.Lists.{all_set, each_at, each_from, get_end, get_front, get_joined, get_other, get_set, not_true, set_still}
+use Rattle.rounds.specs.Lines.{Heard, IsHeard, IsTold, LineView, Speaks, Stands, unheard, with_piece, with_written}
+use Rattle.rounds.specs.Rounds.{HasFailed, IsAt, IsLooked, IsRead, IsWritten, Loss, heard_on}
+use Rattle.rounds.specs.declared.phase.Phase.TheVariants.{Gone}
+use Rattle.rounds.specs.Histories.{AreRounds, History, IsHeardOn, IsReached, IsSeated, PlacesView, Visit, begun, came, heard_in, visit_of, wrote}
+use Rattle.rounds.proofs.Lists.{all_set, get_end, get_front, get_joined, get_other, get_set, set_still}
 use Rattle.rounds.proofs.Saying.{with_none}
-use Rattle.rounds.proofs.OneTurn.{seat_after, seat_before}
+use Rattle.rounds.proofs.OneTurn.{apart_by}
+use Rattle.rounds.proofs.Standings.{reads_wants, writes_there}
 use Rattle.rounds.proofs.Telling.{AreSettled, appends_kept, appends_none, appends_on, at_it, at_other, consumes_kept, consumes_none, consumes_on, told_of, told_piece}
 
 -- ---- what is reached
@@ -21,30 +20,22 @@ abbrev left_at : {T : Type 0} → Option (Visit T) → Option T
 left_at None = None
 left_at (Some v) = v.left
 
+-- nobody is anywhere
+pub reach_none : {S P T Q A : Type 0} (g : Speaks S P T Q A) (start : Snapshot) (places : PlacesView (LineView S P T)) → places.connections ≡ 0
+    → ((place : ℕ) (v : LineView S P T) → IsAt places.lines place v → ⊥) → IsReached g None start start [] places
+reach_none g start places none free = record {
+  history = begun;
+  are_rounds = (refl, refl);
+  count = none;
+  told = λ n lt. absurd (omega arith);
+  new = λ n le. refl;
+  seated = λ p v e. absurd (free p v e);
+  apart = λ p q v w e f same. absurd (free p v e);
+  there = λ n first e. absurd (cc);
+  gone = λ n first last e. absurd (cc);
+}
+
 module _ {S P T Q A : Type 0} (g : Speaks S P T Q A) (loss : Option Loss) (start : Snapshot) where
-  -- nobody is anywhere
-  pub reach_none : (places : PlacesView (LineView S P T)) → places.connections ≡ 0
-      → ((place : ℕ) (v : LineView S P T) → IsAt places.lines place v → ⊥) → IsReached g loss start start [] places
-  reach_none places none free = record {
-    history = begun;
-    are_rounds = refl;
-    count = none;
-    told = λ n lt. absurd (omega arith);
-    new = λ n le. refl;
-    seated = λ p v e. absurd (free p v e);
-    apart = λ p q v w e f same. absurd (free p v e);
-    there = λ n first e. absurd (cc);
-    gone = λ n first last e. absurd (cc);
-  }
-
-  -- those at the places now were there before, under their numbers
-  apart_by : (old new : List (Option (LineView S P T)))
-      → ((p : ℕ) (v : LineView S P T) → IsAt new p v → (u : LineView S P T) × IsAt old p u × (u.connection ≡ v.connection)) → Apart old → Apart new
-  apart_by old new before apart p q v w at_p at_q same =
-      let (x, x_at, x_same) = before p v at_p in
-      let (y, y_at, y_same) = before q w at_q in
-      apart p q x y x_at y_at (x_same ∙ same ∙ sym y_same)
-
   module _ (now : Snapshot) (visits : List (Visit T)) (old : PlacesView (LineView S P T)) (r : IsReached g loss start now visits old) where
     number_of : (p : ℕ) (v : LineView S P T) → IsAt old.lines p v → v.connection < length visits
     number_of p v e = slice_get_within visits v.connection _ (r.seated p v e).visit
@@ -130,11 +121,16 @@ module _ {S P T Q A : Type 0} (g : Speaks S P T Q A) (loss : Option Loss) (start
             (λ x is. (v, e, sym same ∙ ap (λ (y : LineView S P T). y.connection) (let same_x : w ≡ x = cc in same_x)))
             (λ k o other at_k x is. (x, at_k ∙ ap Some is, refl)) q (Some x) at_q x refl
 
-    -- nobody is at a place still
-    reach_nobody : (p : ℕ) → slice_get old.lines p ≡ Some None
-        → IsReached g loss start now visits (record { lines = set old.lines p None; connections = old.connections })
-    reach_nobody p e = subst (λ (lines : List (Option (LineView S P T))). IsReached g loss start now visits (record { lines = lines; connections = old.connections }))
-        (sym (set_still old.lines p None e)) r
+    -- a place stays as it was
+    reach_same : (p : ℕ) (v : Option (LineView S P T)) → slice_get old.lines p ≡ Some v
+        → IsReached g loss start now visits (record { lines = set old.lines p v; connections = old.connections })
+    reach_same p v e = subst (λ (lines : List (Option (LineView S P T))). IsReached g loss start now visits (record { lines = lines; connections = old.connections }))
+        (sym (set_still old.lines p v e)) r
+
+    reach_stayed : (p : ℕ) (v w : Option (LineView S P T)) → slice_get old.lines p ≡ Some v → w ≡ v
+        → IsReached g loss start now visits (record { lines = set old.lines p w; connections = old.connections })
+    reach_stayed p v w e same = subst (λ (w : Option (LineView S P T)). IsReached g loss start now visits (record { lines = set old.lines p w; connections = old.connections }))
+        (sym same) (reach_same p v e)
 
     -- what stands at a place stands so otherwise, and nothing becomes known
     pub reach_still : (p : ℕ) (v w : LineView S P T) → IsAt old.lines p v → w.connection ≡ v.connection
@@ -153,44 +149,58 @@ module _ {S P T Q A : Type 0} (g : Speaks S P T Q A) (loss : Option Loss) (start
     -- it is looked for a question there
     pub reach_looked : (p : ℕ) (v w : Option (LineView S P T)) → slice_get old.lines p ≡ Some v → IsLooked g v w
         → IsReached g loss start now visits (record { lines = set old.lines p w; connections = old.connections })
-    reach_looked p None None e h = reach_nobody p e
+    reach_looked p None None e h = reach_same p None e
     reach_looked p None (Some w) e h = absurd h
     reach_looked p (Some v) None e h = absurd h
     reach_looked p (Some v) (Some w) e (same, stands) =
         reach_still p v w e same.0 (λ first h on. subst (λ (t : T). IsHeardOn g first t h) (sym same.1) on) (stands (heard_in r.history v.connection))
 
+    -- its stream has failed
+    reach_failed : (p : ℕ) (v w : LineView S P T) → IsAt old.lines p v → v.phase ≢ Gone → HasFailed g v w
+        → IsReached g loss start now visits (record { lines = set old.lines p (Some w); connections = old.connections })
+    reach_failed p v w e there failed =
+        reach_still p v w e failed.connection
+        (λ first h on. record { reads = consumes_kept _ _ _ _ on.reads failed.reads; writes = appends_kept _ _ _ _ on.writes failed.writes })
+        (λ stands present. failed.stands (heard_in r.history v.connection) (stands there))
+
     -- it is read there
-    pub reach_read : (p : ℕ) (v w : Option (LineView S P T)) → slice_get old.lines p ≡ Some v → IsRead g v w
+    pub reach_read : {E : Type 0} (result : Result (Option ℕ) E) (piece : List ℕ) (p : ℕ) (v w : Option (LineView S P T))
+        → slice_get old.lines p ≡ Some v → IsRead g result piece v w
         → IsReached g loss start now visits (record { lines = set old.lines p w; connections = old.connections })
-    reach_read p None None e h = reach_nobody p e
-    reach_read p None (Some w) e h = absurd h
-    reach_read p (Some v) None e h = absurd h
-    reach_read p (Some v) (Some w) e (same, others, inl (still, stands)) =
-        reach_still p v w e same (λ first h on. record { reads = consumes_kept _ _ _ _ on.reads still; writes = appends_kept _ _ _ _ on.writes others })
-        (stands (heard_in r.history v.connection))
-    reach_read p (Some v) (Some w) e (same, others, inr (wants, piece, reads, stands)) =
+    reach_read (Ok None) piece p v w e (quiet, same) = reach_stayed p v w e same
+    reach_read (Ok (Some count)) piece p None w e h = absurd h
+    reach_read (Ok (Some count)) piece p (Some v) None e h = absurd h
+    reach_read (Ok (Some count)) piece p (Some v) (Some w) e (reads, within, came_so) =
+        let wants = reads_wants v reads in
         let is = (r.seated p v e).stands (λ gone. absurd (cc (wants, gone))) in
-        reach_at p v w e same (came r.history v.connection piece) (with_piece (heard_in r.history v.connection) piece) (λ n. refl) r.are_rounds
-        (told_piece g.language (heard_in r.history v.connection) piece (is.wants wants).1)
-        (λ first on. record { reads = consumes_on _ _ _ _ _ on.reads reads; writes = appends_kept _ _ _ _ on.writes others })
-        (stands (heard_in r.history v.connection) is)
+        let bytes = take count piece in
+        reach_at p v w e came_so.connection (came r.history v.connection bytes) (with_piece (heard_in r.history v.connection) bytes) (λ n. refl) r.are_rounds
+        (told_piece g.language (heard_in r.history v.connection) bytes (is.wants wants).1)
+        (λ first on. record { reads = consumes_on _ _ _ _ _ on.reads came_so.reads; writes = appends_kept _ _ _ _ on.writes came_so.writes })
+        (came_so.stands (heard_in r.history v.connection) is)
+    reach_read (Err error) piece p None w e h = absurd h
+    reach_read (Err error) piece p (Some v) None e h = absurd h
+    reach_read (Err error) piece p (Some v) (Some w) e (reads, failed) =
+        let wants = reads_wants v reads in reach_failed p v w e (λ gone. absurd (cc (wants, gone))) failed
 
     -- it is written there
-    pub reach_written : AreSettled g → (p : ℕ) (v w : Option (LineView S P T)) → slice_get old.lines p ≡ Some v → IsWritten g v w
+    pub reach_written : {E : Type 0} (result : Result (Option ℕ) E) → AreSettled g → (p : ℕ) (v w : Option (LineView S P T))
+        → slice_get old.lines p ≡ Some v → IsWritten g result v w
         → IsReached g loss start now visits (record { lines = set old.lines p w; connections = old.connections })
-    reach_written settled p None None e h = reach_nobody p e
-    reach_written settled p None (Some w) e h = absurd h
-    reach_written settled p (Some v) None e h = absurd h
-    reach_written settled p (Some v) (Some w) e (same, others, inl (still, stands)) =
-        reach_still p v w e same (λ first h on. record { reads = consumes_kept _ _ _ _ on.reads others; writes = appends_kept _ _ _ _ on.writes still })
-        (stands (heard_in r.history v.connection))
-    reach_written settled p (Some v) (Some w) e (same, others, inr (there, bytes, writes, stands)) =
+    reach_written (Ok None) settled p v w e (quiet, same) = reach_stayed p v w e same
+    reach_written (Ok (Some count)) settled p None w e h = absurd h
+    reach_written (Ok (Some count)) settled p (Some v) None e h = absurd h
+    reach_written (Ok (Some count)) settled p (Some v) (Some w) e (writes, within, written) =
+        let bytes = take count v.output in
         let h = with_written (heard_in r.history v.connection) bytes in
-        let is = stands (heard_in r.history v.connection) ((r.seated p v e).stands there) in
-        reach_at p v w e same (wrote r.history v.connection bytes) h (λ n. refl) r.are_rounds
+        let is = written.stands (heard_in r.history v.connection) ((r.seated p v e).stands (writes_there v writes)) in
+        reach_at p v w e written.connection (wrote r.history v.connection bytes) h (λ n. refl) r.are_rounds
         (λ told. subst (λ (k : Heard Q A). IsTold g.language k) (with_none h) (told_of g settled w h [] is))
-        (λ first on. record { reads = consumes_kept _ _ _ _ on.reads others; writes = appends_on _ _ _ _ _ on.writes writes })
+        (λ first on. record { reads = consumes_kept _ _ _ _ on.reads written.reads; writes = appends_on _ _ _ _ _ on.writes written.writes })
         (λ present. is)
+    reach_written (Err error) settled p None w e h = absurd h
+    reach_written (Err error) settled p (Some v) None e h = absurd h
+    reach_written (Err error) settled p (Some v) (Some w) e (writes, failed) = reach_failed p v w e (writes_there v writes) failed
 
     -- somebody comes to a place
     pub reach_seat : (p : ℕ) (w : LineView S P T) → slice_get old.lines p ≡ Some None → w.connection ≡ old.connections
@@ -333,124 +343,6 @@ module _ {S P T Q A : Type 0} (g : Speaks S P T Q A) (loss : Option Loss) (start
             subst (λ (t : T). IsHeardOn g first t (heard_in r.history v.connection)) two
             (subst (λ (t : T). IsHeardOn g t v.stream (heard_in r.history v.connection)) one was.on)
 
-    -- ---- a round
-
-    pub round_begins : InRound g now now old.lines (heard_in r.history)
-    round_begins = record {
-      said = [];
-      are_said = refl;
-      apart = r.apart;
-      stand = λ p v e. (r.seated p v e).stands;
-      told = λ n told. subst (λ (k : Heard Q A). IsTold g.language k) (sym (with_none (heard_in r.history n))) told;
-      only = λ n none. refl;
-    }
-
-    nobody : (lines : List (Option (LineView S P T))) → AtEach SameAt old.lines lines → (n : ℕ) → length visits ≤ n → IsNowhere lines n
-    nobody lines seats n le p v e here =
-        let (u, u_at, same) = seat_before old.lines lines p v seats e in
-        let lt = number_of p u u_at in absurd (omega (arith, lt, le, here, same.0))
-
-    -- it is kept, and shown
-    pub round_kept : (then : Snapshot) (asked shown : List (Option (LineView S P T))) → (now.is_stopped ≡ true → then ≡ now) → AtEach SameAt old.lines asked → InRound g now then asked (heard_in r.history)
-        → AtEach (IsShown g) asked shown → IsReached g loss start then visits (record { lines = shown; connections = old.connections })
-    round_kept then asked shown still seats round are = record {
-      history = kept r.history round.said;
-      are_rounds = (now, r.are_rounds, round.are_said, still);
-      count = r.count;
-      told = λ n lt. round.told n (r.told n lt);
-      new = λ n le. ap (λ (xs : List (Said Q A)). with_said (heard_in r.history n) xs) (round.only n (nobody asked seats n le)) ∙ with_none (heard_in r.history n) ∙ r.new n le;
-      seated = λ p x e. seated_at p x e;
-      apart = apart_by old.lines shown (λ p x e. let (v, v_at, same, _) = shown_before p x e in let (u, u_at, alike) = seat_before old.lines asked p v seats v_at in (u, u_at, sym alike.0 ∙ sym same.0)) r.apart;
-      there = λ n first e.
-          let (p, u, u_at, number) = r.there n first e in let (v, v_at, alike) = seat_after old.lines asked p u seats u_at in
-          let (x, x_at, same) = shown_after p v v_at in (p, x, x_at, same.0 ∙ alike.0 ∙ number);
-      gone = λ n first last e. let was = r.gone n first last e in record { reads = was.reads; writes = was.writes };
-    }
-      where
-        shown_before : (p : ℕ) (x : LineView S P T) → IsAt shown p x
-            → (v : LineView S P T) × IsAt asked p v × IsSameSeat v x × ((h : Heard Q A) (said : List (Said Q A)) → Stands g v h said → Stands g x (with_said h said) [])
-        shown_before p x e = by (each_at (IsShown g) asked shown p x are e)
-          where
-            by : ((v : Option (LineView S P T)) × (slice_get asked p ≡ Some v) × IsShown g v (Some x))
-                → (v : LineView S P T) × IsAt asked p v × IsSameSeat v x × ((h : Heard Q A) (said : List (Said Q A)) → Stands g v h said → Stands g x (with_said h said) [])
-            by (None, is, h) = absurd h
-            by (Some v, is, h) = (v, is, h.0, h.1)
-
-        shown_after : (p : ℕ) (v : LineView S P T) → IsAt asked p v → (x : LineView S P T) × IsAt shown p x × IsSameSeat v x
-        shown_after p v e = by (each_from (IsShown g) asked shown p v are e)
-          where
-            by : ((x : Option (LineView S P T)) × (slice_get shown p ≡ Some x) × IsShown g (Some v) x) → (x : LineView S P T) × IsAt shown p x × IsSameSeat v x
-            by (None, is, h) = absurd h
-            by (Some x, is, h) = (x, is, h.0)
-
-        seated_at : (p : ℕ) (x : LineView S P T) → IsAt shown p x → IsSeated g visits (heard_with (heard_in r.history) round.said) x
-        seated_at p x e =
-            let (v, v_at, same, stands) = shown_before p x e in
-            let (u, u_at, alike) = seat_before old.lines asked p v seats v_at in
-            let was = r.seated p u u_at in
-            let number : x.connection ≡ u.connection = same.0 ∙ alike.0 in
-            let stream : x.stream ≡ u.stream = same.1 ∙ alike.1 in
-            let on : IsHeardOn g was.came x.stream (heard_in r.history x.connection) =
-            subst (λ (t : T). IsHeardOn g was.came t (heard_in r.history x.connection)) (sym stream)
-            (subst (λ (n : ℕ). IsHeardOn g was.came u.stream (heard_in r.history n)) (sym number) was.on) in
-            record {
-              came = was.came;
-              visit = subst (λ (n : ℕ). slice_get visits n ≡ Some (visit_of was.came)) (sym number) was.visit;
-              on = record { reads = on.reads; writes = on.writes };
-              stands = subst (λ (n : ℕ). Stands g x (heard_with (heard_in r.history) round.said n) []) (sym same.0)
-                  (stands (heard_in r.history v.connection) (said_on v.connection round.said) (round.stand p v v_at));
-            }
-
-    -- it is lost, and forgotten
-    pub round_lost : (then last : Snapshot) (asked left : List (Option (LineView S P T))) → now.is_stopped ≡ false → loss ≡ Some (lost_between now last) → then ≡ stopped_at last.ledger
-        → AtEach SameAt old.lines asked → InRound g now last asked (heard_in r.history)
-        → AtEach (IsForgotten g) asked left → IsReached g loss start then visits (record { lines = left; connections = old.connections })
-    round_lost then last asked left going loses stopped seats round are = record {
-      history = lost r.history round.said;
-      are_rounds = (now, last, r.are_rounds, going, round.are_said, loses, stopped);
-      count = r.count;
-      told = r.told;
-      new = r.new;
-      seated = λ p x e. seated_at p x e;
-      apart = apart_by old.lines left (λ p x e. let (v, v_at, same, _) = left_before p x e in let (u, u_at, alike) = seat_before old.lines asked p v seats v_at in (u, u_at, sym alike.0 ∙ sym same.0)) r.apart;
-      there = λ n first e.
-          let (p, u, u_at, number) = r.there n first e in let (v, v_at, alike) = seat_after old.lines asked p u seats u_at in
-          let (x, x_at, same) = left_after p v v_at in (p, x, x_at, same.0 ∙ alike.0 ∙ number);
-      gone = r.gone;
-    }
-      where
-        left_after : (p : ℕ) (v : LineView S P T) → IsAt asked p v → (x : LineView S P T) × IsAt left p x × IsSameSeat v x
-        left_after p v e = by (each_from (IsForgotten g) asked left p v are e)
-          where
-            by : ((x : Option (LineView S P T)) × (slice_get left p ≡ Some x) × IsForgotten g (Some v) x) → (x : LineView S P T) × IsAt left p x × IsSameSeat v x
-            by (None, is, h) = absurd h
-            by (Some x, is, h) = (x, is, h.0)
-
-        left_before : (p : ℕ) (x : LineView S P T) → IsAt left p x
-            → (v : LineView S P T) × IsAt asked p v × IsSameSeat v x × ((h : Heard Q A) (said : List (Said Q A)) → Stands g v h said → Stands g x h [])
-        left_before p x e = by (each_at (IsForgotten g) asked left p x are e)
-          where
-            by : ((v : Option (LineView S P T)) × (slice_get asked p ≡ Some v) × IsForgotten g v (Some x))
-                → (v : LineView S P T) × IsAt asked p v × IsSameSeat v x × ((h : Heard Q A) (said : List (Said Q A)) → Stands g v h said → Stands g x h [])
-            by (None, is, h) = absurd h
-            by (Some v, is, h) = (v, is, h.0, h.1)
-
-        seated_at : (p : ℕ) (x : LineView S P T) → IsAt left p x → IsSeated g visits (heard_in r.history) x
-        seated_at p x e =
-            let (v, v_at, same, stands) = left_before p x e in
-            let (u, u_at, alike) = seat_before old.lines asked p v seats v_at in
-            let was = r.seated p u u_at in
-            let number : x.connection ≡ u.connection = same.0 ∙ alike.0 in
-            let stream : x.stream ≡ u.stream = same.1 ∙ alike.1 in
-            record {
-              came = was.came;
-              visit = subst (λ (n : ℕ). slice_get visits n ≡ Some (visit_of was.came)) (sym number) was.visit;
-              on = subst (λ (t : T). IsHeardOn g was.came t (heard_in r.history x.connection)) (sym stream)
-                  (subst (λ (n : ℕ). IsHeardOn g was.came u.stream (heard_in r.history n)) (sym number) was.on);
-              stands = subst (λ (n : ℕ). Stands g x (heard_in r.history n) []) (sym same.0)
-                  (stands (heard_in r.history v.connection) (said_on v.connection round.said) (round.stand p v v_at));
-            }
-
 module _ {S P T Q A : Type 0} (g : Speaks S P T Q A) (old : PlacesView (LineView S P T)) (p : ℕ) where
   -- who was at a place has left, if somebody was
   pub has_left : (x : Option (LineView S P T)) (o : Option T) → slice_get old.lines p ≡ Some x → o ≡ option_map (λ l. l.stream) x
@@ -464,28 +356,3 @@ module _ {S P T Q A : Type 0} (g : Speaks S P T Q A) (old : PlacesView (LineView
       → (connection : ℕ) × (first : T) × (slice_get visits connection ≡ Some (visit_of first))
       × IsReached g loss start now (set visits connection (record { came = first; left = Some stream })) (record { lines = set old.lines p None; connections = old.connections }))) (sym is)
       (λ loss start now visits r. let (first, at, reached) = reach_left g loss start now visits old r p v e in (v.connection, first, at, reached))
-
-module _ {Q A : Type 0} (L : Language Q A) (loss other : Option Loss) (start : Snapshot) where
-  -- of a desk that goes on no round was lost
-  none_lost : (history : History Q A) (now : Snapshot) → now.is_stopped ≡ false → AreRounds L loss start history now → AreRounds L other start history now
-  none_lost begun now going are = are
-  none_lost (came history connection piece) now going are = none_lost history now going are
-  none_lost (wrote history connection bytes) now going are = none_lost history now going are
-  none_lost (kept history said) now going (mid, are, more, still) =
-      (mid, none_lost history mid (not_true mid.is_stopped (λ halted. let same = ap (λ (s : Snapshot). s.is_stopped) (still halted) in absurd (cc))) are, more, still)
-  none_lost (lost history untold) now going (mid, last, are, before, more, left, is) =
-      let halted : now.is_stopped ≡ true = ap (λ (s : Snapshot). s.is_stopped) is in absurd (cc)
-
-pub reached_anew : {S P T Q A : Type 0} (g : Speaks S P T Q A) (loss other : Option Loss) (start now : Snapshot) (visits : List (Visit T))
-    (places : PlacesView (LineView S P T)) → now.is_stopped ≡ false → IsReached g loss start now visits places → IsReached g other start now visits places
-reached_anew g loss other start now visits places going r = record {
-  history = r.history;
-  are_rounds = none_lost g.language loss other start r.history now going r.are_rounds;
-  count = r.count;
-  told = r.told;
-  new = r.new;
-  seated = r.seated;
-  apart = r.apart;
-  there = r.there;
-  gone = r.gone;
-}

@@ -1,17 +1,16 @@
 -- How a service goes on.
-use Rattle.std.proofs.Common.{◌≡◌, ◌∷◌, ◌++◌, [], ◌∙◌, ◌<◌, ℕ, None, ap, false, Err, length, List, Ok, Option, Result, Some, refl, subst, sym, true}
+use Rattle.std.proofs.Common.{◌≡◌, ◌∷◌, ◌++◌, [], ◌∙◌, ◌<◌, ◌≤◌, ℕ, None, arith, ap, false, Err, length, List, Ok, Option, Result, Some, refl, subst, sym, true}
 use Rattle.std.specs.Prelude.{OnErr, OnOk, slice_get}
 use Rattle.std.proofs.lemmas.Option.{slice_get_within}
 use Rattle.keep.specs.declared.keep.Keep.{Ghosts}
 use Rattle.desk.specs.Deferred.{DeferredView, snapshot_off}
 use Rattle.desk.specs.Desk.{DeskView, IsStored, Snapshot}
 use Rattle.rounds.specs.Crowds.{HubView, IsServing, Listening, entered, unopened, visits_in, waited}
-use Rattle.rounds.specs.Histories.{IsReached, PlacesView, Visit, visit_of}
+use Rattle.rounds.specs.Histories.{IsHeardBy, IsReached, PlacesView, Visit, begun, heard_in, visit_of}
 use Rattle.rounds.specs.Lines.{LineView, Speaks}
 use Rattle.rounds.specs.Rounds.{IsLeftBy, Loss, lost_between}
 use Rattle.rounds.specs.Services.{HasServed, InService, IsKept}
 use Rattle.rounds.proofs.Lists.{not_false, not_true}
-use Rattle.rounds.proofs.Reaching.{reach_none}
 
 module _ {C S P T Q A : Type 0} (g : Speaks S P T Q A) (c : Listening C T) (first : C) (loss : Option Loss) (start now : Snapshot)
     (crowd : C) (places : PlacesView (LineView S P T)) (serving : IsServing g c first loss start now (record { crowd = crowd; places = places })) where
@@ -90,24 +89,32 @@ module _ {K C S P T Q A : Type 0} (g : Speaks S P T Q A) (c : Listening C T) (k 
   -- all have left, where nobody is at a place
   pub ended : (now : DeskView (DeferredView K)) (hub : HubView C (LineView S P T)) (count : ℕ) → hub.places.connections ≡ count
       → ((place : ℕ) → place < length hub.places.lines → slice_get hub.places.lines place ≡ Some None)
-      → InService g c k first (snapshot_off desk) now hub → HasServed g c k first hub.crowd count desk now
+      → InService g c k first (snapshot_off desk) now hub → HasServed g.language g.remaining g.contents c k first hub.crowd count desk now
   ended now hub count is free was = record {
     loss = was.loss;
     kept = was.kept;
-    doors = was.serving.doors;
-    pass = was.serving.pass;
-    counted = sym was.serving.reached.count ∙ is;
-    left = λ n visit e. by n visit.left visit refl e;
-    places = hub.places;
-    reached = was.serving.reached;
+    met = record {
+      doors = was.serving.doors;
+      pass = was.serving.pass;
+      counted = total;
+      history = was.serving.reached.history;
+      are_rounds = was.serving.reached.are_rounds;
+      told = λ n within. was.serving.reached.told n (subst (λ k. n < k) (sym total) within);
+      nobody = λ n behind. was.serving.reached.new n (subst (λ k. k ≤ n) (sym total) behind);
+      left = λ n visit e. by n visit.left visit refl e;
+    };
   }
     where
+      total : length (visits_in was.serving.doors) ≡ count
+      total = sym was.serving.reached.count ∙ is
+
       nobody : (place : ℕ) (v : LineView S P T) → slice_get hub.places.lines place ≡ Some (Some v) → ⊥
       nobody place v e = let none = free place (slice_get_within hub.places.lines place (Some v) e) in absurd (cc)
 
       by : (n : ℕ) (left : Option T) (visit : Visit T) → visit.left ≡ left → slice_get (visits_in was.serving.doors) n ≡ Some visit
-          → (stream : T) × (visit.left ≡ Some stream)
-      by n (Some stream) visit e at = (stream, e)
+          → (stream : T) × (visit.left ≡ Some stream) × IsHeardBy g.remaining g.contents visit.came stream (heard_in was.serving.reached.history n)
+      by n (Some stream) visit e at =
+          (stream, e, was.serving.reached.gone n visit.came stream (at ∙ ap Some (λ i. record { came = visit.came; left = e i })))
       by n None visit e at =
           let there = was.serving.reached.there n visit.came (at ∙ ap Some (λ i. record { came = visit.came; left = e i })) in
           absurd (nobody there.0 there.1 there.2)
@@ -133,14 +140,18 @@ module _ {K C S P T Q A : Type 0} (g : Speaks S P T Q A) (c : Listening C T) (k 
   }
 
   -- nobody was served
-  pub none_served : (last : C) → last ≡ first → IsKept k None desk → HasServed g c k first last 0 desk desk
+  pub none_served : (last : C) → last ≡ first → IsKept k None desk → HasServed g.language g.remaining g.contents c k first last 0 desk desk
   none_served last same kept = record {
     loss = None;
     kept = kept;
-    doors = unopened;
-    pass = same;
-    counted = refl;
-    left = λ n visit e. absurd (cc);
-    places = record { lines = []; connections = 0 };
-    reached = reach_none g None (snapshot_off desk) (record { lines = []; connections = 0 }) refl (λ p v e. absurd (cc));
+    met = record {
+      doors = unopened;
+      pass = same;
+      counted = refl;
+      history = begun;
+      are_rounds = (refl, refl);
+      told = λ n within. absurd (omega (arith, within));
+      nobody = λ n behind. refl;
+      left = λ n visit e. absurd (cc);
+    };
   }

@@ -4,6 +4,7 @@ use Rattle.desk.specs.Desk.{Snapshot}
 use Rattle.rounds.specs.Histories.{IsReached, PlacesView, Visit, visit_of}
 use Rattle.rounds.specs.Lines.{LineView, Speaks}
 use Rattle.rounds.specs.Rounds.{Loss}
+use Rattle.rounds.specs.declared.crowd.Crowd.{Ghosts as Crowd}
 
 -- What connections come to: one that may come, and one that is closed as it stands, each with the crowd after that; and what
 -- the crowd may be after it was waited for.
@@ -14,6 +15,10 @@ pub record Listening (C T : Type 0) : Type 1 where
 
 abbrev pub listening : {C T : Type 0} → (C → T → C → Type 0) → (C → T → C → Type 0) → (C → C → Type 0) → Listening C T
 listening comes closes waits = record { comes = comes; closes = closes; waits = waits }
+
+-- so connections come to a kind of crowd
+abbrev pub listening_to : {C T : Type 0} → Crowd C T → Listening C T
+listening_to c = record { comes = c.comes; closes = c.closes; waits = c.waits }
 
 -- Who came and left: nobody yet; or behind that one came; or that one of this number, which had come so, was closed as it
 -- stood; or it was waited.

@@ -33,15 +33,15 @@ order_of (wrote history connection bytes) = order_of history
 order_of (kept history said) = order_of history ++ said
 order_of (lost history untold) = order_of history
 
--- Its rounds lead the desk from there to here. A lost one stops it, at the ledger to which what is not told leads; and a
--- stopped desk stays as it is. `loss` tells of the lost one.
+-- Its rounds lead the desk from there to here. At most one of them is lost, of which `loss` tells: it stops the desk, at the
+-- ledger to which what is not told leads; and a stopped desk stays as it is.
 abbrev pub AreRounds : {Q A : Type 0} → Language Q A → Option Loss → Snapshot → History Q A → Snapshot → Type 0
-AreRounds L loss start begun now = now ≡ start
+AreRounds L loss start begun now = (now ≡ start) × (loss ≡ None)
 AreRounds L loss start (came history connection piece) now = AreRounds L loss start history now
 AreRounds L loss start (wrote history connection bytes) now = AreRounds L loss start history now
 AreRounds L loss start (kept history said) now = (mid : Snapshot) × AreRounds L loss start history mid × AreSaid L mid said now
     × (mid.is_stopped ≡ true → now ≡ mid)
-AreRounds L loss start (lost history untold) now = (mid : Snapshot) × (last : Snapshot) × AreRounds L loss start history mid
+AreRounds L loss start (lost history untold) now = (mid : Snapshot) × (last : Snapshot) × AreRounds L None start history mid
     × (mid.is_stopped ≡ false) × AreSaid L mid untold last
     × (loss ≡ Some (lost_between mid last)) × (now ≡ stopped_at last.ledger)
 
@@ -57,9 +57,13 @@ abbrev pub visit_of : {T : Type 0} → T → Visit T
 visit_of stream = record { came = stream; left = None }
 
 -- what is known of a connection was read from its stream, and written to it
-pub record IsHeardOn {S P T Q A : Type 0} (g : Speaks S P T Q A) (first last : T) (h : Heard Q A) : Type 0 where
-  pub reads : Consumes (g.remaining first) (g.remaining last) h.read
-  pub writes : Appends (g.contents first) (g.contents last) h.written
+pub record IsHeardBy {T Q A : Type 0} (remaining contents : T → Option (List ℕ)) (first last : T) (h : Heard Q A)
+    : Type 0 where
+  pub reads : Consumes (remaining first) (remaining last) h.read
+  pub writes : Appends (contents first) (contents last) h.written
+
+abbrev pub IsHeardOn : {S P T Q A : Type 0} → Speaks S P T Q A → (first last : T) → Heard Q A → Type 0
+IsHeardOn g first last h = IsHeardBy g.remaining g.contents first last h
 
 -- who is at a place
 pub record IsSeated {S P T Q A : Type 0} (g : Speaks S P T Q A) (visits : List (Visit T)) (heard : ℕ → Heard Q A)

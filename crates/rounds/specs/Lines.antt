@@ -1,6 +1,8 @@
 -- One connection of many: what has come on it, what was answered to that, and what of the answers is written.
 use Rattle.std.specs.Prelude.{◌≡◌, ◌≢◌, ◌≤◌, Bool, false, true, ℕ, List, [], ◌∷◌, ◌++◌, Option, length, map}
+use Rattle.desk.specs.declared.dialogue.Dialogue.{Ghosts as Dialogue}
 use Rattle.desk.specs.Dialogue.{AnswerKind, Begins, Language, is_end, text_of}
+use Rattle.rounds.specs.declared.stream.Stream.{Ghosts as Stream}
 use Rattle.rounds.specs.declared.phase.Phase.{Phase}
 use Rattle.rounds.specs.declared.phase.Phase.TheVariants.{Gone, Over, Wants}
 
@@ -70,14 +72,14 @@ pub record Speaks (S P T Q A : Type 0) : Type 1 where
   pub remaining : T → Option (List ℕ)
   pub contents : T → Option (List ℕ)
 
-abbrev pub speaks : {S P T Q A : Type 0} → Language Q A → (S → List ℕ → Bool → List Q → Type 0) → (P → Q → Type 0)
-    → (T → Option (List ℕ)) → (T → Option (List ℕ)) → Speaks S P T Q A
-speaks language has_found asks remaining contents = record {
-  language = language;
-  has_found = has_found;
-  asks = asks;
-  remaining = remaining;
-  contents = contents;
+-- so a kind of dialogue speaks over a kind of stream
+abbrev pub speaks : {S P T : Type 0} → (d : Dialogue S P) → Stream T → Speaks S P T d.Asked d.Told
+speaks d s = record {
+  language = d.language;
+  has_found = d.has_found;
+  asks = d.asks;
+  remaining = s.remaining;
+  contents = s.contents;
 }
 
 -- Of a connection, whether it is still there or not: its questions are the first ones of what has come, whatever comes

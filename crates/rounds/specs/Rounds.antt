@@ -1,12 +1,13 @@
 -- Rounds: one order of the questions of all connections.
-use Rattle.std.specs.Prelude.{◌≡◌, ◌≢◌, ◌⊎◌, false, true, ℕ, List, [], ◌∷◌, ◌++◌, Option, None, Some, if◌then◌else◌, nat_eq, slice_get}
+use Rattle.std.specs.Prelude.{◌≡◌, ◌≢◌, ◌≤◌, ◌⊎◌, Bool, false, true, ℕ, List, [], ◌∷◌, ◌++◌, Option, None, Some, Result, Err, Ok, if◌then◌else◌, length, nat_eq, slice_get, slice_index_or, take}
 use Rattle.std.specs.Io.KnownBytes.{Appends, Consumes, Keeps}
+use Rattle.book.specs.Good.{Good}
 use Rattle.book.specs.Ledger.{Ledger}
 use Rattle.desk.specs.Deferred.{DeferredView}
 use Rattle.keep.specs.declared.keep.Keep.{Ghosts}
 use Rattle.desk.specs.Desk.{DeskView, IsStored, LeavesEither, Snapshot}
 use Rattle.desk.specs.Dialogue.{Language}
-use Rattle.rounds.specs.declared.phase.Phase.TheVariants.{Gone, Wants}
+use Rattle.rounds.specs.declared.phase.Phase.{Phase}
 use Rattle.rounds.specs.declared.phase.Phase.TheVariants as phase
 use Rattle.rounds.specs.declared.standing.Standing.{Standing}
 use Rattle.rounds.specs.declared.standing.Standing.TheVariants.{Asks, Free, Over, Reads, Writes}
@@ -46,8 +47,8 @@ lost_between mid last = record { before = mid.ledger; behind = last.ledger }
 
 -- A round of which nothing is told has stopped the desk. What was said before it is one order of questions; what is said
 -- behind it is said of the stopped desk, which stays as it is. `loss` tells of it.
-pub record IsCutOnce {Q A : Type 0} (L : Language Q A) (loss : Option Loss) (old : Snapshot) (said : List (Said Q A)) (new : Snapshot)
-    : Type 0 where
+pub record IsCutOnce {Q A : Type 0} (L : Language Q A) (loss : Loss) (old : Snapshot) (said : List (Said Q A))
+    (new : Snapshot) : Type 0 where
   pub before : List (Said Q A)
   pub untold : List (Said Q A)
   pub behind : List (Said Q A)
@@ -57,14 +58,15 @@ pub record IsCutOnce {Q A : Type 0} (L : Language Q A) (loss : Option Loss) (old
   pub are_before : AreSaid L old before mid
   pub going : mid.is_stopped ≡ false
   pub are_untold : AreSaid L mid untold last
-  pub left : loss ≡ Some (lost_between mid last)
+  pub left : loss ≡ lost_between mid last
   pub are_behind : AreSaid L (stopped_at last.ledger) behind new
   pub stays : new ≡ stopped_at last.ledger
 
--- all that was said is one order of questions, from the one desk to the other, unless a round was lost
+-- All that was said is one order of questions, from the one desk to the other; where a round was lost, it is cut there.
 abbrev pub IsOneOrder : {Q A : Type 0} → Language Q A → Option Loss → Snapshot → List (Said Q A) → Snapshot
     → Type 0
-IsOneOrder L loss old said new = AreSaid L old said new ⊎ IsCutOnce L loss old said new
+IsOneOrder L None old said new = AreSaid L old said new
+IsOneOrder L (Some loss) old said new = IsCutOnce L loss old said new
 
 -- ---- in a round
 
@@ -91,21 +93,22 @@ pub record OnlyPutsOff {K : Type 0} (old new : DeskView (DeferredView K)) : Type
 abbrev pub IsSameSeat : {S P T : Type 0} → LineView S P T → LineView S P T → Type 0
 IsSameSeat v w = (w.connection ≡ v.connection) × (w.stream ≡ v.stream)
 
--- A connection of which so much is known and was said in this round has its turn. Nothing is asked, and the desk stays; or a
--- question is answered.
-abbrev pub HasTurn : {S P T Q A : Type 0} → Speaks S P T Q A → (v w : LineView S P T) → (old new : Snapshot) → Heard Q A
-    → List (Said Q A) → Type 0
-HasTurn {Q = Q} {A = A} g v w old new h said = ((new ≡ old) × Stands g w h said)
-    ⊎ ((s : Said Q A) × (s.connection ≡ v.connection) × g.language.answers old s.question s.kind s.answer new
-    × IsTold g.language (with_said h (said ++ s ∷ [])) × Stands g w h (said ++ s ∷ []))
+-- A connection of which so much is known and was said in this round has its turn. Nothing is answered, and the desk stays; or a
+-- question is.
+abbrev pub HasTurn : {S P T Q A : Type 0} → Speaks S P T Q A → (is_answered : Bool) → (v w : LineView S P T)
+    → (old new : Snapshot) → Heard Q A → List (Said Q A) → Type 0
+HasTurn g false v w old new h said = (new ≡ old) × Stands g w h said
+HasTurn {Q = Q} {A = A} g true v w old new h said = (s : Said Q A) × (s.connection ≡ v.connection)
+    × g.language.answers old s.question s.kind s.answer new
+    × IsTold g.language (with_said h (said ++ s ∷ [])) × Stands g w h (said ++ s ∷ [])
 
 -- a place has its turn, at which somebody is or not
-abbrev pub HasTurnAt : {S P T Q A : Type 0} → Speaks S P T Q A → (v w : Option (LineView S P T)) → (old new : Snapshot)
-    → Type 0
-HasTurnAt g None None old new = new ≡ old
-HasTurnAt {Q = Q} {A = A} g (Some v) (Some w) old new = IsSameSeat v w
-    × ((h : Heard Q A) (said : List (Said Q A)) → Stands g v h said → HasTurn g v w old new h said)
-HasTurnAt g _ _ old new = ⊥
+abbrev pub HasTurnAt : {S P T Q A : Type 0} → Speaks S P T Q A → (is_answered : Bool) → (v w : Option (LineView S P T))
+    → (old new : Snapshot) → Type 0
+HasTurnAt g is_answered None None old new = (is_answered ≡ false) × (new ≡ old)
+HasTurnAt {Q = Q} {A = A} g is_answered (Some v) (Some w) old new = IsSameSeat v w
+    × ((h : Heard Q A) (said : List (Said Q A)) → Stands g v h said → HasTurn g is_answered v w old new h said)
+HasTurnAt g is_answered _ _ old new = ⊥
 
 -- so at each place
 abbrev pub AtEach : {V : Type 0} → (Option V → Option V → Type 0) → List (Option V) → List (Option V) → Type 0
@@ -144,6 +147,36 @@ IsForgotten {Q = Q} {A = A} g (Some v) (Some w) = IsSameSeat v w
     × ((h : Heard Q A) (said : List (Said Q A)) → Stands g v h said → Stands g w h [])
 IsForgotten g _ _ = ⊥
 
+-- ---- how a place stands
+
+-- something is to be written first
+abbrev pub unless_written : List ℕ → Standing → Standing
+unless_written [] standing = standing
+unless_written (byte ∷ bytes) standing = Writes
+
+-- with an output that is to be written, in that phase
+abbrev pub standing_in : Phase → List ℕ → Standing
+standing_in phase.Wants output = unless_written output Reads
+standing_in phase.Asks output = unless_written output Asks
+standing_in phase.Over output = unless_written output Over
+standing_in phase.Gone output = Over
+
+abbrev pub standing_of : {S P T : Type 0} → LineView S P T → Standing
+standing_of v = standing_in v.phase v.output
+
+abbrev pub standing_at : {S P T : Type 0} → Option (LineView S P T) → Standing
+standing_at None = Free
+standing_at (Some v) = standing_of v
+
+-- who is at a place, if anybody is
+abbrev pub line_at : {V : Type 0} → List (Option V) → ℕ → Option V
+line_at lines place = slice_index_or lines place None
+
+-- a question was found, and waits for its answer
+abbrev pub HasQuestion : {S P T : Type 0} → Option (LineView S P T) → Type 0
+HasQuestion None = ⊥
+HasQuestion (Some v) = (v.phase ≡ phase.Asks) × (1 ≤ length v.waiting)
+
 -- ---- between rounds
 
 -- nothing becomes known of the connection at the place, if there is one, and its stream stays
@@ -152,48 +185,52 @@ IsLooked g None None = Unit {0}
 IsLooked {Q = Q} {A = A} g (Some v) (Some w) = IsSameSeat v w × ((h : Heard Q A) → Stands g v h [] → Stands g w h [])
 IsLooked g _ _ = ⊥
 
--- A connection is read: nothing is, or it wanted more, and a piece has come.
-abbrev pub IsRead : {S P T Q A : Type 0} → Speaks S P T Q A → (v w : Option (LineView S P T)) → Type 0
-IsRead g None None = Unit {0}
-IsRead {Q = Q} {A = A} g (Some v) (Some w) = (w.connection ≡ v.connection)
-    × Keeps (g.contents v.stream) (g.contents w.stream)
-    × ((Keeps (g.remaining v.stream) (g.remaining w.stream) × ((h : Heard Q A) → Stands g v h [] → Stands g w h []))
-    ⊎ ((v.phase ≡ Wants) × (piece : List ℕ) × Consumes (g.remaining v.stream) (g.remaining w.stream) piece
-    × ((h : Heard Q A) → IsHeard g v h [] → Stands g w (with_piece h piece) [])))
-IsRead g _ _ = ⊥
+-- these bytes more have come on a connection
+pub record HasCome {S P T Q A : Type 0} (g : Speaks S P T Q A) (v w : LineView S P T) (piece : List ℕ) : Type 0 where
+  pub connection : w.connection ≡ v.connection
+  pub reads : Consumes (g.remaining v.stream) (g.remaining w.stream) piece
+  pub writes : Keeps (g.contents v.stream) (g.contents w.stream)
+  pub stands : (h : Heard Q A) → IsHeard g v h [] → Stands g w (with_piece h piece) []
 
--- A connection is written to: nothing is, or so much of its output.
-abbrev pub IsWritten : {S P T Q A : Type 0} → Speaks S P T Q A → (v w : Option (LineView S P T)) → Type 0
-IsWritten g None None = Unit {0}
-IsWritten {Q = Q} {A = A} g (Some v) (Some w) = (w.connection ≡ v.connection)
-    × Keeps (g.remaining v.stream) (g.remaining w.stream)
-    × ((Keeps (g.contents v.stream) (g.contents w.stream) × ((h : Heard Q A) → Stands g v h [] → Stands g w h []))
-    ⊎ ((v.phase ≢ Gone) × (bytes : List ℕ) × Appends (g.contents v.stream) (g.contents w.stream) bytes
-    × ((h : Heard Q A) → IsHeard g v h [] → IsHeard g w (with_written h bytes) [])))
-IsWritten g _ _ = ⊥
+-- these bytes of its output were written
+pub record HasWritten {S P T Q A : Type 0} (g : Speaks S P T Q A) (v w : LineView S P T) (bytes : List ℕ) : Type 0 where
+  pub connection : w.connection ≡ v.connection
+  pub reads : Keeps (g.remaining v.stream) (g.remaining w.stream)
+  pub writes : Appends (g.contents v.stream) (g.contents w.stream) bytes
+  pub output : v.output ≡ bytes ++ w.output
+  pub stands : (h : Heard Q A) → IsHeard g v h [] → IsHeard g w (with_written h bytes) []
+
+-- its stream has failed: nothing has come, and nothing was written
+pub record HasFailed {S P T Q A : Type 0} (g : Speaks S P T Q A) (v w : LineView S P T) : Type 0 where
+  pub connection : w.connection ≡ v.connection
+  pub reads : Keeps (g.remaining v.stream) (g.remaining w.stream)
+  pub writes : Keeps (g.contents v.stream) (g.contents w.stream)
+  pub stands : (h : Heard Q A) → IsHeard g v h [] → IsHeard g w h []
+
+-- A place is read, where more is wanted there: so many bytes have come, or that failed. Elsewhere it stays.
+abbrev pub IsRead : {S P T Q A E : Type 0} → Speaks S P T Q A → Result (Option ℕ) E → (piece : List ℕ)
+    → (v w : Option (LineView S P T)) → Type 0
+IsRead g (Ok None) piece v w = (standing_at v ≢ Reads) × (w ≡ v)
+IsRead g (Ok (Some count)) piece (Some v) (Some w) = (standing_of v ≡ Reads) × (count ≤ length piece)
+    × HasCome g v w (take count piece)
+IsRead g (Err error) piece (Some v) (Some w) = (standing_of v ≡ Reads) × HasFailed g v w
+IsRead g _ _ _ _ = ⊥
+
+-- A place is written to, where something is to be written there: so many bytes of that were, or that failed. Elsewhere it stays.
+abbrev pub IsWritten : {S P T Q A E : Type 0} → Speaks S P T Q A → Result (Option ℕ) E → (v w : Option (LineView S P T))
+    → Type 0
+IsWritten g (Ok None) v w = (standing_at v ≢ Writes) × (w ≡ v)
+IsWritten g (Ok (Some count)) (Some v) (Some w) = (standing_of v ≡ Writes) × (count ≤ length v.output)
+    × HasWritten g v w (take count v.output)
+IsWritten g (Err error) (Some v) (Some w) = (standing_of v ≡ Writes) × HasFailed g v w
+IsWritten g _ _ _ = ⊥
 
 -- ---- what a lost round leaves
 
--- a stop leaves the rows of the ledger before it, or those of the ledger behind it
+-- What was put off could not be kept, which has stopped the keeper: a stop leaves the rows of the ledger before it, or those of
+-- the ledger behind it. Or memory was refused before the keeper was asked: it goes on, and holds the rows before.
 abbrev pub IsLeftBy : {K : Type 0} → Ghosts K → K → Loss → Type 0
-IsLeftBy g keep loss = g.is_honest keep
-    → LeavesEither (g.leaves keep) loss.before loss.behind ⊎ IsStored (g.holds keep) (g.leaves keep) loss.before
-
--- ---- how a place stands
-
--- something is to be written first
-abbrev pub unless_written : List ℕ → Standing → Standing
-unless_written [] standing = standing
-unless_written (byte ∷ bytes) standing = Writes
-
-abbrev pub standing_of : {S P T : Type 0} → LineView S P T → Standing
-standing_of v = elim v.phase [
-  | phase.Wants ↦ unless_written v.output Reads
-  | phase.Asks ↦ unless_written v.output Asks
-  | phase.Over ↦ unless_written v.output Over
-  | phase.Gone ↦ Over
-]
-
-abbrev pub standing_at : {S P T : Type 0} → Option (LineView S P T) → Standing
-standing_at None = Free
-standing_at (Some v) = standing_of v
+IsLeftBy g keep loss =
+    ((g.stopped keep ≡ true) × (g.is_honest keep → LeavesEither (g.leaves keep) loss.before loss.behind))
+    ⊎ ((g.stopped keep ≡ false) × Good loss.before
+    × (g.is_honest keep → IsStored (g.holds keep) (g.leaves keep) loss.before))

@@ -1,11 +1,12 @@
 -- A service of rounds: what is so of the desk and of those that come, from its begin to its end.
-use Rattle.std.specs.Prelude.{◌≡◌, false, true, ℕ, [], Option, Some, length, slice_get}
+use Rattle.std.specs.Prelude.{◌≡◌, ◌<◌, ◌≤◌, false, true, ℕ, List, [], Option, Some, length, slice_get}
 use Rattle.keep.specs.declared.keep.Keep.{Ghosts}
 use Rattle.desk.specs.Deferred.{DeferredView, snapshot_off}
 use Rattle.desk.specs.Desk.{DeskView, IsStored, Snapshot}
 use Rattle.rounds.specs.Crowds.{Doors, HubView, IsServing, Listening, Pass, visits_in}
-use Rattle.rounds.specs.Histories.{IsReached, PlacesView, Visit}
-use Rattle.rounds.specs.Lines.{LineView, Speaks}
+use Rattle.desk.specs.Dialogue.{Language}
+use Rattle.rounds.specs.Histories.{AreRounds, History, IsHeardBy, Visit, heard_in}
+use Rattle.rounds.specs.Lines.{IsTold, LineView, Speaks, unheard}
 use Rattle.rounds.specs.Rounds.{IsLeftBy, Loss}
 
 -- What is kept of a desk whose commits are put off, between rounds: nothing is put off; while it goes on the rows of its ledger
@@ -23,16 +24,23 @@ pub record InService {K C S P T Q A : Type 0} (g : Speaks S P T Q A) (c : Listen
   pub kept : IsKept k loss desk
   pub serving : IsServing g c first loss start (snapshot_off desk) hub
 
--- A service that has ended: these connections came and were closed again, each heard on its stream alone and told its answers
--- in their order, which are of the one order of all questions.
-pub record HasServed {K C S P T Q A : Type 0} (g : Speaks S P T Q A) (c : Listening C T) (k : Ghosts K) (first last : C)
-    (count : ℕ) (old new : DeskView (DeferredView K)) : Type 0 where
-  pub loss : Option Loss
-  pub kept : IsKept k loss new
+-- These connections came to the crowd and were closed again. There was one order of all their questions, in which the answers
+-- led the desk from there to here; each connection was heard on its stream alone, and told its answers in their order.
+pub record HasMet {C T Q A : Type 0} (L : Language Q A) (remaining contents : T → Option (List ℕ)) (c : Listening C T)
+    (loss : Option Loss) (first last : C) (count : ℕ) (old new : Snapshot) : Type 0 where
   pub doors : Doors T
   pub pass : Pass c first doors last
   pub counted : length (visits_in doors) ≡ count
-  pub left : (connection : ℕ) (visit : Visit T) → slice_get (visits_in doors) connection ≡ Some visit
-      → (stream : T) × (visit.left ≡ Some stream)
-  pub places : PlacesView (LineView S P T)
-  pub reached : IsReached g loss (snapshot_off old) (snapshot_off new) (visits_in doors) places
+  pub history : History Q A
+  pub are_rounds : AreRounds L loss old history new
+  pub told : (connection : ℕ) → connection < count → IsTold L (heard_in history connection)
+  pub nobody : (connection : ℕ) → count ≤ connection → heard_in history connection ≡ unheard
+  pub left : (connection : ℕ) (visit : Visit T) → slice_get (visits_in doors) connection ≡ Some visit → (stream : T)
+      × (visit.left ≡ Some stream) × IsHeardBy remaining contents visit.came stream (heard_in history connection)
+
+-- A service that has ended, on a desk whose commits are put off.
+pub record HasServed {K C T Q A : Type 0} (L : Language Q A) (remaining contents : T → Option (List ℕ)) (c : Listening C T)
+    (k : Ghosts K) (first last : C) (count : ℕ) (old new : DeskView (DeferredView K)) : Type 0 where
+  pub loss : Option Loss
+  pub kept : IsKept k loss new
+  pub met : HasMet L remaining contents c loss first last count (snapshot_off old) (snapshot_off new)

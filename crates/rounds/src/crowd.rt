@@ -34,6 +34,9 @@ pub trait Crowd {
         ensures waits { waits self.old self.new }
         ensures size { length ready.new ≡ length ready.old };
 
+    /// Whether somebody may wait to be let in.
+    fn may_come(&self) -> bool;
+
     /// One that waits to be let in, if there is one.
     fn next(&mut self) -> Option<Self::Stream>
         ensures { waits self.old self.new };

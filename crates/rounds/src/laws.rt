@@ -12,8 +12,8 @@ use desk::Dialogue;
 /// one order of questions, in which the answers are those of the language; and the questions and answers of a connection are its
 /// own of that order.
 pub fn rounds_are_one_order<D: Dialogue>()
-    ensures order { (loss : Option Loss) (history : History D.Asked D.Told) (start now : Snapshot) → AreRounds D.language loss start history now
-        → IsOneOrder D.language loss start (order_of history) now }
+    ensures order { (loss : Option Loss) (history : History D.Asked D.Told) (start now : Snapshot)
+        → AreRounds D.language loss start history now → IsOneOrder D.language loss start (order_of history) now }
     ensures questions { (history : History D.Asked D.Told) (connection : ℕ)
         → (heard_in history connection).questions ≡ questions_of (said_on connection (order_of history)) }
     ensures answers { (history : History D.Asked D.Told) (connection : ℕ)

@@ -2,6 +2,7 @@
 //! change is kept in one transaction, and only then are the answers written. A connection is any reader and writer.
 #![tactic(auto)]
 
+mod clock;
 mod crowd;
 mod hub;
 mod laws;

@@ -1,11 +1,10 @@
 //! One connection of many.
 
-ghost use Rattle.std.specs.Prelude.{◌≡◌, ◌≢◌, ◌<◌, ◌≤◌, ◌↔◌, [], ◌∷◌, ◌++◌, false, true, drop, length, take, List, ℕ, OnErr, OnOk, IsTrue};
-ghost use Rattle.std.specs.Io.KnownBytes.{Appends, Consumes, IsAtEnd, Keeps};
+ghost use Rattle.std.specs.Prelude.{◌≡◌, ◌≢◌, ◌<◌, ◌≤◌, ◌↔◌, [], ◌∷◌, ◌++◌, false, true, drop, length, take, List, ℕ, IfOk, OnErr, IsTrue};
 ghost use Rattle.desk.specs.Deferred.{snapshot_off};
 ghost use Rattle.desk.specs.Dialogue.{bytes_of};
-ghost use Rattle.rounds.specs.Lines.{Heard, IsHeard, Said, Stands, speaks, unheard, with_piece, with_said, with_written};
-ghost use Rattle.rounds.specs.Rounds.{HasTurn, OnlyPutsOff, standing_of};
+ghost use Rattle.rounds.specs.Lines.{Heard, IsHeard, Said, Stands, speaks, unheard, with_said};
+ghost use Rattle.rounds.specs.Rounds.{HasCome, HasFailed, HasTurn, HasWritten, OnlyPutsOff, standing_of};
 
 use crate::phase::Phase;
 use crate::standing::Standing;
@@ -70,7 +69,7 @@ impl<D: Dialogue + Drop, S: Stream + Drop> Line<D, S> {
     pub fn new(alloc: Global, connection: usize, dialogue: D, stream: S) -> Line<D, S>
         requires new { D.has_found dialogue [] false [] }
         requires none { D.language.have_come [] [] }
-        ensures heard { IsHeard (speaks D.language D.has_found D.asks S.remaining S.contents) result unheard [] }
+        ensures heard { IsHeard (speaks D.Dialogue S.Stream) result unheard [] }
         ensures stream { result.stream ≡ stream }
         ensures connection { result.connection ≡ connection }
     {
@@ -95,35 +94,12 @@ impl<D: Dialogue + Drop, S: Stream + Drop> Line<D, S> {
         rest_of(&self.output, self.written)
     }
 
-    /// Whether more bytes are wanted: all that has come is answered, and the answers are written.
-    pub fn wants(&self) -> bool
-        ensures phase { IsTrue result → self.now.phase ≡ Phase.Wants }
-        ensures quiet { IsTrue result → self.now.output ≡ [] }
-    {
-        self.phase == Phase::Wants && self.output().is_empty()
-    }
-
-    /// Whether a question may stand in what has come, and its answer may be written.
-    pub fn may_ask(&self) -> bool
-        ensures phase { IsTrue result → self.now.phase ≡ Phase.Asks }
-        ensures quiet { IsTrue result → self.now.output ≡ [] }
-    {
-        self.phase == Phase::Asks && self.output().is_empty()
-    }
-
     /// Whether a question was found that is not answered.
     pub fn has_question(&self) -> bool
         ensures waits { IsTrue result → 1 ≤ length self.now.waiting }
         ensures none { result ≡ false → self.now.waiting ≡ [] }
     {
         self.answered < self.questions.len()
-    }
-
-    /// Whether memory was refused for it.
-    pub fn is_gone(&self) -> bool
-        ensures { IsTrue result ↔ (self.now.phase ≡ Phase.Gone) }
-    {
-        self.phase == Phase::Gone
     }
 
     /// How it stands.
@@ -156,17 +132,9 @@ impl<D: Dialogue + Drop, S: Stream + Drop> Line<D, S> {
     pub fn read(&mut self, alloc: Global, piece: &mut [u8]) -> io::Result<usize>
         requires wants { self.old.phase ≡ Phase.Wants }
         requires room { 0 < length piece.old }
-        ensures heard { OnOk result ((bytes : List ℕ)
-            × Consumes (S.remaining self.old.stream) (S.remaining self.new.stream) bytes
-            × ((h : Heard D.Asked D.Told)
-            → IsHeard (speaks D.language D.has_found D.asks S.remaining S.contents) self.old h []
-            → Stands (speaks D.language D.has_found D.asks S.remaining S.contents) self.new (with_piece h bytes) [])) }
-        ensures failed { OnErr result (Keeps (S.remaining self.old.stream) (S.remaining self.new.stream)
-            × ((h : Heard D.Asked D.Told)
-            → IsHeard (speaks D.language D.has_found D.asks S.remaining S.contents) self.old h []
-            → IsHeard (speaks D.language D.has_found D.asks S.remaining S.contents) self.new h [])) }
-        ensures others { Keeps (S.contents self.old.stream) (S.contents self.new.stream) }
-        ensures connection { self.new.connection ≡ self.old.connection }
+        ensures within { IfOk result (λ count. count ≤ length piece.new) }
+        ensures came { IfOk result (λ count. HasCome (speaks D.Dialogue S.Stream) self.old self.new (take count piece.new)) }
+        ensures failed { OnErr result (HasFailed (speaks D.Dialogue S.Stream) self.old self.new) }
     {
         let count = self.stream.read_piece(piece)?;
         match self.dialogue.take_in(alloc, front_of(piece, count)) {
@@ -178,16 +146,11 @@ impl<D: Dialogue + Drop, S: Stream + Drop> Line<D, S> {
 
     /// Writes what is to be written, as far as it is taken: how many bytes these are. A failing write takes nothing.
     pub fn write(&mut self) -> io::Result<usize>
-        ensures heard { OnOk result ((bytes : List ℕ) × Appends (S.contents self.old.stream) (S.contents self.new.stream) bytes
-            × ((h : Heard D.Asked D.Told)
-            → IsHeard (speaks D.language D.has_found D.asks S.remaining S.contents) self.old h []
-            → IsHeard (speaks D.language D.has_found D.asks S.remaining S.contents) self.new (with_written h bytes) [])) }
-        ensures failed { OnErr result (Keeps (S.contents self.old.stream) (S.contents self.new.stream)
-            × ((h : Heard D.Asked D.Told)
-            → IsHeard (speaks D.language D.has_found D.asks S.remaining S.contents) self.old h []
-            → IsHeard (speaks D.language D.has_found D.asks S.remaining S.contents) self.new h [])) }
-        ensures others { Keeps (S.remaining self.old.stream) (S.remaining self.new.stream) }
-        ensures same { (self.new.connection ≡ self.old.connection) × (self.new.phase ≡ self.old.phase) }
+        ensures within { IfOk result (λ count. count ≤ length self.old.output) }
+        ensures written { IfOk result (λ count.
+            HasWritten (speaks D.Dialogue S.Stream) self.old self.new (take count self.old.output)) }
+        ensures failed { OnErr result (HasFailed (speaks D.Dialogue S.Stream) self.old self.new) }
+        ensures phase { self.new.phase ≡ self.old.phase }
     {
         let count = self.stream.write_some(rest_of(&self.output, self.written))?;
         self.written += count;
@@ -197,18 +160,18 @@ impl<D: Dialogue + Drop, S: Stream + Drop> Line<D, S> {
     /// Looks for a question in what has come, where none waits; whether one waits then.
     pub fn look(&mut self, alloc: Global) -> bool
         ensures heard { (h : Heard D.Asked D.Told) (said : List (Said D.Asked D.Told))
-            → Stands (speaks D.language D.has_found D.asks S.remaining S.contents) self.old h said
-            → Stands (speaks D.language D.has_found D.asks S.remaining S.contents) self.new h said }
+            → Stands (speaks D.Dialogue S.Stream) self.old h said
+            → Stands (speaks D.Dialogue S.Stream) self.new h said }
         ensures waits { IsTrue result → 1 ≤ length self.new.waiting }
-        ensures asks { IsTrue result → self.old.phase ≡ Phase.Asks → self.new.phase ≡ Phase.Asks }
+        ensures asks { IsTrue result ↔ (self.new.phase ≡ Phase.Asks) }
         ensures same { (self.new.connection ≡ self.old.connection) × (self.new.stream ≡ self.old.stream)
             × (self.new.output ≡ self.old.output) }
     {
-        if self.has_question() {
-            return true;
-        }
         if self.phase != Phase::Asks {
             return false;
+        }
+        if self.has_question() {
+            return true;
         }
         let Ok(()) = self.questions.reserve(1) else {
             self.phase = Phase::Gone;
@@ -230,15 +193,14 @@ impl<D: Dialogue + Drop, S: Stream + Drop> Line<D, S> {
     pub fn turn<K: Keep>(&mut self, alloc: Global, desk: &mut Desk<Deferred<K>>) -> bool
         requires going { D.may_stop → ⊥ }
         ensures turn { (h : Heard D.Asked D.Told) (said : List (Said D.Asked D.Told))
-            → Stands (speaks D.language D.has_found D.asks S.remaining S.contents) self.old h said
-            → HasTurn (speaks D.language D.has_found D.asks S.remaining S.contents) self.old self.new
-            (snapshot_off desk.old) (snapshot_off desk.new)
-            h said }
+            → Stands (speaks D.Dialogue S.Stream) self.old h said
+            → HasTurn (speaks D.Dialogue S.Stream) result self.old self.new
+            (snapshot_off desk.old) (snapshot_off desk.new) h said }
         ensures same { (self.new.connection ≡ self.old.connection) × (self.new.stream ≡ self.old.stream) }
         ensures off { OnlyPutsOff desk.old desk.new }
     {
         desk.is_stopped();
-        if !self.may_ask() || self.is_still || MOST_HIDDEN < self.hidden.len() {
+        if self.standing() != Standing::Asks || self.is_still || MOST_HIDDEN < self.hidden.len() {
             return false;
         }
         if !self.look(alloc) {
@@ -247,17 +209,16 @@ impl<D: Dialogue + Drop, S: Stream + Drop> Line<D, S> {
         self.answer(alloc, desk)
     }
 
-    /// Answers the first question that waits.
+    /// Answers the first question that waits, unless memory is refused. Whether it did.
     fn answer<K: Keep>(&mut self, alloc: Global, desk: &mut Desk<Deferred<K>>) -> bool
         requires going { D.may_stop → ⊥ }
         requires waits { 1 ≤ length self.old.waiting }
         requires asks { self.old.phase ≡ Phase.Asks }
         requires quiet { self.old.output ≡ [] }
         ensures turn { (h : Heard D.Asked D.Told) (said : List (Said D.Asked D.Told))
-            → Stands (speaks D.language D.has_found D.asks S.remaining S.contents) self.old h said
-            → HasTurn (speaks D.language D.has_found D.asks S.remaining S.contents) self.old self.new
-            (snapshot_off desk.old) (snapshot_off desk.new)
-            h said }
+            → Stands (speaks D.Dialogue S.Stream) self.old h said
+            → HasTurn (speaks D.Dialogue S.Stream) result self.old self.new
+            (snapshot_off desk.old) (snapshot_off desk.new) h said }
         ensures same { (self.new.connection ≡ self.old.connection) × (self.new.stream ≡ self.old.stream) }
         ensures off { OnlyPutsOff desk.old desk.new }
     {
@@ -303,8 +264,8 @@ impl<D: Dialogue + Drop, S: Stream + Drop> Line<D, S> {
     /// Shows what is hidden, which may then be written.
     pub fn show(&mut self, alloc: Global)
         ensures shown { (h : Heard D.Asked D.Told) (said : List (Said D.Asked D.Told))
-            → Stands (speaks D.language D.has_found D.asks S.remaining S.contents) self.old h said
-            → Stands (speaks D.language D.has_found D.asks S.remaining S.contents) self.new (with_said h said) [] }
+            → Stands (speaks D.Dialogue S.Stream) self.old h said
+            → Stands (speaks D.Dialogue S.Stream) self.new (with_said h said) [] }
         ensures same { (self.new.connection ≡ self.old.connection) × (self.new.stream ≡ self.old.stream) }
     {
         self.is_still = false;
@@ -320,8 +281,8 @@ impl<D: Dialogue + Drop, S: Stream + Drop> Line<D, S> {
     /// Forgets what is hidden: its questions are to be answered anew.
     pub fn forget(&mut self)
         ensures forgotten { (h : Heard D.Asked D.Told) (said : List (Said D.Asked D.Told))
-            → Stands (speaks D.language D.has_found D.asks S.remaining S.contents) self.old h said
-            → Stands (speaks D.language D.has_found D.asks S.remaining S.contents) self.new h [] }
+            → Stands (speaks D.Dialogue S.Stream) self.old h said
+            → Stands (speaks D.Dialogue S.Stream) self.new h [] }
         ensures same { (self.new.connection ≡ self.old.connection) × (self.new.stream ≡ self.old.stream) }
     {
         self.is_still = false;

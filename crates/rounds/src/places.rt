@@ -1,11 +1,11 @@
 //! Connections at their places, and the rounds in which their questions are answered.
 
-ghost use Rattle.std.specs.Prelude.{◌≡◌, ◌≢◌, ◌⊎◌, ◌<◌, ◌+◌, ◌-◌, ◌^◌, [], ◌∷◌, ◌++◌, false, true, length, set, slice_get, List, None, Option, Some, ℕ, IfNone, IfOk, IfSome, IsTrue, OnErr, OnOk};
+ghost use Rattle.std.specs.Prelude.{◌≡◌, ◌≢◌, ◌⊎◌, ◌↔◌, ◌<◌, ◌+◌, ◌-◌, ◌^◌, [], ◌∷◌, ◌++◌, false, true, length, set, slice_get, List, None, Option, Some, ℕ, option_map, IfNone, IfOk, IfSome, IsTrue, OnErr, OnOk};
 ghost use Rattle.desk.specs.Deferred.{snapshot_off};
 ghost use Rattle.desk.specs.Desk.{IsStored, Snapshot};
 ghost use Rattle.rounds.specs.Histories.{IsReached, Visit, visit_of};
-ghost use Rattle.rounds.specs.Lines.{speaks};
-ghost use Rattle.rounds.specs.Rounds.{IsLeftBy, Loss, lost_between, standing_at};
+ghost use Rattle.rounds.specs.Lines.{LineView, speaks};
+ghost use Rattle.rounds.specs.Rounds.{AtEach, HasQuestion, IsAt, IsLeftBy, IsLooked, IsRead, IsWritten, Loss, SameAt, line_at, lost_between, standing_at};
 
 use crate::line::Line;
 use crate::standing::Standing;
@@ -41,8 +41,8 @@ impl<D: Dialogue + Drop, S: Stream + Drop> Model for Places<D, S> {
 impl<D: Dialogue + Drop, S: Stream + Drop> Places<D, S> {
     /// So many places, at which nobody is.
     pub fn new(alloc: Global, places: usize) -> Result<Places<D, S>, AllocError>
-        ensures reached { IfOk result (λ p. (loss : Option Loss)
-            (start : Snapshot) → IsReached (speaks D.language D.has_found D.asks S.remaining S.contents) loss start start [] p) }
+        ensures reached { IfOk result (λ p. (start : Snapshot)
+            → IsReached (speaks D.Dialogue S.Stream) None start start [] p) }
         ensures size { IfOk result (λ p. (length p.lines ≡ places) × (p.connections ≡ 0)) }
     {
         let mut lines = Vec::with_capacity(alloc, places)?;
@@ -82,6 +82,7 @@ impl<D: Dialogue + Drop, S: Stream + Drop> Places<D, S> {
     pub fn free_place(&self) -> Option<usize>
         ensures free { IfSome result (λ place. slice_get self.now.lines place ≡ Some None) }
         ensures within { IfSome result (λ place. place < length self.now.lines) }
+        ensures none { IfNone result ((place : ℕ) → slice_get self.now.lines place ≢ Some None) }
     {
         for place in 0..self.lines.len() {
             if self.lines[place].is_none() {
@@ -98,9 +99,11 @@ impl<D: Dialogue + Drop, S: Stream + Drop> Places<D, S> {
         requires free { slice_get self.old.lines place ≡ Some None }
         requires count { self.old.connections < 2 ^ 64 - 1 }
         ensures reached { (loss : Option Loss) (start now : Snapshot) (visits : List (Visit S))
-            → IsReached (speaks D.language D.has_found D.asks S.remaining S.contents) loss start now visits self.old
-            → IsReached (speaks D.language D.has_found D.asks S.remaining S.contents) loss start now
-            (visits ++ visit_of stream ∷ []) self.new }
+            → IsReached (speaks D.Dialogue S.Stream) loss start now visits self.old
+            → IsReached (speaks D.Dialogue S.Stream) loss start now (visits ++ visit_of stream ∷ []) self.new }
+        ensures here { (v : LineView D D.Question S) × IsAt self.new.lines place v
+            × (v.connection ≡ self.old.connections) × (v.stream ≡ stream) }
+        ensures others { (other : ℕ) → other ≢ place → slice_get self.new.lines other ≡ slice_get self.old.lines other }
         ensures size { length self.new.lines ≡ length self.old.lines }
         ensures count { self.new.connections ≡ self.old.connections + 1 }
     {
@@ -112,10 +115,11 @@ impl<D: Dialogue + Drop, S: Stream + Drop> Places<D, S> {
     pub fn leave(&mut self, place: usize) -> Option<S>
         requires place { place < length self.old.lines }
         ensures left { IfSome result (λ stream. (loss : Option Loss) (start now : Snapshot) (visits : List (Visit S))
-            → IsReached (speaks D.language D.has_found D.asks S.remaining S.contents) loss start now visits self.old
+            → IsReached (speaks D.Dialogue S.Stream) loss start now visits self.old
             → (connection : ℕ) × (came : S) × (slice_get visits connection ≡ Some (visit_of came))
-            × IsReached (speaks D.language D.has_found D.asks S.remaining S.contents) loss start now
+            × IsReached (speaks D.Dialogue S.Stream) loss start now
             (set visits connection (record { came = came; left = Some stream })) self.new) }
+        ensures stream { result ≡ option_map (λ v. v.stream) (line_at self.old.lines place) }
         ensures none { IfNone result (self.new ≡ self.old) }
         ensures free { slice_get self.new.lines place ≡ Some None }
         ensures others { (other : ℕ) → other ≢ place → slice_get self.new.lines other ≡ slice_get self.old.lines other }
@@ -135,9 +139,12 @@ impl<D: Dialogue + Drop, S: Stream + Drop> Places<D, S> {
     ) -> io::Result<Option<usize>>
         requires place { place < length self.old.lines }
         requires room { 0 < length piece.old }
+        ensures read { IsRead (speaks D.Dialogue S.Stream) result piece.new
+            (line_at self.old.lines place) (line_at self.new.lines place) }
+        ensures others { (other : ℕ) → other ≢ place → slice_get self.new.lines other ≡ slice_get self.old.lines other }
         ensures reached { (loss : Option Loss) (start now : Snapshot) (visits : List (Visit S))
-            → IsReached (speaks D.language D.has_found D.asks S.remaining S.contents) loss start now visits self.old
-            → IsReached (speaks D.language D.has_found D.asks S.remaining S.contents) loss start now visits self.new }
+            → IsReached (speaks D.Dialogue S.Stream) loss start now visits self.old
+            → IsReached (speaks D.Dialogue S.Stream) loss start now visits self.new }
         ensures same { (length self.new.lines ≡ length self.old.lines) × (self.new.connections ≡ self.old.connections) }
     {
         read_at(alloc, &mut self.lines[place], piece)
@@ -146,9 +153,12 @@ impl<D: Dialogue + Drop, S: Stream + Drop> Places<D, S> {
     /// Writes what is to be written at a place, as far as it is taken: how many bytes these are. A failing write takes nothing.
     pub fn write(&mut self, place: usize) -> io::Result<Option<usize>>
         requires place { place < length self.old.lines }
+        ensures written { IsWritten (speaks D.Dialogue S.Stream) result
+            (line_at self.old.lines place) (line_at self.new.lines place) }
+        ensures others { (other : ℕ) → other ≢ place → slice_get self.new.lines other ≡ slice_get self.old.lines other }
         ensures reached { (loss : Option Loss) (start now : Snapshot) (visits : List (Visit S))
-            → IsReached (speaks D.language D.has_found D.asks S.remaining S.contents) loss start now visits self.old
-            → IsReached (speaks D.language D.has_found D.asks S.remaining S.contents) loss start now visits self.new }
+            → IsReached (speaks D.Dialogue S.Stream) loss start now visits self.old
+            → IsReached (speaks D.Dialogue S.Stream) loss start now visits self.new }
         ensures same { (length self.new.lines ≡ length self.old.lines) × (self.new.connections ≡ self.old.connections) }
     {
         write_at(&mut self.lines[place])
@@ -157,9 +167,14 @@ impl<D: Dialogue + Drop, S: Stream + Drop> Places<D, S> {
     /// Looks for a question in what has come at a place, where none waits there; whether one waits then.
     pub fn look(&mut self, alloc: Global, place: usize) -> bool
         requires place { place < length self.old.lines }
+        ensures looked { IsLooked (speaks D.Dialogue S.Stream)
+            (line_at self.old.lines place) (line_at self.new.lines place) }
+        ensures waits { IsTrue result ↔ HasQuestion (line_at self.new.lines place) }
+        ensures asks { standing_at (line_at self.new.lines place) ≡ Standing.Asks → IsTrue result }
+        ensures others { (other : ℕ) → other ≢ place → slice_get self.new.lines other ≡ slice_get self.old.lines other }
         ensures reached { (loss : Option Loss) (start now : Snapshot) (visits : List (Visit S))
-            → IsReached (speaks D.language D.has_found D.asks S.remaining S.contents) loss start now visits self.old
-            → IsReached (speaks D.language D.has_found D.asks S.remaining S.contents) loss start now visits self.new }
+            → IsReached (speaks D.Dialogue S.Stream) loss start now visits self.old
+            → IsReached (speaks D.Dialogue S.Stream) loss start now visits self.new }
         ensures same { (length self.new.lines ≡ length self.old.lines) × (self.new.connections ≡ self.old.connections) }
     {
         look_at(alloc, &mut self.lines[place])
@@ -177,17 +192,16 @@ impl<D: Dialogue + Drop, S: Stream + Drop> Places<D, S> {
         requires going { D.may_stop → ⊥ }
         requires settled { desk.old.keep.changes ≡ [] }
         ensures told { OnOk result ((loss : Option Loss) (start : Snapshot) (visits : List (Visit S))
-            → IsReached (speaks D.language D.has_found D.asks S.remaining S.contents) loss start (snapshot_off desk.old) visits
-            self.old
-            → IsReached (speaks D.language D.has_found D.asks S.remaining S.contents) loss start (snapshot_off desk.new) visits
-            self.new) }
+            → IsReached (speaks D.Dialogue S.Stream) loss start (snapshot_off desk.old) visits self.old
+            → IsReached (speaks D.Dialogue S.Stream) loss start (snapshot_off desk.new) visits self.new) }
         ensures untold { OnErr result ((loss : Option Loss) (start : Snapshot) (visits : List (Visit S))
-            → IsReached (speaks D.language D.has_found D.asks S.remaining S.contents) loss start (snapshot_off desk.old) visits
-            self.old
-            → IsReached (speaks D.language D.has_found D.asks S.remaining S.contents)
+            → IsReached (speaks D.Dialogue S.Stream) loss start (snapshot_off desk.old) visits self.old
+            → IsReached (speaks D.Dialogue S.Stream)
             (Some (lost_between (snapshot_off desk.old) (snapshot_off desk.new))) start (snapshot_off desk.new) visits
             self.new) }
+        ensures seats { AtEach SameAt self.old.lines self.new.lines }
         ensures settled { desk.new.keep.changes ≡ [] }
+        ensures honest { K.is_honest desk.new.keep.keep → K.is_honest desk.old.keep.keep }
         // what is shown is kept: a stop leaves the rows of the ledger behind it
         ensures kept { OnOk result (desk.old.keep.stopped ≡ false → (desk.new.keep.stopped ≡ false)
             × (K.is_honest desk.new.keep.keep

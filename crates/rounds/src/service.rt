@@ -3,18 +3,19 @@
 ghost use Rattle.std.specs.Prelude.{◌≡◌, ◌<◌, ◌≤◌, ◌^◌, [], false, length, Err, Option, OnErr, OnOk, IsTrue, ℕ};
 ghost use Rattle.desk.specs.Deferred.{snapshot_off};
 ghost use Rattle.desk.specs.Desk.{Snapshot};
-ghost use Rattle.rounds.specs.Crowds.{IsServing, listening};
+ghost use Rattle.rounds.specs.Crowds.{IsServing, listening_to};
 ghost use Rattle.rounds.specs.Lines.{speaks};
 ghost use Rattle.rounds.specs.Rounds.{Loss};
 ghost use Rattle.rounds.specs.Services.{HasServed, InService};
 
+use crate::clock::micros_since;
 use crate::crowd::Crowd;
 use crate::hub::Hub;
 use desk::{Begin, Deferred, Desk};
 use keep::Keep;
 use std::alloc::Global;
 use std::io;
-use std::time::Duration;
+use std::time::{Duration, Instant};
 use thiserror::Error;
 
 /// How many bytes are read at a time, at the most.
@@ -22,6 +23,9 @@ const PIECE: usize = 32 * 1024;
 
 /// How many turns go by behind the one that stopped the desk, so that connections are told.
 const LAST_TURNS: u32 = 3;
+
+/// How often memory is asked for in vain for somebody who waits, while nobody is there who could give some back.
+const REFUSED: u32 = 20;
 
 /// What a service is asked for.
 #[derive(Clone, Copy)]
@@ -37,7 +41,7 @@ pub struct Terms {
 /// Why a service has ended before its time.
 #[derive(Clone, Copy, Debug, PartialEq, Eq, Error)]
 pub enum ServiceFault {
-    /// Memory was refused before anything was begun.
+    /// Memory was refused before anything was begun, or again and again for somebody who waited while nobody was there.
     #[error("no memory")]
     Memory,
     /// The crowd failed.
@@ -54,10 +58,8 @@ impl<D: Begin + Drop, C: Crowd + Drop> Hub<D, C> {
         requires some { 1 ≤ length self.old.places.lines }
         requires within { self.old.places.connections ≤ most }
         ensures served { (first : C) (loss : Option Loss) (start now : Snapshot)
-            → IsServing (speaks D.language D.has_found D.asks C.Stream.remaining C.Stream.contents) (listening C.comes C.closes C.waits)
-            first loss start now self.old
-            → IsServing (speaks D.language D.has_found D.asks C.Stream.remaining C.Stream.contents) (listening C.comes C.closes C.waits)
-            first loss start now self.new }
+            → IsServing (speaks D.Dialogue C.Stream.Stream) (listening_to C.Crowd) first loss start now self.old
+            → IsServing (speaks D.Dialogue C.Stream.Stream) (listening_to C.Crowd) first loss start now self.new }
         ensures size { length self.new.places.lines ≡ length self.old.places.lines }
         ensures within { self.new.places.connections ≤ most }
     {
@@ -72,7 +74,7 @@ impl<D: Begin + Drop, C: Crowd + Drop> Hub<D, C> {
     /// there, and whether something can be done before the crowd tells more.
     fn turn<K: Keep>(
         &mut self,
-        alloc: Global,
+        rt: &HostRuntime,
         terms: &Terms,
         is_busy: bool,
         piece: &mut [u8],
@@ -83,27 +85,29 @@ impl<D: Begin + Drop, C: Crowd + Drop> Hub<D, C> {
         requires some { 1 ≤ length self.old.places.lines }
         requires within { self.old.places.connections ≤ terms.now.connections }
         requires room { 0 < length piece.old }
-        ensures served { (first : C) (start : Snapshot) → InService (speaks D.language D.has_found D.asks C.Stream.remaining C.Stream.contents) (listening C.comes C.closes C.waits) K.Keep
-            first start desk.old self.old
-            → InService (speaks D.language D.has_found D.asks C.Stream.remaining C.Stream.contents) (listening C.comes C.closes C.waits) K.Keep
-            first start desk.new self.new }
+        ensures served { (first : C) (start : Snapshot)
+            → InService (speaks D.Dialogue C.Stream.Stream) (listening_to C.Crowd) K.Keep first start desk.old self.old
+            → InService (speaks D.Dialogue C.Stream.Stream) (listening_to C.Crowd) K.Keep first start desk.new self.new }
         ensures settled { desk.new.keep.changes ≡ [] }
+        ensures honest { K.is_honest desk.new.keep.keep → K.is_honest desk.old.keep.keep }
         ensures size { length self.new.places.lines ≡ length self.old.places.lines }
         ensures within { self.new.places.connections ≤ terms.now.connections }
     {
         self.begin_turn();
         let most = if is_busy { Some(Duration::ZERO) } else { None };
         self.wait(most)?;
-        self.let_in_all(alloc, terms.connections);
-        self.gather(alloc, terms.together, piece)?;
-        self.round(alloc, terms.together, desk);
-        Ok(self.tell_all(alloc))
+        self.let_in_all(rt.alloc(), terms.connections);
+        self.gather(rt, terms.together, piece)?;
+        let begun = Instant::now(rt);
+        self.round(rt.alloc(), terms.together, desk);
+        self.note(micros_since(rt, &begun));
+        Ok(self.tell_all(rt.alloc()))
     }
 
     /// Turn by turn, until so many have come and all have left again, or, where the desk is stopped, some turns behind that.
     fn serve<K: Keep>(
         &mut self,
-        alloc: Global,
+        rt: &HostRuntime,
         terms: &Terms,
         desk: &mut Desk<Deferred<K>>,
     ) -> Result<(), ServiceFault>
@@ -111,11 +115,11 @@ impl<D: Begin + Drop, C: Crowd + Drop> Hub<D, C> {
         requires settled { desk.old.keep.changes ≡ [] }
         requires some { 1 ≤ length self.old.places.lines }
         requires within { self.old.places.connections ≤ terms.now.connections }
-        ensures served { (first : C) (start : Snapshot) → InService (speaks D.language D.has_found D.asks C.Stream.remaining C.Stream.contents) (listening C.comes C.closes C.waits) K.Keep
-            first start desk.old self.old
-            → InService (speaks D.language D.has_found D.asks C.Stream.remaining C.Stream.contents) (listening C.comes C.closes C.waits) K.Keep
-            first start desk.new self.new }
+        ensures served { (first : C) (start : Snapshot)
+            → InService (speaks D.Dialogue C.Stream.Stream) (listening_to C.Crowd) K.Keep first start desk.old self.old
+            → InService (speaks D.Dialogue C.Stream.Stream) (listening_to C.Crowd) K.Keep first start desk.new self.new }
         ensures within { self.new.places.connections ≤ terms.now.connections }
+        ensures honest { K.is_honest desk.new.keep.keep → K.is_honest desk.old.keep.keep }
         ensures all { OnOk result ((self.new.places.connections ≡ terms.now.connections)
             × (desk.new.keep.stopped ≡ false)) }
         ensures stop { result ≡ Err ServiceFault.Stopped → IsTrue desk.new.keep.stopped }
@@ -124,7 +128,7 @@ impl<D: Begin + Drop, C: Crowd + Drop> Hub<D, C> {
         let mut is_busy = true;
         let mut last = 0u32;
         for _turn in 0..u64::MAX {
-            let Ok((is_open, more)) = self.turn(alloc, terms, is_busy, &mut piece, desk) else {
+            let Ok((is_open, more)) = self.turn(rt, terms, is_busy, &mut piece, desk) else {
                 return Err(ServiceFault::Crowd);
             };
             is_busy = more;
@@ -136,6 +140,8 @@ impl<D: Begin + Drop, C: Crowd + Drop> Hub<D, C> {
                 is_busy = true;
             } else if !is_open && self.connections() == terms.connections {
                 return Ok(());
+            } else if !is_open && REFUSED <= self.refused() {
+                return Err(ServiceFault::Memory);
             }
         }
         Err(ServiceFault::Crowd)
@@ -145,11 +151,11 @@ impl<D: Begin + Drop, C: Crowd + Drop> Hub<D, C> {
 /// Serves so many connections, many at once, on a desk whose commits are put off: in rounds, each of which is kept in one
 /// transaction before its answers are written. All connections are closed at the end, and the crowd comes back.
 ///
-/// `Memory` where memory is refused before anything is begun; `Crowd` where the crowd fails; `Stopped` where a round could not
+/// `Memory` where memory is refused before anything is begun, or again and again for somebody who waits while nobody is there; `Crowd` where the crowd fails; `Stopped` where a round could not
 /// be kept, which stops the desk. Of that round nothing is told but `stopped`: a stop then leaves the rows before it, or those
 /// behind it.
 pub fn serve_rounds<D: Begin + Drop, C: Crowd + Drop, K: Keep>(
-    alloc: Global,
+    rt: &HostRuntime,
     desk: &mut Desk<Deferred<K>>,
     crowd: C,
     terms: &Terms,
@@ -159,19 +165,20 @@ pub fn serve_rounds<D: Begin + Drop, C: Crowd + Drop, K: Keep>(
     requires settled { desk.old.keep.changes ≡ [] }
     requires clients { 1 ≤ terms.now.clients }
     ensures whole { OnOk result.1 ((desk.new.keep.stopped ≡ false)
-        × HasServed (speaks D.language D.has_found D.asks C.Stream.remaining C.Stream.contents) (listening C.comes C.closes C.waits) K.Keep
+        × HasServed D.language C.Stream.remaining C.Stream.contents (listening_to C.Crowd) K.Keep
         crowd result.0 terms.now.connections desk.old desk.new) }
     ensures cut { OnErr result.1 ((count : ℕ) × (count ≤ terms.now.connections)
-        × HasServed (speaks D.language D.has_found D.asks C.Stream.remaining C.Stream.contents) (listening C.comes C.closes C.waits) K.Keep
+        × HasServed D.language C.Stream.remaining C.Stream.contents (listening_to C.Crowd) K.Keep
         crowd result.0 count desk.old desk.new) }
     ensures stop { result.1 ≡ Err ServiceFault.Stopped → IsTrue desk.new.keep.stopped }
+    ensures honest { K.is_honest desk.new.keep.keep → K.is_honest desk.old.keep.keep }
 {
     desk.is_kept();
-    let mut hub = match Hub::<D, C>::new(alloc, crowd, terms.clients) {
+    let mut hub = match Hub::<D, C>::new(rt.alloc(), crowd, terms.clients) {
         Ok(hub) => hub,
         Err(crowd) => return (crowd, Err(ServiceFault::Memory)),
     };
-    let ended = hub.serve(alloc, terms, desk);
+    let ended = hub.serve(rt, terms, desk);
     hub.close_all();
     (hub.into_crowd(), ended)
 }

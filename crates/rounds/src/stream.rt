@@ -1,6 +1,6 @@
 //! What a connection is read from and written to.
 
-use std::io::{self, Read, Write};
+use std::io::{self, ErrorKind, Read, Write};
 
 /// What a connection is read from and written to. A read leaves what was written, and a write what is left to read.
 pub trait Stream {
@@ -39,4 +39,9 @@ impl<R: Read, W: Write> Stream for (R, W) {
     fn write_some(&mut self, bytes: &[u8]) -> io::Result<usize> {
         self.1.write(bytes)
     }
+}
+
+/// Whether a call failed only since there was nothing to do.
+pub fn would_block(error: &io::Error) -> bool {
+    matches!(error.kind(), ErrorKind::WouldBlock | ErrorKind::Interrupted)
 }

@@ -1,12 +1,12 @@
 //! The turns of a round: what is asked at each place, and what becomes of the answers.
 
-ghost use Rattle.std.specs.Prelude.{◌≡◌, ◌≢◌, ◌<◌, ◌≤◌, ◌⊎◌, [], false, length, List, ℕ, option_map, IsTrue, OnErr, OnOk};
+ghost use Rattle.std.specs.Prelude.{◌≡◌, ◌≢◌, ◌<◌, ◌≤◌, ◌⊎◌, ◌↔◌, [], false, length, List, ℕ, option_map, IsTrue, OnErr, OnOk};
 ghost use Rattle.book.specs.Good.{Good};
 ghost use Rattle.book.specs.Ledger.{Ledger};
 ghost use Rattle.desk.specs.Deferred.{snapshot_off};
 ghost use Rattle.desk.specs.Desk.{IsStored, LeavesEither, Snapshot};
 ghost use Rattle.rounds.specs.Lines.{Heard, Said, speaks};
-ghost use Rattle.rounds.specs.Rounds.{AtEach, HasTurnAt, InRound, IsForgotten, IsLooked, IsRead, IsShown, IsWritten, OnlyPutsOff, SameAt, standing_at};
+ghost use Rattle.rounds.specs.Rounds.{AtEach, HasQuestion, HasTurnAt, InRound, IsForgotten, IsLooked, IsRead, IsShown, IsWritten, OnlyPutsOff, SameAt, standing_at};
 
 use crate::line::Line;
 use crate::standing::Standing;
@@ -41,7 +41,9 @@ pub fn look_at<D: Dialogue + Drop, S: Stream + Drop>(
     alloc: Global,
     line: &mut Option<Line<D, S>>,
 ) -> bool
-    ensures { IsLooked (speaks D.language D.has_found D.asks S.remaining S.contents) line.old line.new }
+    ensures looked { IsLooked (speaks D.Dialogue S.Stream) line.old line.new }
+    ensures waits { IsTrue result ↔ HasQuestion line.new }
+    ensures asks { standing_at line.new ≡ Standing.Asks → IsTrue result }
 {
     match line {
         Some(line) => line.look(alloc),
@@ -56,12 +58,12 @@ pub fn read_at<D: Dialogue + Drop, S: Stream + Drop>(
     piece: &mut [u8],
 ) -> io::Result<Option<usize>>
     requires { 0 < length piece.old }
-    ensures { IsRead (speaks D.language D.has_found D.asks S.remaining S.contents) line.old line.new }
+    ensures { IsRead (speaks D.Dialogue S.Stream) result piece.new line.old line.new }
 {
     let Some(line) = line else {
         return Ok(None);
     };
-    if !line.wants() {
+    if line.standing() != Standing::Reads {
         return Ok(None);
     }
     match line.read(alloc, piece) {
@@ -74,12 +76,12 @@ pub fn read_at<D: Dialogue + Drop, S: Stream + Drop>(
 pub fn write_at<D: Dialogue + Drop, S: Stream + Drop>(
     line: &mut Option<Line<D, S>>,
 ) -> io::Result<Option<usize>>
-    ensures { IsWritten (speaks D.language D.has_found D.asks S.remaining S.contents) line.old line.new }
+    ensures { IsWritten (speaks D.Dialogue S.Stream) result line.old line.new }
 {
     let Some(line) = line else {
         return Ok(None);
     };
-    if line.is_gone() || line.output().is_empty() {
+    if line.standing() != Standing::Writes {
         return Ok(None);
     }
     match line.write() {
@@ -95,7 +97,7 @@ fn turn_at<D: Dialogue + Drop, S: Stream + Drop, K: Keep>(
     desk: &mut Desk<Deferred<K>>,
 ) -> bool
     requires going { D.may_stop → ⊥ }
-    ensures turn { HasTurnAt (speaks D.language D.has_found D.asks S.remaining S.contents) line.old line.new
+    ensures turn { HasTurnAt (speaks D.Dialogue S.Stream) result line.old line.new
         (snapshot_off desk.old) (snapshot_off desk.new) }
     ensures off { OnlyPutsOff desk.old desk.new }
 {
@@ -127,8 +129,8 @@ fn ask_from<D: Dialogue + Drop, S: Stream + Drop, K: Keep>(
     requires going { D.may_stop → ⊥ }
     ensures seats { AtEach SameAt lines.old lines.new }
     ensures asked { (heard : ℕ → Heard D.Asked D.Told) (start : Snapshot)
-        → InRound (speaks D.language D.has_found D.asks S.remaining S.contents) start (snapshot_off desk.old) lines.old heard
-        → InRound (speaks D.language D.has_found D.asks S.remaining S.contents) start (snapshot_off desk.new) lines.new heard }
+        → InRound (speaks D.Dialogue S.Stream) start (snapshot_off desk.old) lines.old heard
+        → InRound (speaks D.Dialogue S.Stream) start (snapshot_off desk.new) lines.new heard }
     ensures off { OnlyPutsOff desk.old desk.new }
 {
     desk.is_stopped();
@@ -155,8 +157,8 @@ pub fn ask_all<D: Dialogue + Drop, S: Stream + Drop, K: Keep>(
     requires going { D.may_stop → ⊥ }
     ensures seats { AtEach SameAt lines.old lines.new }
     ensures asked { (heard : ℕ → Heard D.Asked D.Told) (start : Snapshot)
-        → InRound (speaks D.language D.has_found D.asks S.remaining S.contents) start (snapshot_off desk.old) lines.old heard
-        → InRound (speaks D.language D.has_found D.asks S.remaining S.contents) start (snapshot_off desk.new) lines.new heard }
+        → InRound (speaks D.Dialogue S.Stream) start (snapshot_off desk.old) lines.old heard
+        → InRound (speaks D.Dialogue S.Stream) start (snapshot_off desk.new) lines.new heard }
     ensures off { OnlyPutsOff desk.old desk.new }
 {
     desk.is_stopped();
@@ -178,7 +180,7 @@ pub fn ask_all<D: Dialogue + Drop, S: Stream + Drop, K: Keep>(
 
 /// Shows what is hidden at a place.
 fn show_at<D: Dialogue + Drop, S: Stream + Drop>(alloc: Global, line: &mut Option<Line<D, S>>)
-    ensures { IsShown (speaks D.language D.has_found D.asks S.remaining S.contents) line.old line.new }
+    ensures { IsShown (speaks D.Dialogue S.Stream) line.old line.new }
 {
     if let Some(line) = line {
         line.show(alloc);
@@ -190,7 +192,7 @@ pub fn show_all<D: Dialogue + Drop, S: Stream + Drop>(
     alloc: Global,
     lines: &mut [Option<Line<D, S>>],
 )
-    ensures { AtEach (IsShown (speaks D.language D.has_found D.asks S.remaining S.contents)) lines.old lines.new }
+    ensures { AtEach (IsShown (speaks D.Dialogue S.Stream)) lines.old lines.new }
 {
     for place in 0..lines.len() {
         show_at(alloc, &mut lines[place]);
@@ -199,7 +201,7 @@ pub fn show_all<D: Dialogue + Drop, S: Stream + Drop>(
 
 /// Forgets what is hidden at a place.
 fn forget_at<D: Dialogue + Drop, S: Stream + Drop>(line: &mut Option<Line<D, S>>)
-    ensures { IsForgotten (speaks D.language D.has_found D.asks S.remaining S.contents) line.old line.new }
+    ensures { IsForgotten (speaks D.Dialogue S.Stream) line.old line.new }
 {
     if let Some(line) = line {
         line.forget();
@@ -208,7 +210,7 @@ fn forget_at<D: Dialogue + Drop, S: Stream + Drop>(line: &mut Option<Line<D, S>>
 
 /// Forgets what is hidden at each place.
 pub fn forget_all<D: Dialogue + Drop, S: Stream + Drop>(lines: &mut [Option<Line<D, S>>])
-    ensures { AtEach (IsForgotten (speaks D.language D.has_found D.asks S.remaining S.contents)) lines.old lines.new }
+    ensures { AtEach (IsForgotten (speaks D.Dialogue S.Stream)) lines.old lines.new }
 {
     for place in 0..lines.len() {
         forget_at(&mut lines[place]);
@@ -225,6 +227,7 @@ pub fn settle_round<K: Keep>(
     ensures ok { OnOk result ((desk.new.keep.stopped ≡ desk.old.keep.stopped)
         × (was_stopped ≡ false → desk.new.keep.stopped ≡ false)) }
     ensures err { OnErr result (IsTrue desk.new.keep.stopped × (IsTrue was_stopped → desk.old.keep.changes ≢ [])) }
+    ensures behind { OnErr result (desk.old.keep.stopped ≡ false → IsTrue (K.stopped desk.new.keep.keep)) }
     ensures none { desk.new.keep.changes ≡ [] }
     ensures honest { K.is_honest desk.new.keep.keep → K.is_honest desk.old.keep.keep }
     ensures untouched { IsTrue desk.old.keep.stopped → desk.new.keep.keep ≡ desk.old.keep.keep }

@@ -1,5 +1,6 @@
 mod SessionParts
 mod Connections
+mod Meetings
 mod WorkParts
 mod PlainWords
 mod TaskWords

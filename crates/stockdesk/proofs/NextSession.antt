@@ -8,7 +8,7 @@ use Rattle.book.specs.Good.{Good}
 use Rattle.book.specs.Ledger.{Ledger}
 use Rattle.book.specs.Next.{accept}
 use Rattle.book.specs.Rows.{Content}
-use Rattle.desk.specs.Desk.{DeskState, IsStored, LeavesEither, TellsStop, Snapshot, snapshot}
+use Rattle.desk.specs.Desk.{DeskState, IsStored, LeavesEither, TellsStop, Snapshot, going_at, snapshot}
 use Rattle.desk.specs.Headline.{IsFoundAfterItems, LeavesRowsOf}
 use Rattle.desk.specs.Script.{Writes}
 use Rattle.desk.specs.Streams.{IsSilent, Streams}
@@ -24,7 +24,8 @@ use Rattle.stockdesk.specs.Sessions.{IsNoDesk}
 use Rattle.stockdesk.specs.Work.{IsFoundAfterWork, WorkCut, WorkDone}
 use Rattle.stockdesk.specs.declared.session.Fault.{Fault}
 use Rattle.stockdesk.specs.declared.work.Work.{Work}
-use Rattle.stockdesk.specs.declared.work.Work.TheVariants.{Requests, Script, Serve, Sheet}
+use Rattle.stockdesk.specs.declared.work.Work.TheVariants.{Requests, Script, Serve, ServeAtOnce, Sheet}
+use Rattle.stockdesk.proofs.Meetings.{many_left}
 use Rattle.stockdesk.proofs.SessionParts.{not_unbegun}
 
 -- ---- after connections
@@ -88,10 +89,11 @@ module _ (first : DeskState) (s : Streams) (silent : IsSilent s) where
   nothing_found (Requests kind csv together) = ([], no_items (most_together together))
   nothing_found (Sheet of) = refl
   nothing_found (Serve service) = (record { ledger = first.ledger; is_stopped = false }, ([], omega arith, refl), inl refl)
+  nothing_found (ServeAtOnce service at_once) = ([], going_at first.ledger, refl, refl)
 
 -- ---- after work
 
-module _ {C L R W : Type 0} (out : Outside C L R W) (old new : DeskState) (s : Streams) (holds : Content → Type 0) (went : old.is_stopped ≡ false) (good : Good new.ledger) (honest : new.is_honest) (stored : new.is_stopped ≡ false → IsStored holds new.leaves new.ledger) where
+module _ {C L R W G T : Type 0} (out : Outside C L R W G T) (old new : DeskState) (s : Streams) (holds : Content → Type 0) (went : old.is_stopped ≡ false) (good : Good new.ledger) (honest : new.is_honest) (stored : new.is_stopped ≡ false → IsStored holds new.leaves new.ledger) where
   abbrev Found : Work → Ledger → Type 0
   Found work B = IsFoundAfterWork work (first_of old new) s B
 
@@ -103,6 +105,7 @@ module _ {C L R W : Type 0} (out : Outside C L R W) (old new : DeskState) (s : S
   done_left (Requests kind csv together) going (kept, (requests, its, answered)) =
       only_last (Requests kind csv together) going (requests, found_all (most_together together) old.ledger (items_of requests) new.ledger s.writer_old s.writer_new answered)
   done_left (Sheet of) going (kept, same, sheet) = only_last (Sheet of) going same
+  done_left (ServeAtOnce service at_once) going (kept, all) = many_left holds old new went good honest all.meets stored
   done_left (Serve service) going (kept, all) = service_left service.connections holds old new went good honest (all.streams, omega (arith, all.as_many), all.served) stored
 
   found_same : (work : Work) → IsSilent s → new.ledger ≡ old.ledger → Found work new.ledger
@@ -124,6 +127,13 @@ module _ {C L R W : Type 0} (out : Outside C L R W) (old new : DeskState) (s : S
         only_last (Serve service) (going (λ e. cc)) (record { ledger = old.ledger; is_stopped = false }, ([], omega arith, refl), inl same)
     work_cut_left (Serve service) (reads, inl (inr (inr is), begun, same)) =
         only_last (Serve service) (going (λ e. cc)) (record { ledger = old.ledger; is_stopped = false }, ([], omega arith, refl), inl same)
+    work_cut_left (ServeAtOnce service at_once) (reads, inl (inl is, begun, same)) =
+        only_last (ServeAtOnce service at_once) (going (λ e. cc)) ([], going_at old.ledger, refl, same)
+    work_cut_left (ServeAtOnce service at_once) (reads, inl (inr (inl is), begun, same)) =
+        only_last (ServeAtOnce service at_once) (going (λ e. cc)) ([], going_at old.ledger, refl, same)
+    work_cut_left (ServeAtOnce service at_once) (reads, inl (inr (inr is), begun, same)) =
+        only_last (ServeAtOnce service at_once) (going (λ e. cc)) ([], going_at old.ledger, refl, same)
+    work_cut_left (ServeAtOnce service at_once) (reads, inr (why, some)) = many_left holds old new went good honest some.meets stored
     work_cut_left (Serve service) (reads, inr (why, some)) = service_left service.connections holds old new went good honest (some.streams, some.as_many, some.served) stored
 
   -- however it ended

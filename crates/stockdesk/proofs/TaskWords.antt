@@ -11,6 +11,7 @@ use Rattle.clap.specs.Walk.{nothing_held, rows_after}
 use Rattle.clap.proofs.OnLiterals.{clap_on_literals}
 use Rattle.escrow.specs.Codes.{IsArticle, IsBranch, is_branch_byte}
 use Rattle.stockdesk.specs.Tasks.{AreWordsFor, Asks, AsksFor, AsksForWork, AsksTogether, IsFew, IsNoOption, IsToAsk, IsWorkToAsk, Takes, TakesOn, TakesWork, article, bounds, command_of, deliveries, init, orders, run, serve, sheet, stockdesk, task_words, together_words, upgrade, work_words}
+use Rattle.stockdesk.specs.declared.at_once.AtOnce.{AtOnce}
 use Rattle.stockdesk.specs.declared.loopback.Service.{Service}
 use Rattle.stockdesk.specs.declared.requests.Kind.{Kind}
 use Rattle.stockdesk.specs.declared.requests.Kind.TheVariants.{Bounds, Deliveries, Orders}
@@ -18,7 +19,7 @@ use Rattle.stockdesk.specs.declared.sheet.SheetOf.TheVariants.{Article, Branch}
 use Rattle.stockdesk.specs.declared.tasks.Task.{Task}
 use Rattle.stockdesk.specs.declared.tasks.Task.TheVariants.{InFile, InMemory, Init, Upgrade}
 use Rattle.stockdesk.specs.declared.work.Work.{Work}
-use Rattle.stockdesk.specs.declared.work.Work.TheVariants.{Requests, Script, Serve, Sheet}
+use Rattle.stockdesk.specs.declared.work.Work.TheVariants.{Requests, Script, Serve, ServeAtOnce, Sheet}
 use Rattle.stockdesk.proofs.PlainWords.{Fit, Marked, are_rows, are_taken, level_over, rows_over, start, words_of}
 
 pub is_ours : is_simple stockdesk ≡ true
@@ -106,7 +107,49 @@ gives_service name path service p (is_port, some, many) =
     let connections : IsNoOption (decimal service.connections) = number_word service.connections (omega (arith, many)) in
     gives name (codes "serve") serve.top (of_service path.now service) (InFile path (Serve service)) refl refl
     (refl, refl, p, (refl, refl, port, (refl, refl, connections, tt))) refl
-    (refl, (refl, (decimal service.port, decimal service.connections, refl, refl, record { port_is = refl; connections_are = refl; is_port = is_port; some = some; not_many = many })))
+    (refl, (refl, refl, refl, (decimal service.port, decimal service.connections, refl, refl, record { port_is = refl; connections_are = refl; is_port = is_port; some = some; not_many = many })))
+
+abbrev clients_marked : Option NonZeroUsize → Marked
+clients_marked None = []
+clients_marked (Some most) = (false, codes "--clients") ∷ (true, decimal (non_zero_usize_get most)) ∷ []
+
+abbrev of_service_at_once : Text → Service → AtOnce → Option NonZeroUsize → Marked
+of_service_at_once path service at_once clients = (true, path) ∷ (false, codes "--port") ∷ (true, decimal service.port) ∷ (false, codes "--connections") ∷ (true, decimal service.connections)
+    ∷ (false, codes "--together") ∷ (true, decimal (non_zero_usize_get at_once.together)) ∷ clients_marked clients
+
+gives_service_at_once : (name : Text) (path : Bor Text) (service : Service) (together : NonZeroUsize) (clients : Option NonZeroUsize) → IsNoOption path.now
+    → IsWorkToAsk (ServeAtOnce service (record { together = together; clients = clients }))
+    → Gives (name ∷ work_words path.now (ServeAtOnce service (record { together = together; clients = clients }))) (InFile path (ServeAtOnce service (record { together = together; clients = clients })))
+unfolding clap_on_literals
+gives_service_at_once name path service together None p ((is_port, some, many), (some_together, few_together), few_clients) =
+    let port : IsNoOption (decimal service.port) = number_word service.port (omega (arith, is_port)) in
+    let connections : IsNoOption (decimal service.connections) = number_word service.connections (omega (arith, many)) in
+    let few : IsNoOption (decimal (non_zero_usize_get together)) = number_word (non_zero_usize_get together) (omega (arith, few_together)) in
+    let at_once : AtOnce = record { together = together; clients = None } in
+    gives name (codes "serve") serve.top (of_service_at_once path.now service at_once None) (InFile path (ServeAtOnce service at_once)) refl refl
+    (refl, refl, p, (refl, refl, port, (refl, refl, connections, (refl, refl, few, tt)))) refl (
+      refl,
+      (
+        refl,
+        (decimal (non_zero_usize_get together), refl, record { together_is = (together, refl, refl, few_together); clients_are = refl }),
+        (decimal service.port, decimal service.connections, refl, refl, record { port_is = refl; connections_are = refl; is_port = is_port; some = some; not_many = many }),
+      ),
+    )
+gives_service_at_once name path service together (Some most) p ((is_port, some, many), (some_together, few_together), (some_clients, few_clients)) =
+    let port : IsNoOption (decimal service.port) = number_word service.port (omega (arith, is_port)) in
+    let connections : IsNoOption (decimal service.connections) = number_word service.connections (omega (arith, many)) in
+    let few : IsNoOption (decimal (non_zero_usize_get together)) = number_word (non_zero_usize_get together) (omega (arith, few_together)) in
+    let clients : IsNoOption (decimal (non_zero_usize_get most)) = number_word (non_zero_usize_get most) (omega (arith, few_clients)) in
+    let at_once : AtOnce = record { together = together; clients = Some most } in
+    gives name (codes "serve") serve.top (of_service_at_once path.now service at_once (Some most)) (InFile path (ServeAtOnce service at_once)) refl refl
+    (refl, refl, p, (refl, refl, port, (refl, refl, connections, (refl, refl, few, (refl, refl, clients, tt))))) refl (
+      refl,
+      (
+        refl,
+        (decimal (non_zero_usize_get together), refl, record { together_is = (together, refl, refl, few_together); clients_are = (most, refl, refl, few_clients) }),
+        (decimal service.port, decimal service.connections, refl, refl, record { port_is = refl; connections_are = refl; is_port = is_port; some = some; not_many = many }),
+      ),
+    )
 
 gives_task : (task : Task) (name : Text) → IsToAsk task → Gives (name ∷ task_words task) task
 unfolding clap_on_literals
@@ -120,6 +163,7 @@ gives_task (InFile path (Sheet (Branch branch))) name (p, form) =
 gives_task (InFile path (Sheet (Article code))) name (p, form) =
     gives name (codes "article") article.top (two path.now code) (InFile path (Sheet (Article code))) refl refl (refl, refl, p, (refl, refl, article_word code form, tt)) refl (refl, (refl, refl))
 gives_task (InFile path (Serve service)) name (p, ok) = gives_service name path service p ok
+gives_task (InFile path (ServeAtOnce service at_once)) name (p, ok) = gives_service_at_once name path service at_once.together at_once.clients p ok
 
 pub words_give : (task : Task) (words : List Text) → AreWordsFor task words → Gives words task
 words_give task words (name, is, ok) = subst (λ (w : List Text). Gives w task) (sym is) (gives_task task name ok)
@@ -135,8 +179,10 @@ is_given name rows (InFile path Script) Taken takes (file, is) ok = (takes.on_fi
 is_given name rows (InFile path (Requests kind csv together)) Taken takes (file, (is, found, many)) ok = (takes.on_file path.now file).of_work.of_requests kind csv.now together is found many ok.1.1
 is_given name rows (InFile path (Sheet (Branch branch))) Taken takes (file, (is, found)) (p, form) = (takes.on_file path.now file).of_work.of_branch branch is found form
 is_given name rows (InFile path (Sheet (Article code))) Taken takes (file, (is, found)) (p, form) = (takes.on_file path.now file).of_work.of_article code is found form
-is_given name rows (InFile path (Serve service)) Taken takes (file, (is, (port, connections, found_port, found_connections, numbers))) ok =
-    (takes.on_file path.now file).of_work.of_service port connections service is found_port found_connections numbers
+is_given name rows (InFile path (Serve service)) Taken takes (file, (is, alone, nobody, asked)) ok =
+    ((takes.on_file path.now file).of_work.of_service is).in_turn service alone nobody asked
+is_given name rows (InFile path (ServeAtOnce service at_once)) Taken takes (file, (is, (together, found, numbers), asked)) (p, (ok, few, few_clients)) =
+    ((takes.on_file path.now file).of_work.of_service is).at_once together service at_once found numbers few few_clients asked
 
 -- the one word `run` asks for a run in memory alone
 abbrev found_rows : Option (Text × List Row) → List Row

@@ -22,7 +22,7 @@ use Rattle.stockdesk.specs.Sessions.{IsUnbegun, Session, desk_left}
 use Rattle.stockdesk.specs.Work.{WorkCut, WorkInPart, WorkWhole}
 use Rattle.stockdesk.specs.declared.session.Fault.{Fault}
 use Rattle.stockdesk.specs.declared.work.Work.{Work}
-use Rattle.stockdesk.specs.declared.work.Work.TheVariants.{Requests, Script, Serve, Sheet}
+use Rattle.stockdesk.specs.declared.work.Work.TheVariants.{Requests, Script, Serve, ServeAtOnce, Sheet}
 use Rattle.stockdesk.proofs.Connections.{port_unwritten, port_whole}
 use Rattle.stockdesk.proofs.SessionParts.{cut_begins, not_unbegun, nothing_read, told_begun}
 
@@ -48,6 +48,7 @@ works_nothing Script s silent = (new_ledger, good_new, nothing_read new_ledger s
 works_nothing (Requests kind csv together) s (reads, writes) = (reads, nothing_printed new_ledger s good_new writes)
 works_nothing (Sheet of) s (reads, writes) = (reads, inl (Appends-kept _ _ _ _ (Appends-nil s.writer_old) writes))
 works_nothing (Serve service) s (reads, writes) = (reads, port_unwritten s.writer_old s.writer_new writes)
+works_nothing (ServeAtOnce service at_once) s (reads, writes) = (reads, port_unwritten s.writer_old s.writer_new writes)
 
 -- ---- what is cut
 
@@ -57,7 +58,7 @@ pub cut_of : (Are These : List Request → Type 0) → ((requests : List Request
 cut_of Are These on together fault old new s (inl unread) = inl unread
 cut_of Are These on together fault old new s (inr (requests, are, cut)) = inr (requests, on requests are, cut)
 
-module _ {C L R W : Type 0} (out : Outside C L R W) (fault : Fault) (old new : DeskState) (s : Streams) where
+module _ {C L R W G T : Type 0} (out : Outside C L R W G T) (fault : Fault) (old new : DeskState) (s : Streams) where
   replies_in_part : (AreIts : List Request → Type 0) (together : Option NonZeroUsize) → Good old.ledger → FileCut AreIts together fault old new s → PrintsRepliesInPart s
   replies_in_part AreIts together good (inl (unread, same, kept)) = nothing_printed old.ledger s good kept
   replies_in_part AreIts together good (inr (requests, its, (cause, told, (cut, writes)))) = record {
@@ -83,6 +84,8 @@ module _ {C L R W : Type 0} (out : Outside C L R W) (fault : Fault) (old new : D
   cut_in_part (Sheet of) good going (reads, same, inr (is, begun)) = (reads, inr (old.ledger, good, begun))
   cut_in_part (Serve service) good going (reads, inl (why, begun, same)) = (reads, begun)
   cut_in_part (Serve service) good going (reads, inr (why, some)) = (reads, port_whole s.writer_old s.writer_new (some.listens.port, some.listens.told))
+  cut_in_part (ServeAtOnce service at_once) good going (reads, inl (why, begun, same)) = (reads, begun)
+  cut_in_part (ServeAtOnce service at_once) good going (reads, inr (why, some)) = (reads, port_whole s.writer_old s.writer_new (some.gathers.port, some.gathers.told))
 
   -- a fault of something that was not begun leaves all untouched
   pub cut_untouched : (work : Work) → WorkCut out work fault old new s → IsUnbegun fault → IsSilent s
@@ -96,15 +99,22 @@ module _ {C L R W : Type 0} (out : Outside C L R W) (fault : Fault) (old new : D
   cut_untouched (Serve service) (reads, inl (inr (inr is), begun, same)) un = absurd (not_unbegun fault _ is refl un)
   cut_untouched (Serve service) (reads, inr (inl is, some)) un = absurd (not_unbegun fault _ is refl un)
   cut_untouched (Serve service) (reads, inr (inr is, some)) un = absurd (not_unbegun fault _ is refl un)
+  cut_untouched (ServeAtOnce service at_once) (reads, inl (inl is, begun, same)) un = absurd (not_unbegun fault _ is refl un)
+  cut_untouched (ServeAtOnce service at_once) (reads, inl (inr (inl is), begun, same)) un = absurd (not_unbegun fault _ is refl un)
+  cut_untouched (ServeAtOnce service at_once) (reads, inl (inr (inr is), begun, same)) un = absurd (not_unbegun fault _ is refl un)
+  cut_untouched (ServeAtOnce service at_once) (reads, inr (inl is, some)) un = absurd (not_unbegun fault _ is refl un)
+  cut_untouched (ServeAtOnce service at_once) (reads, inr (inr (inl is), some)) un = absurd (not_unbegun fault _ is refl un)
+  cut_untouched (ServeAtOnce service at_once) (reads, inr (inr (inr is), some)) un = absurd (not_unbegun fault _ is refl un)
 
 -- ---- sessions
 
-module _ {K C L R W : Type 0} (out : Outside C L R W) (on : Session K) (s : Streams) where
+module _ {K C L R W G T : Type 0} (out : Outside C L R W G T) (on : Session K) (s : Streams) where
   pub works_whole : (work : Work) → WorkWhole out on work s → DoesWork work s
   works_whole Script all = (all.on.first.ledger, all.on.good, (all.on.last, text_written (desk_state on.ghosts all.on.first) (desk_left on all.on.last) s all.on.done))
   works_whole (Requests kind csv together) all = (all.on.done.0, (all.on.first.ledger, all.on.last, all.on.done.1.0, all.on.good, all.on.done.1.2))
   works_whole (Sheet of) all = (all.on.done.0, (all.on.first.ledger, all.on.good, all.on.done.2))
   works_whole (Serve service) all = (all.on.done.0, (all.on.done.1.listens.port, all.on.done.1.listens.told))
+  works_whole (ServeAtOnce service at_once) all = (all.on.done.0, (all.on.done.1.gathers.port, all.on.done.1.gathers.told))
 
   module _ (work : Work) (fault : Fault) where
     pub works_in_part : WorkInPart out on work fault s → DoesWorkInPart work s

@@ -1,18 +1,23 @@
 -- What is shown of a desk to connections, and what these do to it.
-use Rattle.std.specs.Prelude.{◌≡◌, ◌<◌, ◌≤◌, ◌⊎◌, ◌^◌, false, true, ℕ, List, [], ◌∷◌, ◌++◌, Option, codes, decimal, length, take}
+use Rattle.std.specs.Prelude.{◌≡◌, ◌<◌, ◌≤◌, ◌⊎◌, ◌^◌, false, true, ℕ, List, [], ◌∷◌, ◌++◌, None, Option, Some, codes, decimal, length, take}
 use Rattle.std.specs.Io.KnownBytes.{Appends}
 use Rattle.book.specs.Answers.{IsAccepted}
 use Rattle.book.specs.Ledger.{Ledger}
 use Rattle.book.specs.Next.{accept}
-use Rattle.desk.specs.Desk.{DeskState, Snapshot, snapshot}
+use Rattle.desk.specs.Desk.{DeskState, LeavesEither, Snapshot, going_at, snapshot}
 use Rattle.desk.specs.Dialogue.{EndsCut, EndsWhole}
 use Rattle.desk.specs.Streams.{Streams}
 use Rattle.words.specs.declared.command.Request.{Request}
+use Rattle.web.specs.Answers.{Answer}
+use Rattle.web.specs.Messages.{Part}
 use Rattle.web.specs.Serving.{Tells, cause_of}
 use Rattle.web.specs.Web.{http}
 use Rattle.web.specs.declared.served.Served.{Served}
 use Rattle.web.specs.declared.served.WebFault.{WebFault}
-use Rattle.stockdesk.specs.Outside.{Listening, Outside}
+use Rattle.rounds.specs.Rounds.{AreSaid, Loss}
+use Rattle.rounds.specs.Lines.{Said}
+use Rattle.rounds.specs.Services.{HasMet}
+use Rattle.stockdesk.specs.Outside.{Gathering, Listening, Outside}
 use Rattle.stockdesk.specs.declared.loopback.Service.{Service}
 use Rattle.stockdesk.specs.declared.session.Fault.{Fault}
 
@@ -87,7 +92,7 @@ pub record Listens {L : Type 0} (listens : (asked got : ℕ) → L → Type 0) (
   pub told : TellsPort port writer_old writer_new
 
 -- As many connections as that is said of came to the listener of the service, whose port is told, and were served.
-pub record Serves {C L R W : Type 0} (out : Outside C L R W) (service : Service) (AsMany : ℕ → Type 0)
+pub record Serves {C L R W G T : Type 0} (out : Outside C L R W G T) (service : Service) (AsMany : ℕ → Type 0)
     (old new : DeskState) (s : Streams) : Type 0 where
   pub first : L
   pub last : L
@@ -98,7 +103,7 @@ pub record Serves {C L R W : Type 0} (out : Outside C L R W) (service : Service)
   pub came : Pass out.connections first streams last
 
 -- as many as are asked for
-abbrev pub ServesAll : {C L R W : Type 0} → Outside C L R W → Service → (old new : DeskState) → Streams → Type 0
+abbrev pub ServesAll : {C L R W G T : Type 0} → Outside C L R W G T → Service → (old new : DeskState) → Streams → Type 0
 ServesAll out service old new s = Serves out service (λ count. count ≡ service.connections) old new s
 
 -- so many were served at the most, of which only the last may have stopped the desk
@@ -115,8 +120,56 @@ IsFoundAfterService count first B =
 
 -- The port was not told, or not whole, since there was no socket or no memory, or a write failed; or it was told, and
 -- there was no connection more, or the last one stopped the desk.
-abbrev pub ServiceCut : {C L R W : Type 0} → Outside C L R W → Service → Fault → (old new : DeskState) → Streams → Type 0
+abbrev pub ServiceCut : {C L R W G T : Type 0} → Outside C L R W G T → Service → Fault → (old new : DeskState) → Streams → Type 0
 ServiceCut out service fault old new s =
     (((fault ≡ Fault.Socket) ⊎ ((fault ≡ Fault.Memory) ⊎ (fault ≡ Fault.Write)))
     × PortBegun s.writer_old s.writer_new × (new.ledger ≡ old.ledger))
     ⊎ (((fault ≡ Fault.Socket) ⊎ (fault ≡ Fault.Store)) × Serves out service (λ count. count ≤ service.connections) old new s)
+
+-- ---- many connections at once
+
+-- The desk at the end is as those who were answered saw it. Or a round was lost, which stopped what they saw: it could not be
+-- kept, and a stop leaves the rows of the ledger before it or those of the ledger behind it; or memory was refused for it,
+-- and the desk is at the ledger before it.
+abbrev pub EndsAs : Option Loss → (shown : Snapshot) → (new : DeskState) → Type 0
+EndsAs None shown new = (snapshot new ≡ shown) × (shown.is_stopped ≡ false)
+EndsAs (Some loss) shown new = (shown.is_stopped ≡ true)
+    × (((snapshot new ≡ shown) × (new.is_honest → LeavesEither new.leaves loss.before loss.behind))
+    ⊎ ((new.ledger ≡ loss.before) × (new.is_stopped ≡ false)))
+
+-- As many connections came to what they come to, and so much was lost, as that is said of. There was one order of all their
+-- questions, in which the answers led the desk from there to here.
+pub record Meets {G T : Type 0} (g : Gathering G T) (first : G) (IsSo : ℕ → Option Loss → Type 0) (old new : DeskState)
+    : Type 0 where
+  pub last : G
+  pub count : ℕ
+  pub loss : Option Loss
+  pub is_so : IsSo count loss
+  pub shown : Snapshot
+  pub met : HasMet http g.remaining g.contents g.doors loss first last count (snapshot old) shown
+  pub ends : EndsAs loss shown new
+
+-- So many came to the port, which is told.
+pub record ServesMany {C L R W G T : Type 0} (out : Outside C L R W G T) (service : Service)
+    (IsSo : ℕ → Option Loss → Type 0) (old new : DeskState) (writer_old writer_new : Option (List ℕ)) : Type 0 where
+  pub first : G
+  pub gathers : Listens out.gathers service.port writer_old writer_new first
+  pub meets : Meets out.crowd first IsSo old new
+
+-- it ended before its time: no more could be waited for, memory was refused, or the desk is stopped
+abbrev pub IsCrowdFault : Fault → Type 0
+IsCrowdFault fault = (fault ≡ Fault.Socket) ⊎ ((fault ≡ Fault.Memory) ⊎ (fault ≡ Fault.Store))
+
+-- the port was not told, or not whole; or it was told, and some came
+abbrev pub ManyCut : {C L R W G T : Type 0} → Outside C L R W G T → Service → Fault → (old new : DeskState)
+    → (writer_old writer_new : Option (List ℕ)) → Type 0
+ManyCut out service fault old new writer_old writer_new =
+    (((fault ≡ Fault.Socket) ⊎ ((fault ≡ Fault.Memory) ⊎ (fault ≡ Fault.Write)))
+    × PortBegun writer_old writer_new × (new.ledger ≡ old.ledger))
+    ⊎ (IsCrowdFault fault × ServesMany out service (λ count loss. count ≤ service.connections) old new
+    writer_old writer_new)
+
+-- B is the ledger behind some questions, which were answered one behind the other
+abbrev pub IsFoundAfterMany : Ledger → Ledger → Type 0
+IsFoundAfterMany first B = (said : List (Said Part Answer)) × (last : Snapshot) × AreSaid http (going_at first) said last
+    × (B ≡ last.ledger)

@@ -17,7 +17,7 @@ use Rattle.stockdesk.specs.declared.sheet.SheetOf.{SheetOf}
 use Rattle.stockdesk.specs.declared.tasks.Task.{Task}
 use Rattle.stockdesk.specs.declared.tasks.Task.TheVariants.{InFile, InMemory, Init, Upgrade}
 use Rattle.stockdesk.specs.declared.work.Work.{Work}
-use Rattle.stockdesk.specs.declared.work.Work.TheVariants.{Requests, Script, Serve, Sheet}
+use Rattle.stockdesk.specs.declared.work.Work.TheVariants.{Requests, Script, Serve, ServeAtOnce, Sheet}
 
 -- ---- replies to requests
 
@@ -59,6 +59,7 @@ DoesWork Script s = (first : Ledger) × Good first × AnswersText first s
 DoesWork (Requests kind csv together) s = Keeps s.reader_old s.reader_new × PrintsReplies s
 DoesWork (Sheet of) s = Keeps s.reader_old s.reader_new × PrintsSheet of s
 DoesWork (Serve service) s = Keeps s.reader_old s.reader_new × PortTold s.writer_old s.writer_new
+DoesWork (ServeAtOnce service at_once) s = Keeps s.reader_old s.reader_new × PortTold s.writer_old s.writer_new
 
 -- the work is done in part: what was written is a beginning
 abbrev pub DoesWorkInPart : Work → Streams → Type 0
@@ -66,6 +67,7 @@ DoesWorkInPart Script s = (first : Ledger) × Good first × BeginsText first s
 DoesWorkInPart (Requests kind csv together) s = Keeps s.reader_old s.reader_new × PrintsRepliesInPart s
 DoesWorkInPart (Sheet of) s = Keeps s.reader_old s.reader_new × PrintsSheetInPart of s
 DoesWorkInPart (Serve service) s = Keeps s.reader_old s.reader_new × PortBegun s.writer_old s.writer_new
+DoesWorkInPart (ServeAtOnce service at_once) s = Keeps s.reader_old s.reader_new × PortBegun s.writer_old s.writer_new
 
 -- ---- tasks
 

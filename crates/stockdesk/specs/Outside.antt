@@ -1,5 +1,11 @@
 -- What a session meets outside: files of requests, and what listens at a port.
 use Rattle.std.specs.Prelude.{ℕ, List, Option}
+use Rattle.std.specs.declared.io.Read.{Ghosts as Read}
+use Rattle.std.specs.declared.io.Write.{Ghosts as Write}
+use Rattle.rounds.specs.Crowds.{Listening as Doors, listening_to}
+use Rattle.rounds.specs.declared.crowd.Crowd.{Ghosts as Crowd}
+use Rattle.rounds.specs.declared.stream.Stream.{Ghosts as Stream}
+use Rattle.stockdesk.specs.declared.listener.Listen.{Ghosts as Listen}
 
 -- What listens: a connection that may come, and one that is closed, each with what listens after that; and what is left
 -- to read of it, and was written to it.
@@ -22,13 +28,34 @@ pub record Paths (C : Type 0) : Type 1 where
 abbrev pub paths : {C : Type 0} → (opens : List ℕ → C → Type 0) → (C → Option (List ℕ)) → Paths C
 paths opens remaining = record { opens = opens; remaining = remaining }
 
--- What is outside: the files at paths; what may listen where a port was asked for, at the one that it got; and the
--- connections that come to that.
-pub record Outside (C L R W : Type 0) : Type 1 where
+-- What many come to at once: who comes and is closed, and what is left to read of a connection, and was written to it.
+pub record Gathering (G T : Type 0) : Type 1 where
+  pub doors : Doors G T
+  pub remaining : T → Option (List ℕ)
+  pub contents : T → Option (List ℕ)
+
+-- a kind of crowd, of a kind of stream
+abbrev pub gathering : {G T : Type 0} → Crowd G T → Stream T → Gathering G T
+gathering crowd stream =
+    record { doors = listening_to crowd; remaining = stream.remaining; contents = stream.contents }
+
+-- What is outside: the files at paths; what may listen where a port was asked for, at the one that it got; the
+-- connections that come to that, one after the other; and likewise what many may come to at once, and they.
+pub record Outside (C L R W G T : Type 0) : Type 1 where
   pub files : Paths C
   pub listens : (asked got : ℕ) → L → Type 0
   pub connections : Listening L R W
+  pub gathers : (asked got : ℕ) → G → Type 0
+  pub crowd : Gathering G T
 
-abbrev pub outside : {C L R W : Type 0} → Paths C → (listens : (asked got : ℕ) → L → Type 0) → Listening L R W
-    → Outside C L R W
-outside files listens connections = record { files = files; listens = listens; connections = connections }
+-- what a machine has, by what its files, listeners and crowds are
+abbrev pub outside : {C L R W G T : Type 0} → (opens : List ℕ → C → Type 0) → (listens : (asked got : ℕ) → L → Type 0)
+    → (gathers : (asked got : ℕ) → G → Type 0) → Read C → Listen L R W → Read R → Write W → Crowd G T → Stream T
+    → Outside C L R W G T
+outside opens listens gathers csv listener reader writer crowd stream = record {
+  files = paths opens csv.remaining;
+  listens = listens;
+  connections = listening listener.comes listener.closes reader.remaining writer.contents;
+  gathers = gathers;
+  crowd = gathering crowd stream;
+}

@@ -1,16 +1,17 @@
 -- The words that the program takes, and the task that they ask for, as `clap` sees them.
-use Rattle.std.specs.Prelude.{◌≡◌, ◌≢◌, ◌<◌, ◌≤◌, ◌∷◌, ◌^◌, [], Bool, List, None, Option, Some, false, true, codes, decimal}
+use Rattle.std.specs.Prelude.{◌≡◌, ◌≢◌, ◌<◌, ◌≤◌, ◌∷◌, ◌^◌, [], Bool, List, None, Option, Some, false, true, codes, decimal, ℕ}
 use Rattle.std.specs.Int.NonZero.{non_zero_usize_get}
 use Rattle.std.specs.declared.num.NonZeroUsize.{NonZeroUsize}
 use Rattle.clap.specs.Words.{App, Row, Rule, Text, first_of, new_app, new_rule, with_rule, with_subcommand}
 use Rattle.clap.specs.declared.builder.action.ArgAction.TheVariants.{Set}
 use Rattle.escrow.specs.Codes.{IsArticle, IsBranch}
+use Rattle.stockdesk.specs.declared.at_once.AtOnce.{AtOnce}
 use Rattle.stockdesk.specs.declared.loopback.Service.{Service}
 use Rattle.stockdesk.specs.declared.sheet.SheetOf.TheVariants.{Article, Branch}
 use Rattle.stockdesk.specs.declared.tasks.Task.{Task}
 use Rattle.stockdesk.specs.declared.tasks.Task.TheVariants.{InFile, InMemory, Init, Upgrade}
 use Rattle.stockdesk.specs.declared.work.Work.{Work}
-use Rattle.stockdesk.specs.declared.work.Work.TheVariants.{Requests, Script, Serve, Sheet}
+use Rattle.stockdesk.specs.declared.work.Work.TheVariants.{Requests, Script, Serve, ServeAtOnce, Sheet}
 use Rattle.stockdesk.specs.declared.requests.Kind.{Kind}
 use Rattle.stockdesk.specs.declared.requests.Kind.TheVariants.{Bounds, Deliveries, Orders}
 
@@ -67,8 +68,13 @@ abbrev pub article : App
 article = on_file (codes "article") (codes "ARTICLE")
 
 -- `serve FILE --port N --connections N`
+abbrev pub serve_in_turn : App
+serve_in_turn =
+    with_rule (with_rule (on_path (codes "serve")) (option true (codes "port"))) (option true (codes "connections"))
+
+-- `serve FILE --port N --connections N [--together N] [--clients N]`
 abbrev pub serve : App
-serve = with_rule (with_rule (on_path (codes "serve")) (option true (codes "port"))) (option true (codes "connections"))
+serve = with_rule (with_rule serve_in_turn (option false (codes "together"))) (option false (codes "clients"))
 
 -- `upgrade FILE`
 abbrev pub upgrade : App
@@ -97,17 +103,32 @@ pub record IsService (port connections : Text) (service : Service) : Type 0 wher
   pub some : 1 ≤ service.connections
   pub not_many : service.connections ≤ 1000000
 
+-- the word, where there is one, says how many, so many at the most
+abbrev pub AsksAtMost : ℕ → Option Text → Option NonZeroUsize → Type 0
+AsksAtMost limit None most = most ≡ None
+AsksAtMost limit (Some word) most = (count : NonZeroUsize) × (most ≡ Some count)
+    × (word ≡ decimal (non_zero_usize_get count)) × (non_zero_usize_get count ≤ limit)
+
+-- so many are carried out together, at most a thousand; without a word each is alone
+abbrev pub AsksTogether : Option Text → Option NonZeroUsize → Type 0
+AsksTogether word together = AsksAtMost 1000 word together
+
+-- the words are the numbers of a service of many at once, which are in their ranges
+pub record IsAtOnce (together : Text) (clients : Option Text) (at_once : AtOnce) : Type 0 where
+  pub together_is : AsksAtMost 1000 (Some together) (Some at_once.together)
+  pub clients_are : AsksAtMost 4000 clients at_once.clients
+
 -- the command that reads files of that kind
 abbrev pub command_of : Kind → Text
 command_of Orders = codes "orders"
 command_of Deliveries = codes "deliveries"
 command_of Bounds = codes "bounds"
 
--- the word says how many are carried out together, at most a thousand; without it each is alone
-abbrev pub AsksTogether : Option Text → Option NonZeroUsize → Type 0
-AsksTogether None together = together ≡ None
-AsksTogether (Some word) together = (most : NonZeroUsize) × (together ≡ Some most)
-    × (word ≡ decimal (non_zero_usize_get most)) × (non_zero_usize_get most ≤ 1000)
+-- what was found behind the command asks for that port, and so many connections
+abbrev pub AsksForService : List Row → Service → Type 0
+AsksForService rows service = (port : Text) × (connections : Text)
+    × (first_of (codes "port") rows ≡ Some port) × (first_of (codes "connections") rows ≡ Some connections)
+    × IsService port connections service
 
 -- a command, and what was found behind it beside the file of a desk, ask for this work
 abbrev pub AsksForWork : Text → List Row → Work → Type 0
@@ -118,9 +139,11 @@ AsksForWork name rows (Sheet (Branch branch)) =
     (name ≡ codes "sheet") × (first_of (codes "BRANCH") rows ≡ Some branch)
 AsksForWork name rows (Sheet (Article article)) =
     (name ≡ codes "article") × (first_of (codes "ARTICLE") rows ≡ Some article)
-AsksForWork name rows (Serve service) = (name ≡ codes "serve") × ((port : Text) × (connections : Text)
-    × (first_of (codes "port") rows ≡ Some port) × (first_of (codes "connections") rows ≡ Some connections)
-    × IsService port connections service)
+AsksForWork name rows (Serve service) = (name ≡ codes "serve") × (first_of (codes "together") rows ≡ None)
+    × (first_of (codes "clients") rows ≡ None) × AsksForService rows service
+AsksForWork name rows (ServeAtOnce service at_once) = (name ≡ codes "serve") × ((together : Text)
+    × (first_of (codes "together") rows ≡ Some together)
+    × IsAtOnce together (first_of (codes "clients") rows) at_once) × AsksForService rows service
 
 -- the first word behind the program's name, and what was found behind it, ask for this task
 abbrev pub AsksFor : Text → List Row → Task → Type 0
@@ -145,6 +168,11 @@ abbrev pub together_words : Option NonZeroUsize → List Text
 together_words None = []
 together_words (Some most) = codes "--together" ∷ decimal (non_zero_usize_get most) ∷ []
 
+-- so many at once
+abbrev pub clients_words : Option NonZeroUsize → List Text
+clients_words None = []
+clients_words (Some most) = codes "--clients" ∷ decimal (non_zero_usize_get most) ∷ []
+
 -- the words for work on the desk in a file
 abbrev pub work_words : Text → Work → List Text
 work_words path Script = codes "run" ∷ path ∷ []
@@ -153,6 +181,9 @@ work_words path (Sheet (Branch branch)) = codes "sheet" ∷ path ∷ branch ∷ 
 work_words path (Sheet (Article article)) = codes "article" ∷ path ∷ article ∷ []
 work_words path (Serve service) = codes "serve" ∷ path ∷ codes "--port" ∷ decimal service.port
     ∷ codes "--connections" ∷ decimal service.connections ∷ []
+work_words path (ServeAtOnce service at_once) = codes "serve" ∷ path ∷ codes "--port" ∷ decimal service.port
+    ∷ codes "--connections" ∷ decimal service.connections
+    ∷ codes "--together" ∷ decimal (non_zero_usize_get at_once.together) ∷ clients_words at_once.clients
 
 -- the words for a task, behind the program's name
 abbrev pub task_words : Task → List Text
@@ -161,10 +192,18 @@ task_words (Upgrade path) = codes "upgrade" ∷ path.now ∷ []
 task_words InMemory = codes "run" ∷ []
 task_words (InFile path work) = work_words path.now work
 
--- from 1 to a thousand, where it is said how many
+-- from 1 to the limit, where it is said how many
+abbrev pub AreAtMost : ℕ → Option NonZeroUsize → Type 0
+AreAtMost limit None = Unit {0}
+AreAtMost limit (Some most) = (1 ≤ non_zero_usize_get most) × (non_zero_usize_get most ≤ limit)
+
+-- from 1 to a thousand
 abbrev pub IsFew : Option NonZeroUsize → Type 0
-IsFew None = Unit {0}
-IsFew (Some most) = (1 ≤ non_zero_usize_get most) × (non_zero_usize_get most ≤ 1000)
+IsFew most = AreAtMost 1000 most
+
+-- the numbers of the service are in range
+abbrev pub IsServiceToAsk : Service → Type 0
+IsServiceToAsk service = (service.port < 2 ^ 16) × (1 ≤ service.connections) × (service.connections ≤ 1000000)
 
 -- the work can be asked for: the name of its file is no option, its code has the form, and its numbers are in range
 abbrev pub IsWorkToAsk : Work → Type 0
@@ -172,7 +211,9 @@ IsWorkToAsk Script = Unit {0}
 IsWorkToAsk (Requests kind csv together) = IsNoOption csv.now × IsFew together
 IsWorkToAsk (Sheet (Branch branch)) = IsBranch branch
 IsWorkToAsk (Sheet (Article article)) = IsArticle article
-IsWorkToAsk (Serve service) = (service.port < 2 ^ 16) × (1 ≤ service.connections) × (service.connections ≤ 1000000)
+IsWorkToAsk (Serve service) = IsServiceToAsk service
+IsWorkToAsk (ServeAtOnce service at_once) = IsServiceToAsk service × IsFew (Some at_once.together)
+    × AreAtMost 4000 at_once.clients
 
 -- the task can be asked for, likewise
 abbrev pub IsToAsk : Task → Type 0
@@ -187,6 +228,14 @@ AreWordsFor task words = (name : Text) × (words ≡ name ∷ task_words task) �
 
 -- ---- which words are taken (private)
 
+-- what was found behind the command gives a service, of one connection after the other or of many at once
+pub record TakesService (rows : List Row) (Taken : Type 0) : Type 0 where
+  pub in_turn : (service : Service) → first_of (codes "together") rows ≡ None → first_of (codes "clients") rows ≡ None
+      → AsksForService rows service → Taken
+  pub at_once : (together : Text) (service : Service) (at_once : AtOnce) → first_of (codes "together") rows ≡ Some together
+      → IsAtOnce together (first_of (codes "clients") rows) at_once → IsFew (Some at_once.together)
+      → AreAtMost 4000 at_once.clients → AsksForService rows service → Taken
+
 -- a command, and what was found behind it, give work
 pub record TakesWork (name : Text) (rows : List Row) (Taken : Type 0) : Type 0 where
   pub of_script : name ≡ codes "run" → Taken
@@ -197,9 +246,7 @@ pub record TakesWork (name : Text) (rows : List Row) (Taken : Type 0) : Type 0 w
       → IsBranch branch → Taken
   pub of_article : (article : Text) → name ≡ codes "article" → first_of (codes "ARTICLE") rows ≡ Some article
       → IsArticle article → Taken
-  pub of_service : (port connections : Text) (service : Service) → name ≡ codes "serve"
-      → first_of (codes "port") rows ≡ Some port → first_of (codes "connections") rows ≡ Some connections
-      → IsService port connections service → Taken
+  pub of_service : name ≡ codes "serve" → TakesService rows Taken
 
 -- a command with the file of a desk gives a task
 pub record TakesOn (name : Text) (rows : List Row) (Taken : Type 0) : Type 0 where

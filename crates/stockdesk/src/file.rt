@@ -18,7 +18,7 @@ ghost use Rattle.keep.specs.Description.{IsOlder};
 ghost use Rattle.keep.specs.Old.{HoldsOld, IsOldContent, upgraded};
 ghost use Rattle.keep.specs.Starts.{StartsOf, StartsOld, StartsWith};
 ghost use Rattle.stockdesk.specs.Closing.{LeavesInFile};
-ghost use Rattle.stockdesk.specs.Outside.{listening, outside, paths};
+ghost use Rattle.stockdesk.specs.Outside.{outside};
 ghost use Rattle.stockdesk.specs.Sessions.{HoldsOnly, IsNewDesk, IsNotOpened, StartsAsDesk, session_in};
 ghost use Rattle.stockdesk.specs.Work.{GoesOnFrom, WorkInPart, WorkWhole};
 
@@ -163,14 +163,12 @@ pub fn session<S: Start, M: Machine, R: Read, W: Write>(
     reader: &mut R,
     writer: &mut W,
 ) -> Result<(FileKeep<S>, Result<(), Fault>), Fault>
-    ensures whole { IfOk result (λ r. OnOk r.1 (WorkWhole (outside (paths (M.opens machine.now) M.Csv.remaining)
-        (M.listens machine.now) (listening M.Listener.comes M.Listener.closes M.Listener.Reader.remaining
-        M.Listener.Writer.contents))
+    ensures whole { IfOk result (λ r. OnOk r.1 (WorkWhole (outside (M.opens machine.now) (M.listens machine.now) (M.gathers machine.now) M.Csv.Read M.Listener.Listen
+        M.Listener.Reader.Read M.Listener.Writer.Write M.Crowd.Crowd M.Crowd.Stream.Stream)
         (session_in ⟦<FileKeep<S> as Keep>⟧ (StartsWith (image_at S.Start)) r.0) work.now
         (streams (R.remaining reader.old) (R.remaining reader.new) (W.contents writer.old) (W.contents writer.new)))) }
-    ensures cut { IfOk result (λ r. IfErr r.1 (λ fault. WorkInPart (outside (paths (M.opens machine.now) M.Csv.remaining)
-        (M.listens machine.now) (listening M.Listener.comes M.Listener.closes M.Listener.Reader.remaining
-        M.Listener.Writer.contents))
+    ensures cut { IfOk result (λ r. IfErr r.1 (λ fault. WorkInPart (outside (M.opens machine.now) (M.listens machine.now) (M.gathers machine.now) M.Csv.Read M.Listener.Listen
+        M.Listener.Reader.Read M.Listener.Writer.Write M.Crowd.Crowd M.Crowd.Stream.Stream)
         (session_in ⟦<FileKeep<S> as Keep>⟧ (StartsWith (image_at S.Start)) r.0) work.now fault
         (streams (R.remaining reader.old) (R.remaining reader.new) (W.contents writer.old) (W.contents writer.new)))) }
     // what is of an older version is told as that, and as nothing else but want of memory or the store

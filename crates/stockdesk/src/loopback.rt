@@ -1,19 +1,19 @@
 //! A desk, served to connections on this machine.
 
-ghost use Rattle.std.specs.Prelude.{◌≡◌, ◌≤◌, ◌⊎◌, false, Err, IfErr, IfOk, List, length, OnErr, OnOk};
+ghost use Rattle.std.specs.Prelude.{◌≡◌, ◌≤◌, ◌⊎◌, false, Err, IfErr, IfOk, List, length, Ok, OnErr, OnOk, ℕ};
 ghost use Rattle.desk.specs.Desk.{Goes, TellsStop, desk_state, snapshot};
 ghost use Rattle.desk.specs.Streams.{Streams};
 ghost use Rattle.stockdesk.specs.Connections.{AreServed, Listens, Pass, PortBegun, TellsPort, listening_line};
 ghost use Rattle.stockdesk.specs.Outside.{listening};
 
+use crate::listener::Listen;
 use crate::machine::Machine;
 use crate::session::Fault;
 use desk::Desk;
 use itoa::Buffer;
 use keep::Keep;
 use std::alloc::{AllocError, Global};
-use std::io::{self, Read, Write};
-use std::net::{TcpListener, TcpStream};
+use std::io::{self, ErrorKind, Write};
 use words::write_whole;
 
 /// Where a desk is served, port 0 being any that is free, and to how many connections.
@@ -21,50 +21,6 @@ use words::write_whole;
 pub struct Service {
     pub port: u16,
     pub connections: u32,
-}
-
-/// What connections come to.
-pub trait Listen {
-    type Reader: Read + Drop;
-
-    type Writer: Write + Drop;
-
-    /// A connection that may come, and what listens after that.
-    ghost comes: { Self → Self.Reader → Self.Writer → Self → Type 0 };
-
-    /// A connection that is closed as it stands, and what listens after that.
-    ghost closes: { Self → Self.Reader → Self.Writer → Self → Type 0 };
-
-    /// Waits for the next connection.
-    fn next_connection(&mut self) -> io::Result<(Self::Reader, Self::Writer)>
-        ensures { IfOk result (λ connection. comes self.old connection.0 connection.1 self.new) };
-
-    /// Closes a connection, as it stands.
-    fn close(&mut self, reader: Self::Reader, writer: Self::Writer)
-        ensures { closes self.old reader writer self.new };
-}
-
-impl Listen for TcpListener {
-    type Reader = TcpStream;
-
-    type Writer = TcpStream;
-
-    // no clause knows what a socket brings or takes
-    ghost comes = { λ old reader writer new. Unit {0} };
-
-    ghost closes = { λ old reader writer new. Unit {0} };
-
-    fn next_connection(&mut self) -> io::Result<(TcpStream, TcpStream)> {
-        let (stream, _) = self.accept()?;
-        // an answer that waits for others to join it is only later
-        let _ = stream.set_nodelay(true);
-        Ok((stream.try_clone()?, stream))
-    }
-
-    fn close(&mut self, reader: TcpStream, writer: TcpStream) {
-        drop(reader);
-        drop(writer);
-    }
 }
 
 /// Serves so many connections on a desk that is not stopped, each as it comes, one after the other, and closes each
@@ -130,6 +86,28 @@ fn tell_port<W: Write>(alloc: Global, port: u16, writer: &mut W) -> Result<(), F
     }
 }
 
+/// What listens, where its port was had and is told.
+pub fn tell_listener<L: Drop, W: Write>(
+    alloc: Global,
+    had: io::Result<(L, u16)>,
+    writer: &mut W,
+) -> Result<L, Fault>
+    ensures whole { IfOk result (λ listener. (port : ℕ) × (had ≡ Ok (listener, port))
+        × TellsPort port (W.contents writer.old) (W.contents writer.new)) }
+    ensures beginning { OnErr result (PortBegun (W.contents writer.old) (W.contents writer.new)) }
+    ensures fault { IfErr result (λ fault. (fault ≡ Fault.Socket) ⊎ ((fault ≡ Fault.Memory) ⊎ (fault ≡ Fault.Write))) }
+{
+    let (listener, port) = match had {
+        Ok(had) => had,
+        Err(error) if error.kind() == ErrorKind::OutOfMemory => return Err(Fault::Memory),
+        Err(_) => return Err(Fault::Socket),
+    };
+    match tell_port(alloc, port, writer) {
+        Ok(()) => Ok(listener),
+        Err(fault) => Err(fault),
+    }
+}
+
 /// Listens at a port of the machine, and tells the one that it got.
 pub fn listen_at<M: Machine, W: Write>(
     rt: &HostRuntime,
@@ -142,11 +120,5 @@ pub fn listen_at<M: Machine, W: Write>(
     ensures beginning { OnErr result (PortBegun (W.contents writer.old) (W.contents writer.new)) }
     ensures fault { IfErr result (λ fault. (fault ≡ Fault.Socket) ⊎ ((fault ≡ Fault.Memory) ⊎ (fault ≡ Fault.Write))) }
 {
-    let Ok((listener, got)) = machine.listen(rt, port) else {
-        return Err(Fault::Socket);
-    };
-    match tell_port(rt.alloc(), got, writer) {
-        Ok(()) => Ok(listener),
-        Err(fault) => Err(fault),
-    }
+    tell_listener(rt.alloc(), machine.listen(rt, port), writer)
 }

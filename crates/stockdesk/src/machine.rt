@@ -1,6 +1,8 @@
 //! What a session asks of the machine.
 
-use crate::loopback::Listen;
+use crate::crowd::Loopback;
+use crate::listener::Listen;
+use rounds::Crowd;
 use std::fs::File;
 use std::io::{self, Read};
 use std::net::{Ipv4Addr, SocketAddr, TcpListener};
@@ -13,11 +15,16 @@ pub trait Machine {
 
     type Listener: Listen + Drop;
 
+    type Crowd: Crowd + Drop;
+
     /// A file that may open at a path.
     ghost opens: { Self → List ℕ → Self.Csv → Type 0 };
 
     /// What may listen where a port was asked for, at the port that it got.
     ghost listens: { Self → ℕ → ℕ → Self.Listener → Type 0 };
+
+    /// What many may come to at once where a port was asked for, at the port that it got.
+    ghost gathers: { Self → ℕ → ℕ → Self.Crowd → Type 0 };
 
     /// Opens a file to read it.
     fn open_csv(&self, rt: &HostRuntime, path: &str) -> io::Result<Self::Csv>
@@ -26,6 +33,10 @@ pub trait Machine {
     /// Listens at a port, or for 0 at any that is free, and tells which it got.
     fn listen(&self, rt: &HostRuntime, port: u16) -> io::Result<(Self::Listener, u16)>
         ensures { IfOk result (λ got. listens self.now port got.1 got.0) };
+
+    /// Listens likewise, to many at once.
+    fn gather(&self, rt: &HostRuntime, port: u16) -> io::Result<(Self::Crowd, u16)>
+        ensures { IfOk result (λ got. gathers self.now port got.1 got.0) };
 }
 
 /// The machine that the program runs on. It listens for connections from itself alone.
@@ -36,10 +47,14 @@ impl Machine for Host {
 
     type Listener = TcpListener;
 
+    type Crowd = Loopback;
+
     // no clause knows what a path names, nor what port is free
     ghost opens = { λ machine path csv. Unit {0} };
 
     ghost listens = { λ machine asked got listener. Unit {0} };
+
+    ghost gathers = { λ machine asked got crowd. Unit {0} };
 
     fn open_csv(&self, rt: &HostRuntime, path: &str) -> io::Result<File> {
         File::open(rt, path)
@@ -49,5 +64,9 @@ impl Machine for Host {
         let listener = TcpListener::bind(rt, SocketAddr::from((Ipv4Addr::LOCALHOST, port)))?;
         let address = listener.local_addr()?;
         Ok((listener, address.port()))
+    }
+
+    fn gather(&self, rt: &HostRuntime, port: u16) -> io::Result<(Loopback, u16)> {
+        Loopback::listen(rt, port)
     }
 }

@@ -11,7 +11,10 @@ ghost use Rattle.stockdesk.specs.Sessions.{IsBadFile, IsNoDesk, IsUnbegun};
 ghost use Rattle.stockdesk.specs.Tasks.{AreWordsFor};
 ghost use Rattle.stockdesk.specs.declared.tasks.Task.{Task};
 
+mod at_once;
+mod crowd;
 mod file;
+mod listener;
 mod loopback;
 mod machine;
 mod memory;

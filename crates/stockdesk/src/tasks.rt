@@ -6,11 +6,13 @@ ghost use Rattle.clap.specs.Words.{App, Row, Text, app_of, first_of, found_of, k
 ghost use Rattle.clap.specs.declared.builder.command.Command.TheViews.{out-Command as fields_of};
 ghost use Rattle.escrow.specs.Codes.{IsArticle, IsBranch};
 ghost use Rattle.std.specs.declared.num.NonZeroUsize.{NonZeroUsize};
-ghost use Rattle.stockdesk.specs.Tasks.{AreWordsFor, Asks, AsksFor, AsksForWork, AsksTogether, IsFew, IsService, Takes, TakesOn, TakesWork, article, bounds, command_of, deliveries, on_file, on_path, on_requests, option, orders, run, scripts, serve, sheet, stockdesk, upgrade, with_both};
+ghost use Rattle.stockdesk.specs.Tasks.{AreAtMost, AreWordsFor, Asks, AsksAtMost, AsksFor, AsksForService, AsksForWork, AsksTogether, IsAtOnce, IsFew, IsService, Takes, TakesOn, TakesService, TakesWork, article, bounds, command_of, deliveries, on_file, on_path, on_requests, option, orders, run, scripts, serve, serve_in_turn, sheet, stockdesk, upgrade, with_both};
+ghost use Rattle.stockdesk.specs.declared.at_once.AtOnce.{AtOnce};
 ghost use Rattle.stockdesk.specs.declared.loopback.Service.{Service};
 ghost use Rattle.stockdesk.specs.declared.requests.Kind.{Kind};
 ghost use Rattle.stockdesk.specs.declared.tasks.Task.{Task};
 
+use crate::at_once::AtOnce;
 use crate::loopback::Service;
 use crate::requests::Kind;
 use crate::sheet::SheetOf;
@@ -27,6 +29,9 @@ const MAX_CONNECTIONS: u32 = 1_000_000;
 
 /// The most requests that are carried out together.
 const MAX_TOGETHER: usize = 1_000;
+
+/// The most connections that may be there at once.
+const MAX_CLIENTS: usize = 4_000;
 
 /// What is asked for.
 #[derive(Clone, Copy)]
@@ -184,17 +189,31 @@ fn with_sheets<'a>(alloc: Global, command: Command<'a>) -> Result<Command<'a>, A
     )
 }
 
-/// `serve`, with its file and its two options.
-fn serve_command<'a>(alloc: Global) -> Result<Command<'a>, AllocError>
-    ensures app { IfOk result (λ command. app_of command ≡ serve) }
+/// `serve`, with its file and the two options that are always there.
+fn serve_in_turn_command<'a>(alloc: Global) -> Result<Command<'a>, AllocError>
+    ensures app { IfOk result (λ command. app_of command ≡ serve_in_turn) }
     ensures local { IfOk result (λ command. (fields_of command).has_globals ≡ false) }
 {
-    let about = "Answers HTTP on 127.0.0.1, one connection after the other";
+    let about = "Answers HTTP on 127.0.0.1, one connection after the other or many at once";
     let command = path_command(alloc, "serve", about, "The file of a desk")?;
     let help = "The port on 127.0.0.1, 0 to 65535; 0 is any that is free";
     let command = with_option(alloc, command, "port", true, help)?;
     let help = "How many connections are served before it ends, 1 to 1000000";
     with_option(alloc, command, "connections", true, help)
+}
+
+/// `serve`, with its file and its four options.
+fn serve_command<'a>(alloc: Global) -> Result<Command<'a>, AllocError>
+    ensures app { IfOk result (λ command. app_of command ≡ serve) }
+    ensures local { IfOk result (λ command. (fields_of command).has_globals ≡ false) }
+{
+    let command = serve_in_turn_command(alloc)?;
+    let help =
+        "Serves many connections at once: so many messages at the most, 1 to 1000, are kept together, and their answers are written when all of them are kept";
+    let command = with_option(alloc, command, "together", false, help)?;
+    let help =
+        "With --together, how many connections may be open at once, 1 to 4000; 1000 without it";
+    with_option(alloc, command, "clients", false, help)
 }
 
 /// Adds the commands that serve connections and upgrade a desk.
@@ -288,30 +307,31 @@ fn kind_named(name: &str) -> Option<Kind>
     }
 }
 
-/// How many requests a word says are carried out together.
-fn count_named(word: &str) -> Option<NonZeroUsize>
-    ensures named { IfSome result (λ most. (word.now ≡ decimal (non_zero_usize_get most))
-        × (non_zero_usize_get most ≤ 1000)) }
-    ensures taken { (count : ℕ) → 1 ≤ count → count ≤ 1000 → word.now ≡ decimal count → IsSome result }
+/// How many a word says, which are so many at the most.
+fn count_named(word: &str, most: usize) -> Option<NonZeroUsize>
+    requires { most ≤ 4000 }
+    ensures named { IfSome result (λ count. (word.now ≡ decimal (non_zero_usize_get count))
+        × (non_zero_usize_get count ≤ most)) }
+    ensures taken { (count : ℕ) → 1 ≤ count → count ≤ most → word.now ≡ decimal count → IsSome result }
 {
     let number = read_number(word.as_bytes())?;
     let count = usize::try_from(number).ok()?;
-    if count <= MAX_TOGETHER {
+    if count <= most {
         NonZeroUsize::new(count)
     } else {
         None
     }
 }
 
-/// How many requests are to be carried out together, if that is asked for; none where the word behind it is no such
-/// number.
-fn together_asked(word: Option<&str>) -> Option<Option<NonZeroUsize>>
-    ensures named { IfSome result (AsksTogether (option_map (λ s. s.now) word.entry)) }
-    ensures taken { (together : Option NonZeroUsize) → AsksTogether (option_map (λ s. s.now) word.entry) together
-        → IsFew together → IsSome result }
+/// How many are asked for, if that is asked for, so many at the most; none where the word is no such number.
+fn most_asked(word: Option<&str>, limit: usize) -> Option<Option<NonZeroUsize>>
+    requires { limit ≤ 4000 }
+    ensures named { IfSome result (AsksAtMost limit (option_map (λ s. s.now) word.entry)) }
+    ensures taken { (most : Option NonZeroUsize) → AsksAtMost limit (option_map (λ s. s.now) word.entry) most
+        → AreAtMost limit most → IsSome result }
 {
     match word {
-        Some(word) => Some(Some(count_named(word)?)),
+        Some(word) => Some(Some(count_named(word, limit)?)),
         None => Some(None),
     }
 }
@@ -336,17 +356,42 @@ fn article_sheet_found<'a>(found: &ArgMatches<'a>) -> Option<Work<'a>>
     Some(Work::Sheet(article_named(article)?))
 }
 
-/// The service that is asked for; none where a word behind it is no such number.
-fn service_found<'a>(found: &ArgMatches<'a>) -> Option<Work<'a>>
-    ensures asked { IfSome result (AsksForWork (codes "serve") (rows_of (found_of found.now))) }
-    ensures taken { (port connections : Text) (service : Service)
-        → first_of (codes "port") (rows_of (found_of found.now)) ≡ Some port
-        → first_of (codes "connections") (rows_of (found_of found.now)) ≡ Some connections
-        → IsService port connections service → IsSome result }
+/// How many two words ask for at once.
+fn at_once_named(together: &str, clients: Option<&str>) -> Option<AtOnce>
+    ensures named { IfSome result (IsAtOnce together.now (option_map (λ s. s.now) clients.entry)) }
+    ensures taken { (at_once : AtOnce) → IsAtOnce together.now (option_map (λ s. s.now) clients.entry) at_once
+        → IsFew (Some at_once.together) → AreAtMost 4000 at_once.clients → IsSome result }
+{
+    let together = count_named(together, MAX_TOGETHER)?;
+    let clients = most_asked(clients, MAX_CLIENTS)?;
+    Some(AtOnce { together, clients })
+}
+
+/// The port and the number of connections that are asked for; none where a word behind them is no such number.
+fn service_found<'a>(found: &ArgMatches<'a>) -> Option<Service>
+    ensures asked { IfSome result (AsksForService (rows_of (found_of found.now))) }
+    ensures taken { (service : Service) → AsksForService (rows_of (found_of found.now)) service → IsSome result }
 {
     let port = word(found, "port")?;
     let connections = word(found, "connections")?;
-    Some(Work::Serve(service_named(port, connections)?))
+    service_named(port, connections)
+}
+
+/// The service that is asked for, of one connection after the other or of many at once; none where a word behind it is no such
+/// number, or tells how many may be there at once where they are served one after the other.
+fn serving_found<'a>(found: &ArgMatches<'a>) -> Option<Work<'a>>
+    ensures asked { IfSome result (AsksForWork (codes "serve") (rows_of (found_of found.now))) }
+    ensures taken { TakesService (rows_of (found_of found.now)) (IsSome result) }
+{
+    let service = service_found(found)?;
+    let clients = word(found, "clients");
+    match word(found, "together") {
+        Some(together) => Some(Work::ServeAtOnce(service, at_once_named(together, clients)?)),
+        None => match clients {
+            Some(_) => None,
+            None => Some(Work::Serve(service)),
+        },
+    }
 }
 
 /// The file of requests of a kind that is asked for; none where the word for how many together is no such number.
@@ -358,7 +403,7 @@ fn requests_found<'a>(kind: Kind, found: &ArgMatches<'a>) -> Option<Work<'a>>
         → IsSome result }
 {
     let csv = word(found, "CSV")?;
-    let together = together_asked(word(found, "together"))?;
+    let together = most_asked(word(found, "together"), MAX_TOGETHER)?;
     Some(Work::Requests(kind, csv, together))
 }
 
@@ -371,7 +416,7 @@ fn work_named<'a>(name: &str, found: &ArgMatches<'a>) -> Option<Work<'a>>
         "run" => Some(Work::Script),
         "sheet" => branch_sheet_found(found),
         "article" => article_sheet_found(found),
-        "serve" => service_found(found),
+        "serve" => serving_found(found),
         _ => requests_found(kind_named(name)?, found),
     }
 }

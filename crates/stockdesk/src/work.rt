@@ -6,10 +6,11 @@ ghost use Rattle.book.specs.Ledger.{Ledger};
 ghost use Rattle.book.specs.Rows.{Content, IsRowsOf};
 ghost use Rattle.desk.specs.Desk.{Goes, TellsStop, desk_state};
 ghost use Rattle.desk.specs.Streams.{streams};
-ghost use Rattle.stockdesk.specs.Outside.{listening, outside, paths};
+ghost use Rattle.stockdesk.specs.Outside.{outside};
 ghost use Rattle.stockdesk.specs.Sessions.{IsNoDesk, session_on};
-ghost use Rattle.stockdesk.specs.Work.{GoesOnFrom, WorkCut, WorkDone, WorkInPart, WorkWhole};
+ghost use Rattle.stockdesk.specs.Work.{Ends, GoesOnFrom, IsOnOneDesk, WorkCut, WorkDone, WorkInPart, WorkWhole};
 
+use crate::at_once::{AtOnce, serve_at_once};
 use crate::loopback::{Service, listen_at, serve_all};
 use crate::machine::Machine;
 use crate::requests::{Kind, answer_file};
@@ -29,12 +30,14 @@ pub enum Work<'a> {
     Requests(Kind, &'a str, Option<NonZeroUsize>),
     /// A sheet of it is written.
     Sheet(SheetOf),
-    /// It is served.
+    /// It is served, to one connection after the other.
     Serve(Service),
+    /// It is served to many connections at once.
+    ServeAtOnce(Service, AtOnce),
 }
 
-/// Does the work on a desk.
-fn work_on<K: Keep, M: Machine, R: Read, W: Write>(
+/// Does work on a desk that is lent for it.
+fn work_on_one<K: Keep, M: Machine, R: Read, W: Write>(
     rt: &HostRuntime,
     machine: &M,
     desk: &mut Desk<K>,
@@ -42,14 +45,13 @@ fn work_on<K: Keep, M: Machine, R: Read, W: Write>(
     reader: &mut R,
     writer: &mut W,
 ) -> Result<(), Fault>
-    requires { K.stopped desk.old.keep ≡ false }
-    ensures whole { OnOk result (WorkDone (outside (paths (M.opens machine.now) M.Csv.remaining)
-        (M.listens machine.now) (listening M.Listener.comes M.Listener.closes M.Listener.Reader.remaining
-        M.Listener.Writer.contents)) work.now (desk_state K.Keep desk.old) (desk_state K.Keep desk.new)
+    requires going { K.stopped desk.old.keep ≡ false }
+    requires one { IsOnOneDesk work.now }
+    ensures whole { OnOk result (WorkDone (outside (M.opens machine.now) (M.listens machine.now) (M.gathers machine.now) M.Csv.Read M.Listener.Listen
+        M.Listener.Reader.Read M.Listener.Writer.Write M.Crowd.Crowd M.Crowd.Stream.Stream) work.now (desk_state K.Keep desk.old) (desk_state K.Keep desk.new)
         (streams (R.remaining reader.old) (R.remaining reader.new) (W.contents writer.old) (W.contents writer.new))) }
-    ensures cut { IfErr result (λ fault. WorkCut (outside (paths (M.opens machine.now) M.Csv.remaining)
-        (M.listens machine.now) (listening M.Listener.comes M.Listener.closes M.Listener.Reader.remaining
-        M.Listener.Writer.contents)) work.now fault (desk_state K.Keep desk.old) (desk_state K.Keep desk.new)
+    ensures cut { IfErr result (λ fault. WorkCut (outside (M.opens machine.now) (M.listens machine.now) (M.gathers machine.now) M.Csv.Read M.Listener.Listen
+        M.Listener.Reader.Read M.Listener.Writer.Write M.Crowd.Crowd M.Crowd.Stream.Stream) work.now fault (desk_state K.Keep desk.old) (desk_state K.Keep desk.new)
         (streams (R.remaining reader.old) (R.remaining reader.new) (W.contents writer.old) (W.contents writer.new))) }
     ensures desk { IfErr result (λ fault. ¬ IsNoDesk fault) }
     ensures stop { TellsStop (result ≡ Err Fault.Store) (desk_state K.Keep desk.old) (desk_state K.Keep desk.new) }
@@ -64,6 +66,7 @@ fn work_on<K: Keep, M: Machine, R: Read, W: Write>(
             desk.is_stopped();
             write_sheet(rt.alloc(), desk.book(), of, writer)
         }
+        Work::ServeAtOnce(_, _) => unreachable!(),
         Work::Serve(service) => {
             desk.is_stopped();
             match listen_at(rt, machine, service.port, writer) {
@@ -72,6 +75,32 @@ fn work_on<K: Keep, M: Machine, R: Read, W: Write>(
             }
         }
     }
+}
+
+/// Does the work on a desk, which comes back as its keeper.
+fn work_on<K: Keep, M: Machine, R: Read, W: Write>(
+    rt: &HostRuntime,
+    machine: &M,
+    desk: Desk<K>,
+    work: &Work<'_>,
+    reader: &mut R,
+    writer: &mut W,
+) -> (K, Result<(), Fault>)
+    requires going { K.stopped desk.keep ≡ false }
+    ensures { Ends K.Keep result desk
+        (λ old new. WorkDone (outside (M.opens machine.now) (M.listens machine.now) (M.gathers machine.now) M.Csv.Read M.Listener.Listen
+        M.Listener.Reader.Read M.Listener.Writer.Write M.Crowd.Crowd M.Crowd.Stream.Stream) work.now old new
+        (streams (R.remaining reader.old) (R.remaining reader.new) (W.contents writer.old) (W.contents writer.new)))
+        (λ fault old new. WorkCut (outside (M.opens machine.now) (M.listens machine.now) (M.gathers machine.now) M.Csv.Read M.Listener.Listen
+        M.Listener.Reader.Read M.Listener.Writer.Write M.Crowd.Crowd M.Crowd.Stream.Stream) work.now fault old new
+        (streams (R.remaining reader.old) (R.remaining reader.new) (W.contents writer.old) (W.contents writer.new))) }
+{
+    if let Work::ServeAtOnce(service, at_once) = work {
+        return serve_at_once(rt, machine, desk, service, at_once, writer);
+    }
+    let mut desk = desk;
+    let ended = work_on_one(rt, machine, &mut desk, work, reader, writer);
+    (desk.into_keep(), ended)
 }
 
 /// Opens the desk that a keeper holds, and does the work on it. The keeper comes back as the session leaves it.
@@ -89,13 +118,11 @@ pub fn session<K: Keep, M: Machine, R: Read, W: Write>(
     reader: &mut R,
     writer: &mut W,
 ) -> (K, Result<(), Fault>)
-    ensures whole { OnOk result.1 (WorkWhole (outside (paths (M.opens machine.now) M.Csv.remaining)
-        (M.listens machine.now) (listening M.Listener.comes M.Listener.closes M.Listener.Reader.remaining
-        M.Listener.Writer.contents)) (session_on K.Keep keep result.0) work.now
+    ensures whole { OnOk result.1 (WorkWhole (outside (M.opens machine.now) (M.listens machine.now) (M.gathers machine.now) M.Csv.Read M.Listener.Listen
+        M.Listener.Reader.Read M.Listener.Writer.Write M.Crowd.Crowd M.Crowd.Stream.Stream) (session_on K.Keep keep result.0) work.now
         (streams (R.remaining reader.old) (R.remaining reader.new) (W.contents writer.old) (W.contents writer.new))) }
-    ensures cut { IfErr result.1 (λ fault. WorkInPart (outside (paths (M.opens machine.now) M.Csv.remaining)
-        (M.listens machine.now) (listening M.Listener.comes M.Listener.closes M.Listener.Reader.remaining
-        M.Listener.Writer.contents)) (session_on K.Keep keep result.0) work.now fault
+    ensures cut { IfErr result.1 (λ fault. WorkInPart (outside (M.opens machine.now) (M.listens machine.now) (M.gathers machine.now) M.Csv.Read M.Listener.Listen
+        M.Listener.Reader.Read M.Listener.Writer.Write M.Crowd.Crowd M.Crowd.Stream.Stream) (session_on K.Keep keep result.0) work.now fault
         (streams (R.remaining reader.old) (R.remaining reader.new) (W.contents writer.old) (W.contents writer.new))) }
     // what is of an older version is told as that, and as nothing else but want of memory or the store
     ensures old { K.is_honest result.0 → K.stopped keep ≡ false → K.is_old keep → (result.1 ≡ Err Fault.OldVersion)
@@ -107,10 +134,9 @@ pub fn session<K: Keep, M: Machine, R: Read, W: Write>(
         → K.leaves keep (x ∷ []) → GoesOnFrom (session_on K.Keep keep result.0) work.now result.1 A
         (streams (R.remaining reader.old) (R.remaining reader.new) (W.contents writer.old) (W.contents writer.new)) }
 {
-    let mut desk = match Desk::open(rt.alloc(), keep) {
+    let desk = match Desk::open(rt.alloc(), keep) {
         Ok(desk) => desk,
         Err((fault, keep)) => return (keep, Err(Fault::from(fault))),
     };
-    let ended = work_on(rt, machine, &mut desk, work, reader, writer);
-    (desk.into_keep(), ended)
+    work_on(rt, machine, desk, work, reader, writer)
 }

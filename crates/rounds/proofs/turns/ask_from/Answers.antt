@@ -17,7 +17,7 @@ loop-place-init g c = record {
 
 pub loop-place-preserved : goal.loop-place-preserved
 loop-place-preserved g c =
-    let talk = speaks g.D.Dialogue.language g.D.Dialogue.has_found g.D.Dialogue.asks g.S.Stream.remaining g.S.Stream.contents in
+    let talk = speaks g.D.Dialogue g.S.Stream in
     let lines = c.loop-place.lines in
     let p = c.loop-place.place in
     let turn = c.turn_at-is_answered in
@@ -25,8 +25,8 @@ loop-place-preserved g c =
     let is_there : slice_get lines p ≡ Some v = slice_get-get_or lines p c.index-lines-place.result (omega (arith, c.loop-place-test.true)) in
     record {
       seats = each_on SameAt seat_on _ _ _ c.loop-place.invariant.seats
-          (each_set SameAt seat_still lines p v turn.new.line is_there (turn_seat talk v turn.new.line _ _ turn.ensures.turn));
+          (each_set SameAt seat_still lines p v turn.new.line is_there (turn_seat talk turn.result v turn.new.line _ _ turn.ensures.turn));
       asked = λ heard start round.
-          turn_more talk start _ _ lines heard p (c.loop-place.invariant.asked heard start round) v turn.new.line is_there turn.ensures.turn;
+          turn_more talk start _ _ lines heard p (c.loop-place.invariant.asked heard start round) turn.result v turn.new.line is_there turn.ensures.turn;
       off = off_on _ _ _ c.loop-place.invariant.off turn.ensures.off;
     }

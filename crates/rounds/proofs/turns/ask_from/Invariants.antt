@@ -10,7 +10,7 @@ abbrev pub invariant-loop-place : goal.invariant-loop-place
 invariant-loop-place g l = record {
   seats : AtEach SameAt l.initial.lines l.lines;
   asked : (heard : ℕ → Heard g.D.Dialogue.Asked g.D.Dialogue.Told) (start : Snapshot)
-      → InRound (speaks g.D.Dialogue.language g.D.Dialogue.has_found g.D.Dialogue.asks g.S.Stream.remaining g.S.Stream.contents) start (snapshot_off l.initial.desk) l.initial.lines heard
-      → InRound (speaks g.D.Dialogue.language g.D.Dialogue.has_found g.D.Dialogue.asks g.S.Stream.remaining g.S.Stream.contents) start (snapshot_off l.desk) l.lines heard;
+      → InRound (speaks g.D.Dialogue g.S.Stream) start (snapshot_off l.initial.desk) l.initial.lines heard
+      → InRound (speaks g.D.Dialogue g.S.Stream) start (snapshot_off l.desk) l.lines heard;
   off : OnlyPutsOff l.initial.desk l.desk;
 }

@@ -5,4 +5,4 @@ use Rattle.rounds.proofs.Lists.{HasGoneOver}
 use Rattle.rounds.proofs.turns.forget_all.Given as goal
 
 abbrev pub invariant-loop-place : goal.invariant-loop-place
-invariant-loop-place g l = HasGoneOver (IsForgotten (speaks g.D.Dialogue.language g.D.Dialogue.has_found g.D.Dialogue.asks g.S.Stream.remaining g.S.Stream.contents)) l.initial.lines l.lines l.place
+invariant-loop-place g l = HasGoneOver (IsForgotten (speaks g.D.Dialogue g.S.Stream)) l.initial.lines l.lines l.place

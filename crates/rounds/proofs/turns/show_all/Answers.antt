@@ -7,14 +7,14 @@ use Rattle.rounds.proofs.Lists.{gone_all, gone_more, gone_none}
 use Rattle.rounds.proofs.turns.show_all.Goals as goal
 
 pub loop-place-init : goal.loop-place-init
-loop-place-init g c = gone_none (IsShown (speaks g.D.Dialogue.language g.D.Dialogue.has_found g.D.Dialogue.asks g.S.Stream.remaining g.S.Stream.contents)) _
+loop-place-init g c = gone_none (IsShown (speaks g.D.Dialogue g.S.Stream)) _
 
 pub loop-place-preserved : goal.loop-place-preserved
 loop-place-preserved g c =
     let lines = c.loop-place.lines in
     let p = c.loop-place.place in
     let is_there : slice_get lines p ≡ Some (get_or lines p c.index-lines-place.result) = slice_get-get_or lines p c.index-lines-place.result (omega (arith, c.loop-place-test.true, c.loop-place.invariant.size)) in
-    gone_more (IsShown (speaks g.D.Dialogue.language g.D.Dialogue.has_found g.D.Dialogue.asks g.S.Stream.remaining g.S.Stream.contents)) _ lines p _ _ c.loop-place.invariant is_there c.show_at.ensures
+    gone_more (IsShown (speaks g.D.Dialogue g.S.Stream)) _ lines p _ _ c.loop-place.invariant is_there c.show_at.ensures
 
 pub returns : goal.returns
-returns g c = gone_all (IsShown (speaks g.D.Dialogue.language g.D.Dialogue.has_found g.D.Dialogue.asks g.S.Stream.remaining g.S.Stream.contents)) _ _ _ c.loop-place.invariant (omega (arith, c.loop-place-test.false, c.loop-place.invariant.size))
+returns g c = gone_all (IsShown (speaks g.D.Dialogue g.S.Stream)) _ _ _ c.loop-place.invariant (omega (arith, c.loop-place-test.false, c.loop-place.invariant.size))

@@ -1,7 +1,7 @@
 use Rattle.std.proofs.KnownBytes.{Keeps-refl}
 use Rattle.std.proofs.lemmas.Result.{IfErr-weaker, on_ok_weaker}
 use Rattle.clap.proofs.BuiltLemmas.{on_ok_always}
-use Rattle.stockdesk.specs.Outside.{listening, outside, paths}
+use Rattle.stockdesk.specs.Outside.{outside}
 use Rattle.stockdesk.proofs.SessionParts.{on_err, on_error}
 use Rattle.stockdesk.proofs.WorkParts.{works_in_part, works_nothing, works_untouched, works_whole}
 use Rattle.stockdesk.proofs.perform.perform.Goals as goal
@@ -24,18 +24,15 @@ returns-in_err-keep-in-InFile-clause-beginning g c =
 
 pub returns-in_ok-keep-in-InFile-clause-whole : goal.returns-in_ok-keep-in-InFile-clause-whole
 returns-in_ok-keep-in-InFile-clause-whole g c =
-    let out = outside (paths (g.M.Machine.opens c.args.machine.now) g.M.Csv.Read.remaining) (g.M.Machine.listens c.args.machine.now)
-    (listening g.M.Listener.Listen.comes g.M.Listener.Listen.closes g.M.Listener.Reader.Read.remaining g.M.Listener.Writer.Write.contents) in
+    let out = outside (g.M.Machine.opens c.args.machine.now) (g.M.Machine.listens c.args.machine.now) (g.M.Machine.gathers c.args.machine.now) g.M.Csv.Read g.M.Listener.Listen g.M.Listener.Reader.Read g.M.Listener.Writer.Write g.M.Crowd.Crowd g.M.Crowd.Stream.Stream in
     rw c.in-InFile.is (on_ok_weaker c.in_ok-keep-in-InFile.ended (λ s. works_whole out _ _ _ s) c.in_ok-keep-in-InFile.ensures.whole)
 
 pub returns-in_ok-keep-in-InFile-clause-beginning : goal.returns-in_ok-keep-in-InFile-clause-beginning
 returns-in_ok-keep-in-InFile-clause-beginning g c =
-    let out = outside (paths (g.M.Machine.opens c.args.machine.now) g.M.Csv.Read.remaining) (g.M.Machine.listens c.args.machine.now)
-    (listening g.M.Listener.Listen.comes g.M.Listener.Listen.closes g.M.Listener.Reader.Read.remaining g.M.Listener.Writer.Write.contents) in
+    let out = outside (g.M.Machine.opens c.args.machine.now) (g.M.Machine.listens c.args.machine.now) (g.M.Machine.gathers c.args.machine.now) g.M.Csv.Read g.M.Listener.Listen g.M.Listener.Reader.Read g.M.Listener.Writer.Write g.M.Crowd.Crowd g.M.Crowd.Stream.Stream in
     rw c.in-InFile.is (on_error c.in_ok-keep-in-InFile.ended _ _ (λ fault s. works_in_part out _ _ _ fault s) c.in_ok-keep-in-InFile.ensures.cut)
 
 pub returns-in_ok-keep-in-InFile-clause-untouched : goal.returns-in_ok-keep-in-InFile-clause-untouched
 returns-in_ok-keep-in-InFile-clause-untouched g c =
-    let out = outside (paths (g.M.Machine.opens c.args.machine.now) g.M.Csv.Read.remaining) (g.M.Machine.listens c.args.machine.now)
-    (listening g.M.Listener.Listen.comes g.M.Listener.Listen.closes g.M.Listener.Reader.Read.remaining g.M.Listener.Writer.Write.contents) in
+    let out = outside (g.M.Machine.opens c.args.machine.now) (g.M.Machine.listens c.args.machine.now) (g.M.Machine.gathers c.args.machine.now) g.M.Csv.Read g.M.Listener.Listen g.M.Listener.Reader.Read g.M.Listener.Writer.Write g.M.Crowd.Crowd g.M.Crowd.Stream.Stream in
     IfErr-weaker c.in_ok-keep-in-InFile.ended _ _ (λ fault s. works_untouched out _ _ _ fault s) c.in_ok-keep-in-InFile.ensures.cut

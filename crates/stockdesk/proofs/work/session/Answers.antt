@@ -1,4 +1,4 @@
-use Rattle.std.proofs.Common.{◌≡◌, [], ◌∷◌, Err, OnOk, ap, subst, sym}
+use Rattle.std.proofs.Common.{◌≡◌, [], ◌∷◌, Err, ap, subst}
 use Rattle.std.proofs.Math.Logic.{inl, inr}
 use Rattle.std.proofs.KnownBytes.{Keeps-refl}
 use Rattle.book.proofs.EqualRows.{told_by_rows}
@@ -7,9 +7,8 @@ use Rattle.desk.proofs.Faults.{of_error}
 use Rattle.desk.proofs.FoundAfter.{stored_left}
 use Rattle.desk.specs.Headline.{LeavesRowsOf}
 use Rattle.desk.specs.Streams.{streams}
-use Rattle.stockdesk.specs.Outside.{listening, outside, paths}
 use Rattle.stockdesk.specs.Sessions.{desk_left, session_on}
-use Rattle.stockdesk.specs.Work.{IsFoundAfterWork, WorkInPart, WorkWhole}
+use Rattle.stockdesk.specs.Work.{IsFoundAfterWork}
 use Rattle.stockdesk.proofs.NextSession.{nothing_found, opens_desk, work_left}
 use Rattle.stockdesk.proofs.SessionParts.{cut_by, whole_by}
 use Rattle.stockdesk.proofs.work.session.Goals as goal
@@ -33,25 +32,17 @@ returns-in-Err-clause-cut g c =
 
 pub returns-clause-whole : goal.returns-clause-whole
 returns-clause-whole g c =
-    let out = outside (paths (g.M.Machine.opens c.args.machine.now) g.M.Csv.Read.remaining) (g.M.Machine.listens c.args.machine.now)
-    (listening g.M.Listener.Listen.comes g.M.Listener.Listen.closes g.M.Listener.Reader.Read.remaining g.M.Listener.Writer.Write.contents) in
     let opened = c.in-Ok.ensures.opened in
-    let ended = c.work_on-ended.ensures in
-    let s = streams (g.R.Read.remaining c.args.reader.now) (g.R.Read.remaining c.work_on-ended.new.reader) (g.W.Write.contents c.args.writer.now) (g.W.Write.contents c.work_on-ended.new.writer) in
-    subst (λ keep. OnOk c.work_on-ended.result (WorkWhole out (session_on g.K.Keep c.args.keep keep) c.args.work.now s)) (sym c.into_keep.ensures.keep)
-    (whole_by (session_on g.K.Keep c.args.keep c.work_on-ended.new.desk.keep) c.work_on-ended.result c.in-Ok.desk c.work_on-ended.new.desk.ledger _ opened.going opened.good (λ honest. opened.rows (ended.goes.honest honest)) ended.stop ended.goes.stored ended.whole)
+    let (last, ended) = c.work_on.ensures in
+    whole_by (session_on g.K.Keep c.args.keep c.work_on.result.0) c.work_on.result.1 c.in-Ok.desk last _ opened.going opened.good (λ honest. opened.rows (ended.goes.honest honest)) ended.stop ended.goes.stored ended.whole
 
 pub returns-clause-cut : goal.returns-clause-cut
 returns-clause-cut g c =
-    let out = outside (paths (g.M.Machine.opens c.args.machine.now) g.M.Csv.Read.remaining) (g.M.Machine.listens c.args.machine.now)
-    (listening g.M.Listener.Listen.comes g.M.Listener.Listen.closes g.M.Listener.Reader.Read.remaining g.M.Listener.Writer.Write.contents) in
     let opened = c.in-Ok.ensures.opened in
-    let ended = c.work_on-ended.ensures in
-    let s = streams (g.R.Read.remaining c.args.reader.now) (g.R.Read.remaining c.work_on-ended.new.reader) (g.W.Write.contents c.args.writer.now) (g.W.Write.contents c.work_on-ended.new.writer) in
-    of_error c.work_on-ended.result _ _
-    (λ fault is cut. subst (λ keep. WorkInPart out (session_on g.K.Keep c.args.keep keep) c.args.work.now fault s) (sym c.into_keep.ensures.keep)
-    (inr (cut_by (session_on g.K.Keep c.args.keep c.work_on-ended.new.desk.keep) c.work_on-ended.result c.in-Ok.desk c.work_on-ended.new.desk.ledger _ opened.going opened.good (λ honest. opened.rows (ended.goes.honest honest)) ended.stop ended.goes.stored
-    fault is cut ended.desk)))
+    let (last, ended) = c.work_on.ensures in
+    of_error c.work_on.result.1 _ _
+    (λ fault is cut. inr (cut_by (session_on g.K.Keep c.args.keep c.work_on.result.0) c.work_on.result.1 c.in-Ok.desk last _ opened.going opened.good (λ honest. opened.rows (ended.goes.honest honest)) ended.stop ended.goes.stored
+    fault is cut ended.desk))
     ended.cut
 
 pub returns-in-Err-clause-old : goal.returns-in-Err-clause-old
@@ -64,7 +55,12 @@ returns-in-Err-clause-old g c honest going old =
 
 pub returns-clause-old : goal.returns-clause-old
 returns-clause-old g c honest going old =
-    absurd (c.in-Ok.ensures.only_old (c.work_on-ended.ensures.goes.honest (subst (λ keep. g.K.Keep.is_honest keep) c.into_keep.ensures.keep honest)) going old)
+    let (last, ended) = c.work_on.ensures in
+    absurd (c.in-Ok.ensures.only_old (ended.goes.honest honest) going old)
+
+pub returns-clause-honest : goal.returns-clause-honest
+returns-clause-honest g c honest =
+    let (last, ended) = c.work_on.ensures in c.in-Ok.ensures.honest (ended.goes.honest honest)
 
 pub returns-in-Err-clause-goes_on : goal.returns-in-Err-clause-goes_on
 returns-in-Err-clause-goes_on g c honest A x good rows held alone =
@@ -78,13 +74,11 @@ returns-in-Err-clause-goes_on g c honest A x good rows held alone =
 pub returns-clause-goes_on : goal.returns-clause-goes_on
 returns-clause-goes_on g c honest A x good rows held alone =
     let opened = c.in-Ok.ensures.opened in
-    let ended = c.work_on-ended.ensures in
-    let s = streams (g.R.Read.remaining c.args.reader.now) (g.R.Read.remaining c.work_on-ended.new.reader) (g.W.Write.contents c.args.writer.now) (g.W.Write.contents c.work_on-ended.new.writer) in
-    let still = subst (λ keep. g.K.Keep.is_honest keep) c.into_keep.ensures.keep honest in
-    let same : c.in-Ok.desk.ledger ≡ A = told_by_rows c.in-Ok.desk.ledger A x opened.good good (opened.rows (ended.goes.honest still) x held) rows in
-    let left = work_left _ _ _ s (g.K.Keep.holds c.work_on-ended.new.desk.keep) opened.going c.into_keep.ensures.good still (λ going. ended.goes.stored going still) c.work_on-ended.result c.args.work.now ended.whole ended.cut ended.stop in
+    let (last, ended) = c.work_on.ensures in
+    let s = streams (g.R.Read.remaining c.args.reader.now) (g.R.Read.remaining c.work_on.new.reader) (g.W.Write.contents c.args.writer.now) (g.W.Write.contents c.work_on.new.writer) in
+    let same : c.in-Ok.desk.ledger ≡ A = told_by_rows c.in-Ok.desk.ledger A x opened.good good (opened.rows (ended.goes.honest honest) x held) rows in
+    let left = work_left _ _ _ s (g.K.Keep.holds c.work_on.result.0) opened.going ended.goes.good honest (λ going. ended.goes.stored going honest) c.work_on.result.1 c.args.work.now ended.whole ended.cut ended.stop in
     record {
       opens = ended.desk;
-      leaves = subst (λ keep. LeavesRowsOf (g.K.Keep.leaves keep) (IsFoundAfterWork c.args.work.now (desk_left (session_on g.K.Keep c.args.keep keep) A) s)) (sym c.into_keep.ensures.keep)
-          (subst (λ (B : Ledger). LeavesRowsOf (g.K.Keep.leaves c.work_on-ended.new.desk.keep) (IsFoundAfterWork c.args.work.now (desk_left (session_on g.K.Keep c.args.keep c.work_on-ended.new.desk.keep) B) s)) same left);
+      leaves = subst (λ (B : Ledger). LeavesRowsOf (g.K.Keep.leaves c.work_on.result.0) (IsFoundAfterWork c.args.work.now (desk_left (session_on g.K.Keep c.args.keep c.work_on.result.0) B) s)) same left;
     }

@@ -1,7 +1,7 @@
 use Rattle.std.proofs.Common.{◌≡◌, [], ◌∷◌, List, false, subst, sym}
 use Rattle.book.specs.Rows.{Content}
 use Rattle.book.specs.declared.rows.Change.{Change}
-use Rattle.desk.specs.Deferred.{DeferredView, PutsOff, PutsOffOneOf}
+use Rattle.desk.specs.Deferred.{PutsOff, PutsOffOneOf}
 use Rattle.keep.specs.Transactions.{with_changes}
 use Rattle.desk.proofs.PutOff.{off_alone, off_either, off_still}
 use Rattle.desk.proofs.deferred.DeferredKeep.commit.Goals as goal

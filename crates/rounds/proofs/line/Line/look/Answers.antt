@@ -9,7 +9,7 @@ returns-then-has_question-clause-waits g c = λ yes. c.has_question.ensures.wait
 
 pub returns-in-Question-clause-heard : goal.returns-in-Question-clause-heard
 returns-in-Question-clause-heard g c = λ h said stands there.
-    let talk = speaks g.D.Dialogue.language g.D.Dialogue.has_found g.D.Dialogue.asks g.S.Stream.remaining g.S.Stream.contents in
+    let talk = speaks g.D.Dialogue g.S.Stream in
     let here = c.self.inside in
     let asks : here.phase ≡ Asks = search rules in
     let is = subst (λ v. Stands talk v h said) (sym c.self.view_is) stands (λ gone. absurd (cc (asks, gone))) in
@@ -22,7 +22,7 @@ returns-in-Question-clause-heard g c = λ h said stands there.
 
 pub returns-in-More-clause-heard : goal.returns-in-More-clause-heard
 returns-in-More-clause-heard g c = λ h said stands there.
-    let talk = speaks g.D.Dialogue.language g.D.Dialogue.has_found g.D.Dialogue.asks g.S.Stream.remaining g.S.Stream.contents in
+    let talk = speaks g.D.Dialogue g.S.Stream in
     let here = c.self.inside in
     let asks : here.phase ≡ Asks = search rules in
     let is = subst (λ v. Stands talk v h said) (sym c.self.view_is) stands (λ gone. absurd (cc (asks, gone))) in
@@ -32,7 +32,7 @@ returns-in-More-clause-heard g c = λ h said stands there.
 
 pub returns-in-Over-clause-heard : goal.returns-in-Over-clause-heard
 returns-in-Over-clause-heard g c = λ h said stands there.
-    let talk = speaks g.D.Dialogue.language g.D.Dialogue.has_found g.D.Dialogue.asks g.S.Stream.remaining g.S.Stream.contents in
+    let talk = speaks g.D.Dialogue g.S.Stream in
     let here = c.self.inside in
     let asks : here.phase ≡ Asks = search rules in
     let is = subst (λ v. Stands talk v h said) (sym c.self.view_is) stands (λ gone. absurd (cc (asks, gone))) in

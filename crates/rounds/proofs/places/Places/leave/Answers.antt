@@ -19,7 +19,7 @@ returns-clause-free g c =
 
 pub returns-clause-left : goal.returns-clause-left
 returns-clause-left g c =
-    let talk = speaks g.D.Dialogue.language g.D.Dialogue.has_found g.D.Dialogue.asks g.S.Stream.remaining g.S.Stream.contents in
+    let talk = speaks g.D.Dialogue g.S.Stream in
     let here = c.self.inside in
     let items = here.lines.items in
     let x = c.index_mut.result.now in

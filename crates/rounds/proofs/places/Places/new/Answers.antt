@@ -12,4 +12,4 @@ loop-place-preserved g c = record {
 }
 
 pub returns-clause-reached : goal.returns-clause-reached
-returns-clause-reached g c = λ loss start. reach_none (speaks g.D.Dialogue.language g.D.Dialogue.has_found g.D.Dialogue.asks g.S.Stream.remaining g.S.Stream.contents) loss start _ refl c.loop-place.invariant.free
+returns-clause-reached g c = λ start. reach_none (speaks g.D.Dialogue g.S.Stream) start _ refl c.loop-place.invariant.free

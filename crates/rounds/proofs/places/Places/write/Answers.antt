@@ -8,9 +8,10 @@ use Rattle.rounds.proofs.places.Places.write.Goals as goal
 
 pub returns-clause-reached : goal.returns-clause-reached
 returns-clause-reached g c = λ loss start now visits r.
-    let talk = speaks g.D.Dialogue.language g.D.Dialogue.has_found g.D.Dialogue.asks g.S.Stream.remaining g.S.Stream.contents in
+    let talk = speaks g.D.Dialogue g.S.Stream in
     let items = c.self.inside.lines.items in
     let x = c.index_mut.result.now in
     let within = subst (λ v. c.args.place < length v.lines) (sym c.self.view_is) c.requires.place in
     let is_there : slice_get items c.args.place ≡ Some x = slice_get_read items (length items) c.args.place x refl within c.index_mut.ensures.value in
-    reach_written talk loss start now visits _ (subst (λ v. IsReached talk loss start now visits v) (sym c.self.view_is) r) g.met.D.Dialogue.settled c.args.place x c.write_at.new.line is_there c.write_at.ensures
+    reach_written talk loss start now visits _ (subst (λ v. IsReached talk loss start now visits v) (sym c.self.view_is) r)
+    c.write_at.result g.met.D.Dialogue.settled c.args.place x c.write_at.new.line is_there c.write_at.ensures

@@ -1,0 +1,38 @@
+-- Deliveries for `wrk`. The arguments are numbers of branches and articles, of which each delivery has random ones, and whether
+-- the keys are `random` or `ordered`. At the end it prints the microseconds of the run, how many requests were answered, and how
+-- many of them after how many microseconds.
+local thread = 0
+
+function setup(started)
+    started:set("number", thread)
+    thread = thread + 1
+end
+
+function init(arguments)
+    branches, articles, keys = tonumber(arguments[1]), tonumber(arguments[2]), arguments[3]
+    sent = 0
+    wrk.method = "POST"
+    math.randomseed(os.time() + 1000000000 * number)
+end
+
+local function key()
+    if keys == "random" then
+        return math.random(9000000000000000)
+    end
+    sent = sent + 1
+    return 1000000000000 * (number + 1) + sent
+end
+
+function request()
+    local branch, article = math.random(branches) - 1, math.random(articles) - 1
+    local body = string.format('{"key":"K-%d","command":"deliver N%d A-%d 1"}', key(), branch, article)
+    return wrk.format(nil, "/v1/commands", nil, body)
+end
+
+function done(summary, latency)
+    print("run " .. summary.duration .. " " .. summary.requests)
+    for place = 1, #latency do
+        local micros, count = latency(place)
+        print("wait " .. micros .. " " .. tonumber(count))
+    end
+end

@@ -1,0 +1,156 @@
+//! Many connections to this machine at once, none of which is waited for alone.
+
+ghost use Rattle.std.specs.Prelude.{◌≡◌, length};
+
+use mio::net::{TcpListener, TcpStream};
+use mio::{Events, Interest, Poll, Token};
+use rounds::{Crowd, Readiness, Stream};
+use std::alloc::Global;
+use std::io::{self, ErrorKind, Read, Write};
+use std::net::{Ipv4Addr, SocketAddr};
+use std::time::Duration;
+
+/// How many events are told at a time, at the most.
+const EVENTS: usize = 1024;
+
+/// The name of what listens; that of a connection is its place.
+const LISTENER: usize = usize::MAX;
+
+/// After how many milliseconds somebody is let in who could not be, as where no descriptor or no memory was free.
+const AGAIN: u64 = 50;
+
+/// A connection that is never waited for.
+#[derive(Drop)]
+pub struct Socket {
+    stream: TcpStream,
+}
+
+impl Stream for Socket {
+    ghost use Rattle.std.specs.Prelude.{None};
+
+    // no clause knows what a socket brings or takes
+    ghost remaining = { λ socket. None };
+
+    ghost contents = { λ socket. None };
+
+    fn read_piece(&mut self, piece: &mut [u8]) -> io::Result<usize> {
+        self.stream.read(piece)
+    }
+
+    fn write_some(&mut self, bytes: &[u8]) -> io::Result<usize> {
+        self.stream.write(bytes)
+    }
+}
+
+/// Those who come to a port of this machine, from itself alone.
+#[derive(Drop)]
+pub struct Loopback {
+    listener: TcpListener,
+    poll: Poll,
+    events: Events<Global>,
+    /// Somebody may wait to be let in.
+    may_come: bool,
+}
+
+impl Loopback {
+    /// Listens at a port, or for 0 at any that is free, and tells which it got.
+    pub fn listen(rt: &HostRuntime, port: u16) -> io::Result<(Loopback, u16)> {
+        let address = SocketAddr::from((Ipv4Addr::LOCALHOST, port));
+        let mut listener = TcpListener::bind(rt, address)?;
+        let got = listener.local_addr()?;
+        let poll = Poll::new(rt)?;
+        let events = Events::with_capacity(rt.alloc(), EVENTS)?;
+        poll.registry()
+            .register(&mut listener, Token(LISTENER), Interest::READABLE)?;
+        let crowd = Loopback {
+            listener,
+            poll,
+            events,
+            may_come: true,
+        };
+        Ok((crowd, got.port()))
+    }
+
+    /// How long is waited at the most.
+    fn patience(&self, most: Option<Duration>) -> Option<Duration> {
+        if !self.may_come {
+            return most;
+        }
+        let again = Duration::from_millis(AGAIN);
+        match most {
+            Some(most) if most < again => Some(most),
+            _ => Some(again),
+        }
+    }
+}
+
+/// Marks what the system tells of each place. Whether somebody waits to be let in.
+fn mark_all(events: &Events<Global>, ready: &mut [Readiness]) -> bool
+    ensures { length ready.new ≡ length ready.old }
+{
+    let mut may_come = false;
+    for event in events {
+        let Token(place) = event.token();
+        if place == LISTENER {
+            may_come = true;
+        } else if place < ready.len() {
+            let is_hurt = event.is_error();
+            let can_read = event.is_readable() || event.is_read_closed() || is_hurt;
+            let can_write = event.is_writable() || event.is_write_closed() || is_hurt;
+            ready[place] = Readiness {
+                can_read: ready[place].can_read || can_read,
+                can_write: ready[place].can_write || can_write,
+            };
+        }
+    }
+    may_come
+}
+
+impl Crowd for Loopback {
+    type Stream = Socket;
+
+    // no clause knows who comes
+    ghost comes = { λ old stream new. Unit {0} };
+
+    ghost closes = { λ old stream new. Unit {0} };
+
+    ghost waits = { λ old new. Unit {0} };
+
+    fn wait(&mut self, most: Option<Duration>, ready: &mut [Readiness]) -> io::Result<bool> {
+        let most = self.patience(most);
+        self.poll.poll(&mut self.events, most)?;
+        if mark_all(&self.events, ready) {
+            self.may_come = true;
+        }
+        Ok(!self.events.is_empty())
+    }
+
+    fn may_come(&self) -> bool {
+        self.may_come
+    }
+
+    fn next(&mut self) -> Option<Socket> {
+        match self.listener.accept() {
+            Ok((stream, _)) => {
+                // an answer that waits for others to join it is only later
+                let _ = stream.set_nodelay(true);
+                Some(Socket { stream })
+            }
+            Err(error) => {
+                self.may_come = error.kind() != ErrorKind::WouldBlock;
+                None
+            }
+        }
+    }
+
+    fn admit(&mut self, place: usize, stream: &mut Socket) -> io::Result<()> {
+        let both = Interest::READABLE | Interest::WRITABLE;
+        self.poll
+            .registry()
+            .register(&mut stream.stream, Token(place), both)
+    }
+
+    fn close(&mut self, stream: Socket) {
+        drop(stream);
+    }
+}

@@ -1,0 +1,50 @@
+//! What connections come to, one after the other.
+
+ghost use Rattle.std.specs.Prelude.{IfOk};
+
+use std::io::{self, Read, Write};
+use std::net::{TcpListener, TcpStream};
+
+/// What connections come to.
+pub trait Listen {
+    type Reader: Read + Drop;
+
+    type Writer: Write + Drop;
+
+    /// A connection that may come, and what listens after that.
+    ghost comes: { Self → Self.Reader → Self.Writer → Self → Type 0 };
+
+    /// A connection that is closed as it stands, and what listens after that.
+    ghost closes: { Self → Self.Reader → Self.Writer → Self → Type 0 };
+
+    /// Waits for the next connection.
+    fn next_connection(&mut self) -> io::Result<(Self::Reader, Self::Writer)>
+        ensures { IfOk result (λ connection. comes self.old connection.0 connection.1 self.new) };
+
+    /// Closes a connection, as it stands.
+    fn close(&mut self, reader: Self::Reader, writer: Self::Writer)
+        ensures { closes self.old reader writer self.new };
+}
+
+impl Listen for TcpListener {
+    type Reader = TcpStream;
+
+    type Writer = TcpStream;
+
+    // no clause knows what a socket brings or takes
+    ghost comes = { λ old reader writer new. Unit {0} };
+
+    ghost closes = { λ old reader writer new. Unit {0} };
+
+    fn next_connection(&mut self) -> io::Result<(TcpStream, TcpStream)> {
+        let (stream, _) = self.accept()?;
+        // an answer that waits for others to join it is only later
+        let _ = stream.set_nodelay(true);
+        Ok((stream.try_clone()?, stream))
+    }
+
+    fn close(&mut self, reader: TcpStream, writer: TcpStream) {
+        drop(reader);
+        drop(writer);
+    }
+}

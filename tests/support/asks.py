@@ -1,0 +1,108 @@
+"""What clients ask of a service, each message with the line of a script that asks for the same; and random ones."""
+
+import json
+import math
+import re
+from collections.abc import Sequence
+from dataclasses import dataclass
+
+from support.inputs import HEADERS, Inputs
+from support.messages import answer, compact, message, message_of
+from support.rules import Rules
+
+NO_MEMORY, STOPPED, NONE, UNREADABLE = (
+    answer(status, compact({"error": name}))
+    for status, name in [(503, "memory"), (503, "stopped"), (404, "none"), (400, "message")]
+)
+BAD_COMMAND = answer(400, compact({"code": 20, "line": 0, "refused": "BadCommand"}))
+# the moment of what never came
+NEVER = math.inf
+
+# views that can stand in a target as they are
+VIEW = re.compile(r"(?:field|order)(?: [A-Za-z0-9+.-]+)+")
+# messages that are answered so, whatever the desk has; and some behind which the connection ends
+FIXED = [
+    (message("GET /", ""), NONE),
+    (message("GET /v1/commands", ""), NONE),
+    (message("PUT /v1/commands", compact({"key": "K1", "command": "commit 7"})), NONE),
+    (message("POST /v1/commands", ""), BAD_COMMAND),
+    (message("POST /v1/commands", "[" * 200), BAD_COMMAND),
+    (message("POST /v1/commands", compact({"key": "K1", "command": "commit 7", "more": 1})), BAD_COMMAND),
+]
+LAST = [
+    b"POST /v1/commands HTTP/1.0\r\nContent-Length: 0\r\n\r\n",
+    b"POST /v1/commands HTTP/1.1\r\nContent-Length: 16385\r\n\r\n",
+    b"GET /v1/orders/7 HTTP/1.1\r\nX: " + b"x" * 8_192,
+]
+SOME_FIELDS = [(f"F{branch}{article}", f"field N{branch} A-{article} 0 1000 200") for branch in range(4) for article in range(5)]
+
+
+@dataclass(eq=False, repr=False)
+class Ask:
+    """A message, and the line of a script that asks for the same, or what it is answered whatever the desk has. When it was all
+    sent, what it was answered, and when that was whole."""
+
+    text: bytes
+    line: str = ""
+    want: bytes = b""
+    sent: float = NEVER
+    told: float = NEVER
+    answer: bytes = b""
+
+    def __repr__(self) -> str:
+        return f"{self.line or self.text[:200]!r}, answered {self.answer[-200:]!r}"
+
+    @property
+    def is_command(self) -> bool:
+        return self.line != "" and not self.line.startswith("? ")
+
+    def was_sent(self) -> bool:
+        return self.sent < NEVER
+
+    def place(self) -> int | None:
+        """The place that a command was told."""
+        body = self.answer.rpartition(b"\r\n\r\n")[2]
+        return json.loads(body)["place"] if self.is_command and body.startswith(b'{"place":') else None
+
+    def is_lost(self) -> bool:
+        """Whether there is no answer, or one that says nothing of the ledger."""
+        return self.answer in (b"", NO_MEMORY, STOPPED)
+
+    def fits(self, desk: Rules) -> bool:
+        """Whether the desk answers so now."""
+        return self.answer == (desk.answer(self.line) if self.line else self.want)
+
+
+def ask_of(line: str) -> Ask:
+    return Ask(message_of(line), line)
+
+
+def random_line(inputs: Inputs) -> str:
+    """A command, a view or a sheet."""
+    kind = inputs.random.random()
+    if kind < 0.03:
+        return f"? sheet {inputs.branch()}"
+    if kind < 0.3:
+        view = inputs.view()
+        return f"? {view}" if VIEW.fullmatch(view, re.ASCII) else "? order 1"
+    return f"{inputs.key()} {inputs.command()}"
+
+
+def random_ask(inputs: Inputs, before: Sequence[Ask]) -> Ask:
+    """Some come again, and some ask for nothing that is there; the headers are any."""
+    if inputs.chance(0.05):
+        text, want = inputs.random.choice(FIXED)
+        return Ask(text, "", want)
+    line = inputs.random.choice(before).line if before and inputs.chance(0.05) else ""
+    ask = ask_of(line or random_line(inputs))
+    headers = "".join(f"{header}\r\n" for header in inputs.random.sample(HEADERS, inputs.random.randint(0, 2)))
+    return Ask(ask.text.replace(b" HTTP/1.1\r\n", f" HTTP/1.1\r\n{headers}".encode(), 1), ask.line)
+
+
+def random_talks(inputs: Inputs, clients: int, count: int) -> list[list[Ask]]:
+    """So many questions of each client, all about the same fields and orders. What some ask last cannot be read."""
+    asks: list[Ask] = []
+    while len(asks) < clients * count:
+        asks.append(random_ask(inputs, asks[-100:]))
+    ends = [[Ask(inputs.random.choice(LAST), "", UNREADABLE)] if inputs.chance(0.2) else [] for _ in range(clients)]
+    return [asks[client::clients] + ends[client] for client in range(clients)]

@@ -1,0 +1,339 @@
+"""The rules of a desk in Python, but for its limits: what it answers to a line of a script, or a message, and what rows it has. A
+field's numbers are summed anew whenever they are asked for."""
+
+import re
+from collections.abc import Callable, Iterator, Sequence
+from dataclasses import dataclass
+
+from support.forms import ASK, BRANCH, REFUSALS, REQUEST
+from support.messages import answer, answer_of
+
+PLAIN, TRANSFER = "plain", "transfer"
+TAKE, ADD = "take", "add"
+OPEN, FIRM, COMMITTED, ABORTED = "open", "firm", "committed", "aborted"
+# as they are stored
+STATES = {OPEN: 0, FIRM: 0, COMMITTED: 1, ABORTED: 2}
+MOST_LINES = 64
+BAD = "- refused 20 BadCommand 0"
+
+# a branch and an article
+Name = tuple[str, str]
+Effect = Callable[[], None]
+
+
+class Refused(Exception):
+    """A check that fails: the name of the refusal, and the line of an order that it is about."""
+
+
+def refuse(is_refused: bool, name: str, nr: int = 0) -> None:
+    if is_refused:
+        raise Refused(name, nr)
+
+
+@dataclass
+class Field:
+    """The bounds of a field, its start, and what deliveries and write-offs have made of that."""
+
+    lo: int
+    hi: int
+    start: int
+    moved: int
+
+
+@dataclass
+class Line:
+    """What an order holds of a field, and has used of that."""
+
+    name: Name
+    way: str
+    held: int
+    used: int = 0
+
+
+@dataclass
+class Order:
+    number: int
+    kind: str
+    until: int
+    lines: list[Line]
+    state: str = OPEN
+
+    def line_on(self, name: Name) -> Line | None:
+        return next((line for line in self.lines if line.name == name), None)
+
+    def together(self, line: Line) -> list[Line]:
+        """The lines that a use or a release on this one acts on."""
+        return self.lines if self.kind == TRANSFER else [line]
+
+    def settled(self, line: Line) -> int:
+        return line.used if self.state in (FIRM, COMMITTED) else 0
+
+    def left(self, line: Line) -> int:
+        """What of the line may still move the field."""
+        return {OPEN: line.held, FIRM: line.held - line.used}.get(self.state, 0)
+
+
+class Rules:
+    """A desk as the rules say it."""
+
+    def __init__(self) -> None:
+        self.clock = 0
+        self.fields: dict[Name, Field] = {}
+        self.orders: dict[int, Order] = {}
+        # the lines of all orders on each field
+        self.lines: dict[Name, list[tuple[Order, Line]]] = {}
+        self.moves: list[tuple[int, Name, int]] = []
+        self.firms: set[int] = set()
+        self.kept: dict[str, tuple[int, str]] = {}
+
+    # ---- what is answered, by which nothing changes
+
+    def reply(self, line: str) -> str:
+        """The line by which a line of a script is answered."""
+        if ASK.fullmatch(line.encode()):
+            _, kind, *names = line.split()
+            return self.shown_field(line, (names[0], names[1])) if kind == "field" else self.shown_order(line, int(names[0]))
+        if not REQUEST.fullmatch(line.encode()):
+            return BAD
+        key, command = line.split(" ", 1)
+        if key in self.kept:
+            place, kept = self.kept[key]
+            return f"{key} done {place}" if kept == command else f"{key} refused 1 KeyReused 0"
+        try:
+            self.plan(command)
+        except Refused as refused:
+            name, nr = refused.args
+            return f"{key} refused {REFUSALS.index(name)} {name} {nr}"
+        return f"{key} done {len(self.kept) + 1}"
+
+    def answer(self, line: str) -> bytes:
+        """The answer to the message that asks for the same as this line, or for a sheet."""
+        if line.startswith("? sheet ") and re.fullmatch(BRANCH, line[8:]):
+            return answer(200, self.sheet(line[8:]))
+        # what is no view leads nowhere
+        is_other = line.startswith("? ") and not ASK.fullmatch(line.encode())
+        return answer_of("? none" if is_other else self.reply(line))
+
+    def numbers(self, name: Name) -> tuple[int, int, int]:
+        """The value, the infimum and the supremum of a field."""
+        lines = [(order, line, 1 if line.way == ADD else -1) for order, line in self.lines.get(name, [])]
+        value = self.fields[name].moved + sum(sign * order.settled(line) for order, line, sign in lines)
+        taken = sum(order.left(line) for order, line, sign in lines if sign < 0)
+        added = sum(order.left(line) for order, line, sign in lines if sign > 0)
+        return value, value - taken, value + added
+
+    def shown_field(self, line: str, name: Name) -> str:
+        if name not in self.fields:
+            return "? none"
+        value, inf, sup = self.numbers(name)
+        return f"{line} lo {self.fields[name].lo} hi {self.fields[name].hi} value {value} inf {inf} sup {sup}"
+
+    def shown_order(self, line: str, number: int) -> str:
+        if number not in self.orders:
+            return "? none"
+        order = self.orders[number]
+        lines = [f"{each.way} {' '.join(each.name)} {each.held} {each.used}" for each in order.lines]
+        return " ".join([line, order.kind, str(order.until), order.state, *lines])
+
+    def sheet(self, branch: str) -> str:
+        names = sorted(name for name in self.fields if name[0] == branch)
+        found = [(name[1], self.fields[name], *self.numbers(name)) for name in names]
+        lines = [
+            article.ljust(16) + "".join(f"{level:11}" for level in (field.lo, field.hi, value, inf, sup))
+            for article, field, value, inf, sup in found
+        ]
+        return "\n".join([*lines, "total".ljust(16) + f"{sum(row[2] for row in found):15}", ""])
+
+    # ---- what is done
+
+    def carry_out(self, key: str, command: str) -> None:
+        """Does a command, which is accepted."""
+        effect = self.plan(command)
+        self.kept[key] = len(self.kept) + 1, command
+        effect()
+
+    def plan(self, command: str) -> Effect:
+        """What the command does; or it is refused, and nothing is done."""
+        verb, *words = command.split()
+        plans: dict[str, Callable[..., Effect]] = {
+            "field": self.plan_field,
+            "deliver": lambda branch, article, quantity: self.plan_move((branch, article), ADD, int(quantity)),
+            "writeoff": lambda branch, article, quantity: self.plan_move((branch, article), TAKE, int(quantity)),
+            "rebound": self.plan_rebound,
+            "expire": self.plan_expire,
+            "open": self.plan_open,
+            "transfer": self.plan_transfer,
+            "more": self.plan_more,
+            "use": self.plan_use,
+            "release": self.plan_release,
+            "commit": lambda number: self.plan_end(int(number), COMMITTED),
+            "abort": lambda number: self.plan_end(int(number), ABORTED),
+            "firm": self.plan_firm,
+        }
+        return plans[verb](*words)
+
+    def field_at(self, name: Name, nr: int = 0) -> Field:
+        refuse(name not in self.fields, "NoField", nr)
+        return self.fields[name]
+
+    def check_room(self, name: Name, way: str, quantity: int, nr: int = 0) -> None:
+        """So much more may be taken or added, whatever becomes of the open orders."""
+        field = self.field_at(name, nr)
+        _, inf, sup = self.numbers(name)
+        refuse(way == TAKE and inf - quantity < field.lo, "TooLittle", nr)
+        refuse(way == ADD and sup + quantity > field.hi, "TooMuch", nr)
+
+    def open_order(self, number: int) -> Order:
+        refuse(number not in self.orders, "NoOrder")
+        refuse(self.orders[number].state in (COMMITTED, ABORTED), "Ended")
+        return self.orders[number]
+
+    def plan_field(self, branch: str, article: str, *levels: str) -> Effect:
+        lo, hi, start = map(int, levels)
+        refuse((branch, article) in self.fields, "FieldThere")
+        refuse(not lo <= start <= hi, "BadBounds")
+        return lambda: self.fields.update({(branch, article): Field(lo, hi, start, start)})
+
+    def plan_move(self, name: Name, way: str, quantity: int) -> Effect:
+        self.check_room(name, way, quantity)
+
+        def move() -> None:
+            pieces = quantity if way == ADD else -quantity
+            self.fields[name].moved += pieces
+            self.moves.append((len(self.kept), name, pieces))
+
+        return move
+
+    def plan_rebound(self, branch: str, article: str, *levels: str) -> Effect:
+        lo, hi = map(int, levels)
+        field = self.field_at((branch, article))
+        _, inf, sup = self.numbers((branch, article))
+        refuse(lo > hi, "BadBounds")
+        refuse(inf < lo, "TooLittle")
+        refuse(sup > hi, "TooMuch")
+
+        def bind() -> None:
+            field.lo, field.hi = lo, hi
+
+        return bind
+
+    def plan_expire(self, now: str) -> Effect:
+        refuse(int(now) < self.clock, "ClockBack")
+
+        def expire() -> None:
+            self.clock = int(now)
+            for order in self.orders.values():
+                if order.state == OPEN and order.until <= self.clock:
+                    order.state = ABORTED
+
+        return expire
+
+    def plan_open(self, number: str, until: str, *words: str) -> Effect:
+        lines = [Line((branch, article), way, int(held)) for way, branch, article, held in zip(*[iter(words)] * 4, strict=True)]
+        return self.plan_order(Order(int(number), PLAIN, int(until), lines))
+
+    def plan_transfer(self, number: str, until: str, article: str, source: str, target: str, quantity: str) -> Effect:
+        lines = [Line((branch, article), way, int(quantity)) for branch, way in [(source, TAKE), (target, ADD)]]
+        return self.plan_order(Order(int(number), TRANSFER, int(until), lines))
+
+    def plan_order(self, order: Order) -> Effect:
+        refuse(order.number in self.orders, "OrderThere")
+        refuse(order.until <= self.clock, "Past")
+        names = [line.name for line in order.lines]
+        for nr, line in enumerate(order.lines, 1):
+            refuse(line.name in names[: nr - 1], "SameField", nr)
+            self.check_room(line.name, line.way, line.held, nr)
+
+        def begin() -> None:
+            self.orders[order.number] = order
+            for line in order.lines:
+                self.lines.setdefault(line.name, []).append((order, line))
+
+        return begin
+
+    def plan_more(self, number: str, way: str, branch: str, article: str, quantity: str) -> Effect:
+        order, name = self.open_order(int(number)), (branch, article)
+        refuse(order.state == FIRM, "Firm")
+        refuse(order.kind == TRANSFER, "TransferFixed")
+        self.field_at(name)
+        line = order.line_on(name)
+        refuse(line is not None and line.way != way, "OtherWay")
+        refuse(line is None and len(order.lines) == MOST_LINES, "TooManyLines")
+        self.check_room(name, way, int(quantity))
+
+        def hold() -> None:
+            there = line or Line(name, way, 0)
+            if there is not line:
+                order.lines.append(there)
+                self.lines.setdefault(name, []).append((order, there))
+            there.held += int(quantity)
+
+        return hold
+
+    def lines_of(self, number: str, name: Name, quantity: str) -> list[Line]:
+        """The lines that a use or a release of so much acts on."""
+        order = self.open_order(int(number))
+        line = order.line_on(name)
+        if line is None:
+            raise Refused("NotHeld", 0)
+        refuse(int(quantity) > line.held - line.used, "OverUse")
+        return order.together(line)
+
+    def plan_use(self, number: str, branch: str, article: str, quantity: str) -> Effect:
+        lines = self.lines_of(number, (branch, article), quantity)
+
+        def use() -> None:
+            for line in lines:
+                line.used += int(quantity)
+
+        return use
+
+    def plan_release(self, number: str, branch: str, article: str, quantity: str) -> Effect:
+        lines = self.lines_of(number, (branch, article), quantity)
+
+        def release() -> None:
+            for line in lines:
+                line.held -= int(quantity)
+
+        return release
+
+    def plan_end(self, number: int, state: str) -> Effect:
+        order = self.open_order(number)
+        refuse(state == ABORTED and order.state == FIRM, "Firm")
+
+        def end() -> None:
+            order.state = state
+
+        return end
+
+    def plan_firm(self, number: str) -> Effect:
+        order = self.open_order(int(number))
+        refuse(order.state == FIRM, "Firm")
+
+        def make_firm() -> None:
+            order.state = FIRM
+            self.firms.add(order.number)
+
+        return make_firm
+
+    # ---- what is stored
+
+    def rows(self) -> list[str]:
+        """The rows of all tables in the order of their keys, each as a line that begins with its table."""
+        return ["|".join([table, *map(str, row)]) for table, rows in self.tables() for row in rows]
+
+    def tables(self) -> Iterator[tuple[str, Sequence[tuple[object, ...]]]]:
+        orders = [order for _, order in sorted(self.orders.items())]
+        yield "desk", [(1, 2, self.clock, len(self.kept))]
+        yield "field", [
+            (*name, field.lo, field.hi, field.start, *self.numbers(name)) for name, field in sorted(self.fields.items())
+        ]
+        yield "move", [(place, *name, pieces) for place, name, pieces in self.moves]
+        yield "orders", [(it.number, int(it.kind == TRANSFER), it.until, STATES[it.state]) for it in orders]
+        yield "line", [
+            (it.number, nr, *line.name, int(line.way == ADD), line.held, line.used)
+            for it in orders
+            for nr, line in enumerate(it.lines, 1)
+        ]
+        yield "kept", [(key, place, words) for key, (place, words) in sorted(self.kept.items())]
+        yield "firm", [(number,) for number in sorted(self.firms)]
