@@ -18,8 +18,8 @@ SHEET = "/v1/sheets/N2"
 DESK = '{"error":"message"}'
 MESSAGE = b"POST /v1/commands HTTP/1.1\r\nContent-Length: 45\r\n\r\n" + json.dumps(PAIR).encode()
 
-# so long an ask may take beside others
-TIME = 2.0
+# so long three who ask may take beside others on a slow machine, in seconds; the front cuts who holds it up behind 5 s and more
+TIME = 4.0
 
 
 def head(method: str, path: str, *more: tuple[str, str], **pseudo: str) -> Headers:
