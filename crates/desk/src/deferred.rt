@@ -34,13 +34,13 @@ impl<K: Keep> Model for Deferred<K> {
 }
 
 impl<K: Keep> Deferred<K> {
-    ghost use Rattle.std.specs.Prelude.{◌≡◌, ◌≢◌, ◌↔◌, ◌∷◌, [], false, length, IsTrue, OnErr, OnOk};
+    ghost use Rattle.std.specs.Prelude.{◌≡◌, ◌≢◌, ◌∷◌, [], false, length, IsTrue, OnErr, OnOk};
     ghost use Rattle.book.specs.Rows.{Content};
     ghost use Rattle.desk.specs.Deferred.{PutsOff};
     ghost use Rattle.keep.specs.Transactions.{with_changes};
 
     /// Puts off what is committed to the keeper. Takes no memory.
-    pub fn over(alloc: Global, keep: K) -> Deferred<K>
+    pub(crate) fn over(alloc: Global, keep: K) -> Deferred<K>
         ensures keep { result.keep ≡ keep }
         ensures none { result.changes ≡ [] }
         ensures stopped { result.stopped ≡ K.stopped keep }
@@ -55,15 +55,8 @@ impl<K: Keep> Deferred<K> {
         }
     }
 
-    /// Whether nothing is put off.
-    pub fn is_settled(&self) -> bool
-        ensures { IsTrue result ↔ self.now.changes ≡ [] }
-    {
-        self.changes.is_empty()
-    }
-
     /// How many rows are put off.
-    pub fn put_off(&self) -> usize
+    pub(crate) fn put_off(&self) -> usize
         ensures { result ≡ length self.now.changes }
     {
         self.changes.len()
@@ -79,7 +72,7 @@ impl<K: Keep> Deferred<K> {
 
     /// Puts all that was put off into the keeper, in one transaction. Nothing is put off then, whatever is answered: an
     /// error stops it.
-    pub fn settle(&mut self) -> Result<(), KeepFault>
+    pub(crate) fn settle(&mut self) -> Result<(), KeepFault>
         ensures none { self.new.changes ≡ [] }
         ensures ok { OnOk result (self.new.stopped ≡ self.old.stopped) }
         ensures err { OnErr result (IsTrue self.new.stopped × (self.old.changes ≢ [])) }

@@ -1,6 +1,6 @@
 //! A ledger, and the keeper of its rows.
 
-ghost use Rattle.std.specs.Prelude.{◌≡◌, ◌≢◌, ◌*◌, ◌<◌, ◌≤◌, ◌⊎◌, ◌↔◌, [], false, length, take, IsTrue, IfOk, IfErr, IsSomeAnd, MatchOption, OnErr, OnOk, Err};
+ghost use Rattle.std.specs.Prelude.{◌≡◌, ◌≢◌, ◌*◌, ◌<◌, ◌≤◌, ◌⊎◌, [], false, length, take, IsTrue, IfOk, IfErr, IsSomeAnd, MatchOption, OnErr, OnOk, Err};
 ghost use Rattle.escrow.specs.Codes.{IsKey};
 ghost use Rattle.words.specs.Spelling.{IsInRange};
 ghost use Rattle.book.specs.Answers.{Answers, IsAccepted};
@@ -302,13 +302,6 @@ impl<K: Keep> Desk<K> {
 }
 
 impl<K: Keep> Desk<Deferred<K>> {
-    /// Whether nothing is put off.
-    pub fn is_settled(&self) -> bool
-        ensures { IsTrue result ↔ self.now.keep.changes ≡ [] }
-    {
-        self.keep.is_settled()
-    }
-
     /// How many rows are put off.
     pub fn put_off(&self) -> usize
         ensures { result ≡ length self.now.keep.changes }

@@ -98,7 +98,7 @@ fn round<S: Stream + Drop, K: Keep>(
     most: usize,
     desk: &mut Desk<Deferred<K>>,
 ) -> Result<(), Fail> {
-    if !desk.is_settled() {
+    if desk.put_off() != 0 {
         Err("something is put off")?;
     }
     places.round(alloc, most, desk)?;
@@ -289,7 +289,7 @@ fn serve<K: Keep>(
     crowd: Gathering,
     desk: &mut Desk<Deferred<K>>,
 ) -> Result<(Gathering, Result<(), ServiceFault>), Fail> {
-    if desk.is_stopped() || !desk.is_settled() {
+    if desk.is_stopped() || desk.put_off() != 0 {
         Err("no such desk")?;
     }
     let terms = Terms {

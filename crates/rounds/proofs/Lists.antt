@@ -2,7 +2,7 @@
 use Rattle.std.proofs.Common.{◌≡◌, ◌≢◌, ◌⊎◌, ◌∙◌, ◌+◌, ◌<◌, ◌≤◌, ◌++◌, ◌∷◌, ℕ, zero, suc, Bool, List, [], Option, None, Some, ap, arith, inl, inr, length, length-set, refl, set, subst, sym, take, true, false}
 use Rattle.std.specs.Prelude.{nat_eq, slice_get}
 use Rattle.std.proofs.lemmas.Bool.Decides.{eqb_tells}
-use Rattle.rounds.specs.Rounds.{AtEach, IsAt}
+use Rattle.rounds.specs.Rounds.{AreBefore, AtEach, IsAt}
 
 module _ {X : Type 0} where
   pub set_same : (xs : List X) (i : ℕ) (x y : X) → slice_get (set xs i y) i ≡ Some x → x ≡ y
@@ -144,18 +144,29 @@ module _ {V : Type 0} (R : Option V → Option V → Type 0) where
           subst (λ (o : Option V). R x o) put (subst (λ (o : Option V). R o w) same r)
       by p x y lt at_x at_y (inr (_, other)) = so_far.before p x y (omega (arith, other)) at_x (sym (get_other new i p w other) ∙ at_y)
 
-  pub gone_all : (old new : List (Option V)) (bound : ℕ) → HasGoneOver R old new bound → length old ≤ bound → AtEach R old new
-  gone_all [] [] bound h le = tt
-  gone_all [] (y ∷ ys) bound h le = absurd (omega (arith, h.size))
-  gone_all (x ∷ xs) [] bound h le = absurd (omega (arith, h.size))
-  gone_all (x ∷ xs) (y ∷ ys) zero h le = absurd (omega arith)
-  gone_all (x ∷ xs) (y ∷ ys) (suc bound) h le = (
+  -- nobody is at the others
+  pub gone_taken : (old new : List (Option V)) (bound : ℕ) → HasGoneOver R old new bound → AreBefore bound old → R None None → AtEach R old new
+  gone_taken [] [] bound h before none = tt
+  gone_taken [] (y ∷ ys) bound h before none = absurd (omega (arith, h.size))
+  gone_taken (x ∷ xs) [] bound h before none = absurd (omega (arith, h.size))
+  gone_taken (Some v ∷ xs) (y ∷ ys) zero h before none = absurd (omega (arith, before 0 v refl))
+  gone_taken (None ∷ xs) (y ∷ ys) zero h before none =
+      let same : Some y ≡ Some None = h.others 0 (omega arith) in
+      let here : y ≡ None = cc in (
+        subst (λ o. R None o) (sym here) none,
+        gone_taken xs ys zero (record {
+          size = (omega (arith, h.size));
+          before = λ p v w lt. absurd (omega (arith, lt));
+          others = λ p le. h.others (suc p) (omega arith);
+        }) (λ p v e. absurd (omega (arith, before (suc p) v e))) none,
+      )
+  gone_taken (x ∷ xs) (y ∷ ys) (suc bound) h before none = (
     h.before 0 x y (omega arith) refl refl,
-    gone_all xs ys bound (record {
+    gone_taken xs ys bound (record {
       size = (omega (arith, h.size));
       before = λ p v w lt at_v at_w. h.before (suc p) v w (omega arith) at_v at_w;
       others = λ p le. h.others (suc p) (omega arith);
-    }) (omega arith),
+    }) (λ p v e. omega (arith, before (suc p) v e)) none,
   )
 
 -- one place more, at which nobody is

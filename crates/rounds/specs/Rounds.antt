@@ -1,5 +1,5 @@
 -- Rounds: one order of the questions of all connections.
-use Rattle.std.specs.Prelude.{◌≡◌, ◌≢◌, ◌≤◌, ◌⊎◌, Bool, false, true, ℕ, List, [], ◌∷◌, ◌++◌, Option, None, Some, Result, Err, Ok, if◌then◌else◌, length, nat_eq, slice_get, slice_index_or, take}
+use Rattle.std.specs.Prelude.{◌≡◌, ◌≢◌, ◌<◌, ◌≤◌, ◌⊎◌, Bool, false, true, ℕ, List, [], ◌∷◌, ◌++◌, Option, None, Some, Result, Err, Ok, if◌then◌else◌, length, nat_eq, slice_get, slice_index_or, take}
 use Rattle.std.specs.Io.KnownBytes.{Appends, Consumes, Keeps}
 use Rattle.book.specs.Good.{Good}
 use Rattle.book.specs.Ledger.{Ledger}
@@ -73,6 +73,10 @@ IsOneOrder L (Some loss) old said new = IsCutOnce L loss old said new
 -- somebody is at the place
 abbrev pub IsAt : {V : Type 0} → List (Option V) → ℕ → V → Type 0
 IsAt places place v = slice_get places place ≡ Some (Some v)
+
+-- whoever is at a place is at one before the bound
+abbrev pub AreBefore : {V : Type 0} → ℕ → List (Option V) → Type 0
+AreBefore {V = V} bound places = (place : ℕ) (v : V) → IsAt places place v → place < bound
 
 -- the connection is at no place
 abbrev pub IsNowhere : {S P T : Type 0} → List (Option (LineView S P T)) → ℕ → Type 0

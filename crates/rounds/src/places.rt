@@ -27,15 +27,21 @@ pub struct Places<D: Dialogue + Drop, S: Stream + Drop> {
     connections: usize,
     /// The place with which the next round begins.
     first: usize,
+    /// From here on no place was ever taken.
+    unused: usize,
 }
 
 impl<D: Dialogue + Drop, S: Stream + Drop> Model for Places<D, S> {
     ghost use Rattle.rounds.specs.Histories.{PlacesView};
     ghost use Rattle.rounds.specs.Lines.{LineView};
+    ghost use Rattle.std.specs.Prelude.{◌≤◌, length};
+    ghost use Rattle.rounds.specs.Rounds.{AreBefore};
 
     ghost Value = { PlacesView (LineView D D.Question S) };
 
     ghost view = { λ p. record { lines = p.lines.items; connections = p.connections } };
+
+    ghost invariant = { λ p. (p.unused ≤ length p.lines.items) × AreBefore p.unused p.lines.items };
 }
 
 impl<D: Dialogue + Drop, S: Stream + Drop> Places<D, S> {
@@ -53,6 +59,7 @@ impl<D: Dialogue + Drop, S: Stream + Drop> Places<D, S> {
             lines,
             connections: 0,
             first: 0,
+            unused: 0,
         })
     }
 
@@ -109,6 +116,9 @@ impl<D: Dialogue + Drop, S: Stream + Drop> Places<D, S> {
     {
         self.lines[place] = Some(Line::new(alloc, self.connections, dialogue, stream));
         self.connections += 1;
+        if self.unused <= place {
+            self.unused = place + 1;
+        }
     }
 
     /// Ends the dialogue at a place, where somebody is, and gives the stream back.
@@ -215,14 +225,14 @@ impl<D: Dialogue + Drop, S: Stream + Drop> Places<D, S> {
     {
         desk.is_kept();
         let was_stopped = desk.is_stopped();
-        self.first = ask_all(alloc, &mut self.lines, self.first, most, desk);
+        self.first = ask_all(alloc, &mut self.lines, self.first, self.unused, most, desk);
         match settle_round(desk, was_stopped) {
             Ok(()) => {
-                show_all(alloc, &mut self.lines);
+                show_all(alloc, &mut self.lines, self.unused);
                 Ok(())
             }
             Err(fault) => {
-                forget_all(&mut self.lines);
+                forget_all(&mut self.lines, self.unused);
                 Err(fault)
             }
         }

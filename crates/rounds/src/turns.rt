@@ -6,7 +6,7 @@ ghost use Rattle.book.specs.Ledger.{Ledger};
 ghost use Rattle.desk.specs.Deferred.{snapshot_off};
 ghost use Rattle.desk.specs.Desk.{IsStored, LeavesEither, Snapshot};
 ghost use Rattle.rounds.specs.Lines.{Heard, Said, speaks};
-ghost use Rattle.rounds.specs.Rounds.{AtEach, HasQuestion, HasTurnAt, InRound, IsForgotten, IsLooked, IsRead, IsShown, IsWritten, OnlyPutsOff, SameAt, standing_at};
+ghost use Rattle.rounds.specs.Rounds.{AreBefore, AtEach, HasQuestion, HasTurnAt, InRound, IsForgotten, IsLooked, IsRead, IsShown, IsWritten, OnlyPutsOff, SameAt, standing_at};
 
 use crate::line::Line;
 use crate::standing::Standing;
@@ -117,16 +117,18 @@ fn left_of(left: usize, is_answered: bool) -> usize {
     }
 }
 
-/// Answers a question of each connection from a place on, up to `most` of them: how many more may be answered, and the place
-/// behind the last.
+/// Answers a question of each connection from a place on and before the place `taken`, up to `most` of them: how many more may
+/// be answered, and the place behind the last.
 fn ask_from<D: Dialogue + Drop, S: Stream + Drop, K: Keep>(
     alloc: Global,
     lines: &mut [Option<Line<D, S>>],
     first: usize,
+    taken: usize,
     most: usize,
     desk: &mut Desk<Deferred<K>>,
 ) -> (usize, usize)
     requires going { D.may_stop → ⊥ }
+    requires within { taken ≤ length lines.old }
     ensures seats { AtEach SameAt lines.old lines.new }
     ensures asked { (heard : ℕ → Heard D.Asked D.Told) (start : Snapshot)
         → InRound (speaks D.Dialogue S.Stream) start (snapshot_off desk.old) lines.old heard
@@ -135,26 +137,28 @@ fn ask_from<D: Dialogue + Drop, S: Stream + Drop, K: Keep>(
 {
     desk.is_stopped();
     let mut left = most;
-    for place in first..lines.len() {
+    for place in first..taken {
         if left == 0 {
             return (0, place);
         }
         let is_answered = turn_at(alloc, &mut lines[place], desk);
         left = left_of(left, is_answered);
     }
-    (left, lines.len())
+    (left, taken)
 }
 
-/// Answers questions of all connections in turn, one of each from a place on, and then more of those that have more, up to
-/// `most` of them: the place with which the next round begins.
+/// Answers questions of all connections before the place `taken` in turn, one of each from a place on, and then more of those
+/// that have more, up to `most` of them: the place with which the next round begins.
 pub fn ask_all<D: Dialogue + Drop, S: Stream + Drop, K: Keep>(
     alloc: Global,
     lines: &mut [Option<Line<D, S>>],
     first: usize,
+    taken: usize,
     most: usize,
     desk: &mut Desk<Deferred<K>>,
 ) -> usize
     requires going { D.may_stop → ⊥ }
+    requires within { taken ≤ length lines.old }
     ensures seats { AtEach SameAt lines.old lines.new }
     ensures asked { (heard : ℕ → Heard D.Asked D.Told) (start : Snapshot)
         → InRound (speaks D.Dialogue S.Stream) start (snapshot_off desk.old) lines.old heard
@@ -165,7 +169,7 @@ pub fn ask_all<D: Dialogue + Drop, S: Stream + Drop, K: Keep>(
     let mut left = most;
     let mut from = first;
     for _turns in 0..most {
-        let (rest, end) = ask_from(alloc, lines, from, left, desk);
+        let (rest, end) = ask_from(alloc, lines, from, taken, left, desk);
         if rest == 0 {
             return end;
         }
@@ -187,14 +191,17 @@ fn show_at<D: Dialogue + Drop, S: Stream + Drop>(alloc: Global, line: &mut Optio
     }
 }
 
-/// Shows what is hidden at each place.
+/// Shows what is hidden at each place, where nobody is from the place `taken` on.
 pub fn show_all<D: Dialogue + Drop, S: Stream + Drop>(
     alloc: Global,
     lines: &mut [Option<Line<D, S>>],
+    taken: usize,
 )
+    requires within { taken ≤ length lines.old }
+    requires before { AreBefore taken lines.old }
     ensures { AtEach (IsShown (speaks D.Dialogue S.Stream)) lines.old lines.new }
 {
-    for place in 0..lines.len() {
+    for place in 0..taken {
         show_at(alloc, &mut lines[place]);
     }
 }
@@ -208,11 +215,16 @@ fn forget_at<D: Dialogue + Drop, S: Stream + Drop>(line: &mut Option<Line<D, S>>
     }
 }
 
-/// Forgets what is hidden at each place.
-pub fn forget_all<D: Dialogue + Drop, S: Stream + Drop>(lines: &mut [Option<Line<D, S>>])
+/// Forgets what is hidden at each place, where nobody is from the place `taken` on.
+pub fn forget_all<D: Dialogue + Drop, S: Stream + Drop>(
+    lines: &mut [Option<Line<D, S>>],
+    taken: usize,
+)
+    requires within { taken ≤ length lines.old }
+    requires before { AreBefore taken lines.old }
     ensures { AtEach (IsForgotten (speaks D.Dialogue S.Stream)) lines.old lines.new }
 {
-    for place in 0..lines.len() {
+    for place in 0..taken {
         forget_at(&mut lines[place]);
     }
 }

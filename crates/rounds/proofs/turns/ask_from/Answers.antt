@@ -3,7 +3,7 @@ use Rattle.std.specs.Prelude.{slice_get}
 use Rattle.std.proofs.lemmas.Option.{slice_get-get_or}
 use Rattle.rounds.specs.Lines.{speaks}
 use Rattle.rounds.specs.Rounds.{SameAt}
-use Rattle.rounds.proofs.Lists.{each_on, each_same, each_set}
+use Rattle.rounds.proofs.Lists.{each_on, each_same, each_set, each_size}
 use Rattle.rounds.proofs.OneTurn.{seat_on, seat_still, turn_more, turn_seat}
 use Rattle.rounds.proofs.Settings.{off_on, off_same}
 use Rattle.rounds.proofs.turns.ask_from.Goals as goal
@@ -22,7 +22,8 @@ loop-place-preserved g c =
     let p = c.loop-place.place in
     let turn = c.turn_at-is_answered in
     let v = get_or lines p c.index-lines-place.result in
-    let is_there : slice_get lines p ≡ Some v = slice_get-get_or lines p c.index-lines-place.result (omega (arith, c.loop-place-test.true)) in
+    let size = each_size SameAt _ _ c.loop-place.invariant.seats in
+    let is_there : slice_get lines p ≡ Some v = slice_get-get_or lines p c.index-lines-place.result (omega (arith, c.loop-place-test.true, size, c.requires.within)) in
     record {
       seats = each_on SameAt seat_on _ _ _ c.loop-place.invariant.seats
           (each_set SameAt seat_still lines p v turn.new.line is_there (turn_seat talk turn.result v turn.new.line _ _ turn.ensures.turn));
