@@ -4,6 +4,7 @@ pub mod OneLine
 pub mod Saying
 pub mod Standings
 pub mod OneTurn
+pub mod Taken
 pub mod Telling
 pub mod Reaching
 pub mod Holding

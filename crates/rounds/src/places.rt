@@ -1,6 +1,6 @@
 //! Connections at their places, and the rounds in which their questions are answered.
 
-ghost use Rattle.std.specs.Prelude.{◌≡◌, ◌≢◌, ◌⊎◌, ◌↔◌, ◌<◌, ◌+◌, ◌-◌, ◌^◌, [], ◌∷◌, ◌++◌, false, true, length, set, slice_get, List, None, Option, Some, ℕ, option_map, IfNone, IfOk, IfSome, IsTrue, OnErr, OnOk};
+ghost use Rattle.std.specs.Prelude.{◌≡◌, ◌≢◌, ◌⊎◌, ◌↔◌, ◌<◌, ◌≤◌, ◌+◌, ◌-◌, ◌^◌, [], ◌∷◌, ◌++◌, false, true, length, set, slice_get, List, None, Option, Some, ℕ, option_map, IfNone, IfOk, IfSome, IsTrue, OnErr, OnOk};
 ghost use Rattle.desk.specs.Deferred.{snapshot_off};
 ghost use Rattle.desk.specs.Desk.{IsStored, Snapshot};
 ghost use Rattle.rounds.specs.Histories.{IsReached, Visit, visit_of};
@@ -18,6 +18,15 @@ use keep::Keep;
 use std::alloc::{AllocError, Global};
 use std::io;
 use std::marker::Model;
+
+/// The greater of two numbers.
+fn greater_of(left: usize, right: usize) -> usize
+    ensures left { left ≤ result }
+    ensures right { right ≤ result }
+    ensures least { (most : ℕ) → left ≤ most → right ≤ most → result ≤ most }
+{
+    if left < right { right } else { left }
+}
 
 /// Connections, each at a place.
 #[derive(Drop)]
@@ -116,9 +125,7 @@ impl<D: Dialogue + Drop, S: Stream + Drop> Places<D, S> {
     {
         self.lines[place] = Some(Line::new(alloc, self.connections, dialogue, stream));
         self.connections += 1;
-        if self.unused <= place {
-            self.unused = place + 1;
-        }
+        self.unused = greater_of(self.unused, place + 1);
     }
 
     /// Ends the dialogue at a place, where somebody is, and gives the stream back.

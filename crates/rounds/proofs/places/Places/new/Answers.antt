@@ -1,4 +1,4 @@
-use Rattle.std.proofs.Common.{◌≡◌, ◌∙◌, Some, ◌+◌, ap, length, length-append, refl, subst}
+use Rattle.std.proofs.Common.{◌≡◌, ◌∙◌, Some, ◌+◌, ap, arith, length, length-append, refl, subst}
 use Rattle.std.specs.Prelude.{slice_get}
 use Rattle.rounds.specs.Lines.{speaks}
 use Rattle.rounds.proofs.Lists.{free_more}
@@ -13,3 +13,6 @@ loop-place-preserved g c = record {
 
 pub returns-clause-reached : goal.returns-clause-reached
 returns-clause-reached g c = λ start. reach_none (speaks g.D.Dialogue g.S.Stream) start _ refl c.loop-place.invariant.free
+
+pub invariant_of-result : goal.invariant_of-result
+invariant_of-result g c = (omega arith, λ place v e. absurd (c.loop-place.invariant.free place v e))

@@ -1,13 +1,14 @@
-use Rattle.std.proofs.Common.{◌≡◌, ◌∙◌, ◌++◌, Some, ap, drop, false, length, subst, sym, take, true}
+use Rattle.std.proofs.Common.{◌≡◌, ◌∙◌, ◌≤◌, ◌++◌, Some, ap, drop, false, length, subst, sym, take, true}
 use Rattle.desk.specs.Deferred.{snapshot_off}
 use Rattle.desk.specs.Desk.{IsStored, LeavesEither}
 use Rattle.rounds.specs.Histories.{IsReached, heard_in}
 use Rattle.rounds.specs.Lines.{speaks}
-use Rattle.rounds.specs.Rounds.{AtEach, InRound, IsForgotten, IsShown, SameAt, lost_between, stopped_at}
+use Rattle.rounds.specs.Rounds.{AreBefore, AtEach, InRound, IsForgotten, IsShown, SameAt, lost_between, stopped_at}
 use Rattle.rounds.proofs.Lists.{by_test, each_on, each_size, each_so, whole_back}
 use Rattle.rounds.proofs.OneTurn.{seat_forgotten, seat_on, seat_shown}
 use Rattle.rounds.proofs.Holding.{round_begins, round_kept, round_lost}
 use Rattle.rounds.proofs.Settings.{going_before}
+use Rattle.rounds.proofs.Taken.{before_each, taken_each}
 use Rattle.rounds.proofs.places.Places.round.Goals as goal
 
 pub returns-in-Ok-clause-told : goal.returns-in-Ok-clause-told
@@ -136,3 +137,56 @@ returns-in-Err-clause-seats g c =
     let all = each_on SameAt seat_on items ask.new.lines c.forget_all.new.lines seats (each_so (IsForgotten talk) SameAt (seat_forgotten talk) _ _ then) in
     subst (λ v. AtEach SameAt v.lines (take len (c.forget_all.new.lines ++ drop (length c.forget_all.new.lines) mid))) c.self.view_is
     (subst (λ xs. AtEach SameAt items xs) (sym (whole_back len c.forget_all.new.lines (drop (length c.forget_all.new.lines) mid) size_last)) all)
+
+pub show_all-requires-clause-before : goal.show_all-requires-clause-before
+show_all-requires-clause-before g c =
+    let items = c.self.inside.lines.items in
+    let len = c.self.inside.lines.len in
+    let ask = c.ask_all-self-inside in
+    let seats = subst (λ xs. AtEach SameAt xs ask.new.lines) c.deref_mut.ensures.value ask.ensures.seats in
+    let size_asked : length ask.new.lines ≡ len = each_size SameAt _ _ ask.ensures.seats ∙ c.deref_mut.ensures.len in
+    let same : c.deref_mut-in-Ok.result.now ≡ ask.new.lines = c.deref_mut-in-Ok.ensures.value ∙ whole_back len ask.new.lines (drop (length ask.new.lines) items) size_asked in
+    subst (λ xs. AreBefore c.self.inside.unused xs) (sym same) (before_each c.self.inside.unused items ask.new.lines seats c.self.invariant.1)
+
+pub invariant_of-self : goal.invariant_of-self
+invariant_of-self g c =
+    let talk = speaks g.D.Dialogue g.S.Stream in
+    let items = c.self.inside.lines.items in
+    let len = c.self.inside.lines.len in
+    let ask = c.ask_all-self-inside in
+    let seats = subst (λ xs. AtEach SameAt xs ask.new.lines) c.deref_mut.ensures.value ask.ensures.seats in
+    let size_asked : length ask.new.lines ≡ len = each_size SameAt _ _ ask.ensures.seats ∙ c.deref_mut.ensures.len in
+    let mid = take len (ask.new.lines ++ drop (length ask.new.lines) items) in
+    let same : c.deref_mut-in-Ok.result.now ≡ ask.new.lines = c.deref_mut-in-Ok.ensures.value ∙ whole_back len ask.new.lines (drop (length ask.new.lines) items) size_asked in
+    let then = subst (λ xs. AtEach (IsShown talk) xs c.show_all.new.lines) same c.show_all.ensures in
+    let size_last : length c.show_all.new.lines ≡ len = each_size (IsShown talk) _ _ then ∙ size_asked in
+    let all = each_on SameAt seat_on items ask.new.lines c.show_all.new.lines seats (each_so (IsShown talk) SameAt (seat_shown talk) _ _ then) in
+    subst (λ xs. (c.self.inside.unused ≤ length xs) × AreBefore c.self.inside.unused xs) (sym (whole_back len c.show_all.new.lines (drop (length c.show_all.new.lines) mid) size_last))
+    (taken_each c.self.inside.unused items c.show_all.new.lines all c.self.invariant)
+
+
+pub forget_all-requires-clause-before : goal.forget_all-requires-clause-before
+forget_all-requires-clause-before g c =
+    let items = c.self.inside.lines.items in
+    let len = c.self.inside.lines.len in
+    let ask = c.ask_all-self-inside in
+    let seats = subst (λ xs. AtEach SameAt xs ask.new.lines) c.deref_mut.ensures.value ask.ensures.seats in
+    let size_asked : length ask.new.lines ≡ len = each_size SameAt _ _ ask.ensures.seats ∙ c.deref_mut.ensures.len in
+    let same : c.deref_mut-in-Err.result.now ≡ ask.new.lines = c.deref_mut-in-Err.ensures.value ∙ whole_back len ask.new.lines (drop (length ask.new.lines) items) size_asked in
+    subst (λ xs. AreBefore c.self.inside.unused xs) (sym same) (before_each c.self.inside.unused items ask.new.lines seats c.self.invariant.1)
+
+pub invariant_of-self-in-Err : goal.invariant_of-self-in-Err
+invariant_of-self-in-Err g c =
+    let talk = speaks g.D.Dialogue g.S.Stream in
+    let items = c.self.inside.lines.items in
+    let len = c.self.inside.lines.len in
+    let ask = c.ask_all-self-inside in
+    let seats = subst (λ xs. AtEach SameAt xs ask.new.lines) c.deref_mut.ensures.value ask.ensures.seats in
+    let size_asked : length ask.new.lines ≡ len = each_size SameAt _ _ ask.ensures.seats ∙ c.deref_mut.ensures.len in
+    let mid = take len (ask.new.lines ++ drop (length ask.new.lines) items) in
+    let same : c.deref_mut-in-Err.result.now ≡ ask.new.lines = c.deref_mut-in-Err.ensures.value ∙ whole_back len ask.new.lines (drop (length ask.new.lines) items) size_asked in
+    let then = subst (λ xs. AtEach (IsForgotten talk) xs c.forget_all.new.lines) same c.forget_all.ensures in
+    let size_last : length c.forget_all.new.lines ≡ len = each_size (IsForgotten talk) _ _ then ∙ size_asked in
+    let all = each_on SameAt seat_on items ask.new.lines c.forget_all.new.lines seats (each_so (IsForgotten talk) SameAt (seat_forgotten talk) _ _ then) in
+    subst (λ xs. (c.self.inside.unused ≤ length xs) × AreBefore c.self.inside.unused xs) (sym (whole_back len c.forget_all.new.lines (drop (length c.forget_all.new.lines) mid) size_last))
+    (taken_each c.self.inside.unused items c.forget_all.new.lines all c.self.invariant)
