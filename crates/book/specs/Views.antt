@@ -1,8 +1,10 @@
--- What a view of a field or an order tells of it.
+-- What a view of a field, an order or a kept key tells of it.
 use Rattle.std.specs.Prelude.{pos, ◌≡◌}
 use Rattle.book.specs.declared.book.views.FieldView.{FieldView}
+use Rattle.book.specs.declared.book.views.KeptView.{KeptView}
 use Rattle.book.specs.declared.book.views.OrderView.{OrderView}
-use Rattle.book.specs.Ledger.{Field, Ledger, Order, name_of, shown_state}
+use Rattle.book.specs.Ledger.{Field, Kept, Ledger, Order, name_of, shown_state}
+use Rattle.words.specs.Spelling.{spelling}
 use Rattle.book.specs.Outcomes.{IsInfimum, IsSupremum, settled}
 
 -- the field's name and bounds, its settled value, and its infimum and supremum over the outcomes of the open orders
@@ -21,3 +23,8 @@ pub record ShowsOrder (o : Order) (view : OrderView) : Type 0 where
   pub until : view.until ≡ o.until
   pub state : view.state ≡ shown_state o.state o.firm
   pub lines : view.lines.now ≡ o.lines
+
+-- its place and the spelling of its command
+pub record ShowsKept (k : Kept) (view : KeptView) : Type 0 where
+  pub place : view.place ≡ k.place
+  pub words : view.words.now ≡ spelling k.command

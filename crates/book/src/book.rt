@@ -37,7 +37,7 @@ pub use plan::{Plan, Planned};
 use std::alloc::Global;
 use std::marker::Model;
 pub use tables::TablesFault;
-pub use views::{FieldView, OrderView};
+pub use views::{FieldView, KeptView, OrderView};
 use words::{Command, Memory};
 
 /// A field: the level at which it started, and its stock as it stands, with its bounds.

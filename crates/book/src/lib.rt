@@ -8,7 +8,7 @@ mod limits;
 mod order;
 mod rows;
 
-pub use book::{Book, FieldView, OrderView, Plan, Planned, TablesFault};
+pub use book::{Book, FieldView, KeptView, OrderView, Plan, Planned, TablesFault};
 pub use laws::{
     answers_stay_good, bounds_are_held, changes_are_put_in_turn, changes_suffice,
     each_command_changes_its_rows, exactly_one_answer, firm_orders_stay, good_ledgers_honour,

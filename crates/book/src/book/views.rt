@@ -3,14 +3,14 @@
 ghost use Rattle.std.specs.Prelude.{◌≡◌, length, map, slice_get, IsSomeAnd, MatchOption};
 ghost use Rattle.std.specs.List.Sorted.{IsStrictlySortedBy};
 ghost use Rattle.book.specs.Good.{Good};
-ghost use Rattle.book.specs.Ledger.{Ledger, field_named, name_cmp, order_numbered, name_of, shown_state};
+ghost use Rattle.book.specs.Ledger.{Ledger, field_named, kept_under, name_cmp, name_of, open_orders, order_numbered, places, shown_state};
 ghost use Rattle.book.specs.inner.RunningNumbers.{IsUpToDate};
 ghost use Rattle.book.specs.Model.{field_of};
-ghost use Rattle.book.specs.Views.{ShowsField, ShowsOrder};
+ghost use Rattle.book.specs.Views.{ShowsField, ShowsKept, ShowsOrder};
 
 use super::{Book, FieldEntry};
 use crate::order::{Kind, Line, Standing, State};
-use escrow::{Article, Branch, FieldName, Level, Moment, OrderNo};
+use escrow::{Article, Branch, FieldName, Key, Level, Moment, OrderNo};
 
 /// A field as it stands: its bounds, its settled value, and the least and the greatest value that the open
 /// orders can leave.
@@ -35,7 +35,54 @@ pub struct OrderView<'a> {
     pub lines: &'a [Line],
 }
 
+/// What is kept under a key: the place of its command, and the command's one spelling.
+#[derive(Clone, Copy)]
+pub struct KeptView<'a> {
+    pub place: u64,
+    pub words: &'a [u8],
+}
+
 impl Book {
+    /// The clock.
+    pub fn clock(&self) -> Moment
+        ensures { result ≡ self.now.ledger.clock }
+    {
+        self.clock
+    }
+
+    /// How many places are taken: one for each command that was accepted.
+    pub fn places(&self) -> usize
+        ensures { result ≡ places self.now.ledger }
+    {
+        self.kept.len()
+    }
+
+    /// How many orders there are, open or ended.
+    pub fn order_count(&self) -> usize
+        ensures { result ≡ length self.now.ledger.orders }
+    {
+        self.orders.len()
+    }
+
+    /// How many orders are open.
+    pub fn open_count(&self) -> usize
+        ensures { result ≡ open_orders self.now.ledger }
+    {
+        self.open_count
+    }
+
+    /// What is kept under that key, or `None` exactly where nothing is.
+    pub fn kept(&self, key: Key) -> Option<KeptView<'_>>
+        ensures { let found = kept_under self.now.ledger key in MatchOption result (found ≡ None)
+            (λ view. IsSomeAnd found (λ k. ShowsKept k view)) }
+    {
+        let entry = self.kept_entry(key)?;
+        Some(KeptView {
+            place: entry.place,
+            words: entry.words.as_bytes(),
+        })
+    }
+
     /// The field of that name, or `None` exactly where there is none.
     pub fn field(&self, branch: Branch, article: Article) -> Option<FieldView>
         ensures { let found = field_named self.now.ledger (name_of branch article) in MatchOption result (found ≡ None)
