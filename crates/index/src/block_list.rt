@@ -2,7 +2,7 @@
 
 ghost use Rattle.std.specs.Prelude.{◌≡◌, ◌≤◌, ◌<◌, ◌+◌, ◌-◌, ◌++◌, ◌∷◌, ◌^◌, [], Some, length, slice_get, slice_set, OnOk, OnErr};
 ghost use Rattle.std.specs.Fn.{ComputesKey};
-ghost use Rattle.std.specs.List.{insert};
+ghost use Rattle.std.specs.List.{insert, remove};
 ghost use Rattle.std.specs.List.Sorted.{IsBinarySearchResult, IsSearchInRange};
 ghost use Rattle.std.specs.VecDeque.{deque_capacity};
 ghost use Rattle.index.specs.BlockList.{no_blocks};
@@ -72,6 +72,19 @@ fn push_through<T: Drop>(block: &mut VecDeque<T>, place: usize, item: T) -> T
     last
 }
 
+/// Takes the item at a place out of a block. Takes no memory.
+fn take_out<T>(block: &mut VecDeque<T>, place: usize) -> T
+    requires { place < length block.old.items }
+    ensures item { slice_get block.old.items place ≡ Some result }
+    ensures items { block.new.items ≡ remove block.old.items place }
+    ensures storage { deque_capacity block.new ≡ deque_capacity block.old }
+{
+    let Some(item) = block.remove(place) else {
+        unreachable!()
+    };
+    item
+}
+
 impl<T> BlockList<T> {
     /// No items. Takes no memory.
     pub fn new(alloc: Global) -> BlockList<T>
@@ -90,6 +103,15 @@ impl<T> BlockList<T> {
         ensures small { length self.now.items ≤ 2 ^ 32 }
     {
         self.len
+    }
+
+    /// How many items fit without memory.
+    pub fn capacity(&self) -> usize
+        ensures value { result ≡ self.now.capacity }
+        ensures fits { length self.now.items ≤ self.now.capacity }
+        ensures small { self.now.capacity ≤ 2 ^ 32 }
+    {
+        BLOCK_LEN * self.blocks.len()
     }
 
     /// The item at a place.
@@ -132,7 +154,8 @@ impl<T> BlockList<T> {
         Err(low)
     }
 
-    /// Makes room for so many items more. Memory is wanted only where there was no such room.
+    /// Makes room for so many items more. Memory is wanted only where there was no such room; where there was,
+    /// nothing changes.
     pub fn reserve(&mut self, additional: usize) -> Result<(), AllocError>
     where
         T: Drop,
@@ -141,6 +164,7 @@ impl<T> BlockList<T> {
         ensures capacity { self.old.capacity ≤ self.new.capacity }
         ensures small { self.new.capacity ≤ 2 ^ 32 }
         ensures full { OnErr result (self.old.capacity - length self.old.items < additional) }
+        ensures still { length self.old.items + additional ≤ self.old.capacity → self.new ≡ self.old }
     {
         if MAX_LEN.saturating_sub(self.len) < additional {
             return Err(AllocError);
@@ -174,5 +198,25 @@ impl<T> BlockList<T> {
         }
         put_in(&mut self.blocks[index], at, item);
         self.len += 1;
+    }
+
+    /// Takes the item at a place out, and gives it back: those behind it move up by one. Takes no memory, and keeps
+    /// what there is.
+    pub fn remove(&mut self, place: usize) -> T
+    where
+        T: Drop,
+        requires place { place < length self.old.items }
+        ensures item { slice_get self.old.items place ≡ Some result }
+        ensures items { self.new.items ≡ remove self.old.items place }
+        ensures capacity { self.new.capacity ≡ self.old.capacity }
+        ensures storage { self.new.storage ≡ self.old.storage }
+    {
+        let item = take_out(&mut self.blocks[place / BLOCK_LEN], place % BLOCK_LEN);
+        self.len -= 1;
+        for index in place / BLOCK_LEN..self.len / BLOCK_LEN {
+            let next = take_out(&mut self.blocks[index + 1], 0);
+            put_in(&mut self.blocks[index], BLOCK_LEN - 1, next);
+        }
+        item
     }
 }

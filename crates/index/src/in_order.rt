@@ -66,6 +66,13 @@ impl<K: Ord, V> InOrder<K, V> {
         self.entries.len()
     }
 
+    /// How many entries more fit without memory.
+    pub fn room(&self) -> usize
+        ensures { result ≡ self.now.room }
+    {
+        self.entries.capacity().min(self.order.capacity()) - self.entries.len()
+    }
+
     /// The entries as they came in.
     pub fn arrived(&self) -> &[(K, V)]
         ensures { IsPermutation self.now.entries result.now }
@@ -136,13 +143,18 @@ impl<K: Ord, V> InOrder<K, V> {
             .binary_search_by(|index| compare_at(entries, *index, key))
     }
 
-    /// Makes room for so many entries more. Memory is wanted only where there was no such room.
+    /// Makes room for so many entries more. Memory is wanted only where there was no such room; where there was,
+    /// nothing changes.
     pub fn reserve(&mut self, additional: usize) -> Result<(), AllocError>
         ensures ok { OnOk result (additional ≤ self.new.room) }
         ensures same { self.new.entries ≡ self.old.entries }
         ensures room_stays { self.old.room ≤ self.new.room }
         ensures full { OnErr result (self.old.room < additional) }
+        ensures still { additional ≤ self.old.room → self.new ≡ self.old }
     {
+        if additional <= self.room() {
+            return Ok(());
+        }
         self.order.reserve(additional)?;
         self.entries.reserve(additional)?;
         Ok(())

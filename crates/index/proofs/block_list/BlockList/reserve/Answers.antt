@@ -13,7 +13,8 @@ loop-preserved g c =
     let items : length c.args.self.now.items ≡ c.self.inside.len = ap (λ v. length v.items) (sym c.self.view_is) ∙ length-joined c.self.inside.len (map (λ b. b.items) c.self.inside.blocks.items) c.self.invariant.filled in
     let few : length c.loop.self-inside.blocks.items < 2 ^ 22 = omega (arith, lie.3, c.if-saturating_sub-additional.false, items, c.loop-test.true, c.div_ceil-end.ensures, c.saturating_sub.ensures, c.len.ensures, c.loop.self-inside.blocks.ok.0) in
     let more = lie_in_more (λ b. b.items) deque_capacity c.loop.self-inside.len c.loop.self-inside.blocks.items c.in_ok-with_capacity.field-0 lie.0 few c.in_ok-with_capacity.ensures.items c.in_ok-with_capacity.ensures.capacity in
-    rw c.in_ok-push.ensures.items (more.0, lie.1, more.1 ∙ lie.2, omega (arith, c.in_ok-push.ensures.len, lie.3))
+    let pushed = c.in_ok-push.ensures.items in
+    (rw pushed more.0, lie.1, rw pushed (more.1 ∙ lie.2), omega (arith, c.in_ok-push.ensures.len, lie.3), λ none. absurd (omega (arith, none)))
 
 pub returns-then-saturating_sub-additional-clause-full : goal.returns-then-saturating_sub-additional-clause-full
 returns-then-saturating_sub-additional-clause-full g c =
@@ -38,3 +39,22 @@ returns-in_err-push-clause-full g c =
 
 pub returns-clause-ok : goal.returns-clause-ok
 returns-clause-ok g c = omega (arith, fits c.self.inside.len (map (λ b. b.items) c.self.inside.blocks.items) c.self.invariant.filled, length-map c.self.inside.blocks.items (λ b. b.items), c.self.inside.blocks.ok.0, length-joined c.loop.self-inside.len (map (λ b. b.items) c.loop.self-inside.blocks.items) c.loop.invariant.0.filled, c.loop.invariant.1, c.loop.invariant.3, c.loop-test.false, c.div_ceil-end.ensures, c.saturating_sub.ensures, c.len.ensures)
+
+pub returns-in_err-with_capacity-clause-still : goal.returns-in_err-with_capacity-clause-still
+returns-in_err-with_capacity-clause-still g c = λ there.
+    let items : length c.args.self.now.items ≡ c.self.inside.len = ap (λ v. length v.items) (sym c.self.view_is) ∙ length-joined c.self.inside.len (map (λ b. b.items) c.self.inside.blocks.items) c.self.invariant.filled in
+    let capacity = ap (λ v. v.capacity) (sym c.self.view_is) in
+    absurd (omega (arith, there, items, capacity, c.loop-test.true, c.div_ceil-end.ensures, c.saturating_sub.ensures, c.len.ensures))
+
+pub returns-in_err-push-clause-still : goal.returns-in_err-push-clause-still
+returns-in_err-push-clause-still g c = λ there.
+    let items : length c.args.self.now.items ≡ c.self.inside.len = ap (λ v. length v.items) (sym c.self.view_is) ∙ length-joined c.self.inside.len (map (λ b. b.items) c.self.inside.blocks.items) c.self.invariant.filled in
+    let capacity = ap (λ v. v.capacity) (sym c.self.view_is) in
+    absurd (omega (arith, there, items, capacity, c.loop-test.true, c.div_ceil-end.ensures, c.saturating_sub.ensures, c.len.ensures))
+
+pub returns-clause-still : goal.returns-clause-still
+returns-clause-still g c = λ there.
+    let items : length c.args.self.now.items ≡ c.self.inside.len = ap (λ v. length v.items) (sym c.self.view_is) ∙ length-joined c.self.inside.len (map (λ b. b.items) c.self.inside.blocks.items) c.self.invariant.filled in
+    let capacity = ap (λ v. v.capacity) (sym c.self.view_is) in
+    let none : c.loop.counter ≡ 0 = omega (arith, there, items, capacity, c.loop-test.false, c.div_ceil-end.ensures, c.saturating_sub.ensures, c.len.ensures) in
+    rw (c.loop.invariant.4 none) c.self.view_is

@@ -9,3 +9,4 @@ invariant-loop g l =
     × (l.self-inside.len ≡ l.initial.self-inside.len)
     × (joined (map (λ b. b.items) l.self-inside.blocks.items) ≡ joined (map (λ b. b.items) l.initial.self-inside.blocks.items))
     × (vec_len l.self-inside.blocks ≡ vec_len l.initial.self-inside.blocks + l.counter)
+    × (l.counter ≡ 0 → l.self-inside ≡ l.initial.self-inside)
