@@ -1,4 +1,4 @@
-//! A list into which one item more goes at any place by moving few of those behind it.
+//! A list into which one item more goes at any place, and out of which one comes, by moving few of those behind it.
 
 ghost use Rattle.std.specs.Prelude.{◌≡◌, ◌≤◌, ◌<◌, ◌+◌, ◌-◌, ◌++◌, ◌∷◌, ◌^◌, [], Some, length, slice_get, slice_set, OnOk, OnErr};
 ghost use Rattle.std.specs.Fn.{ComputesKey};
@@ -154,8 +154,7 @@ impl<T> BlockList<T> {
         Err(low)
     }
 
-    /// Makes room for so many items more. Memory is wanted only where there was no such room; where there was,
-    /// nothing changes.
+    /// Makes room for so many items more. Where there was such room, no memory is wanted and nothing changes.
     pub fn reserve(&mut self, additional: usize) -> Result<(), AllocError>
     where
         T: Drop,
@@ -170,7 +169,7 @@ impl<T> BlockList<T> {
             return Err(AllocError);
         }
         let alloc = *self.blocks.allocator();
-        let room = BLOCK_LEN * self.blocks.len() - self.len;
+        let room = self.capacity() - self.len;
         for _ in 0..additional.saturating_sub(room).div_ceil(BLOCK_LEN) {
             self.blocks
                 .push(VecDeque::with_capacity(alloc, BLOCK_LEN)?)?;
@@ -200,8 +199,8 @@ impl<T> BlockList<T> {
         self.len += 1;
     }
 
-    /// Takes the item at a place out, and gives it back: those behind it move up by one. Takes no memory, and keeps
-    /// what there is.
+    /// Takes the item at a place out and gives it back. Those behind it move up by one. Takes no memory, and gives
+    /// none back.
     pub fn remove(&mut self, place: usize) -> T
     where
         T: Drop,
@@ -213,6 +212,7 @@ impl<T> BlockList<T> {
     {
         let item = take_out(&mut self.blocks[place / BLOCK_LEN], place % BLOCK_LEN);
         self.len -= 1;
+        // so that each block is full but the last
         for index in place / BLOCK_LEN..self.len / BLOCK_LEN {
             let next = take_out(&mut self.blocks[index + 1], 0);
             put_in(&mut self.blocks[index], BLOCK_LEN - 1, next);

@@ -143,8 +143,7 @@ impl<K: Ord, V> InOrder<K, V> {
             .binary_search_by(|index| compare_at(entries, *index, key))
     }
 
-    /// Makes room for so many entries more. Memory is wanted only where there was no such room; where there was,
-    /// nothing changes.
+    /// Makes room for so many entries more. Where there was such room, no memory is wanted and nothing changes.
     pub fn reserve(&mut self, additional: usize) -> Result<(), AllocError>
         ensures ok { OnOk result (additional ≤ self.new.room) }
         ensures same { self.new.entries ≡ self.old.entries }

@@ -8,4 +8,5 @@ returns-clause-fits g c =
     let inside = c.self.inside in
     let blocks = map (λ b. b.items) inside.blocks.items in
     let filled = c.self.invariant.filled in
-    rw (← c.self.view_is) (omega (arith, length-joined inside.len blocks filled, fits inside.len blocks filled, length-map inside.blocks.items (λ b. b.items), inside.blocks.ok.0))
+    let as_many = length-map inside.blocks.items (λ b. b.items) in
+    rw (← c.self.view_is) (omega (arith, length-joined _ blocks filled, fits _ blocks filled, as_many, inside.blocks.ok.0))
