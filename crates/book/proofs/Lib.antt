@@ -32,6 +32,7 @@ pub mod Texts
 pub mod Lists
 pub mod CommandOrder
 pub mod NextRows
+pub mod OpenOrders
 pub mod RunningNumbers
 pub mod ChangedFields
 pub mod FieldRows

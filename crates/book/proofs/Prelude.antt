@@ -15,7 +15,7 @@ pub use Rattle.book.specs.Plans.{ChangesTo}
 pub use Rattle.book.specs.Rows.{Content, DeskCells, FieldCells, FirmCells, IsFieldRow, IsRowsOf, KeptCells, LineCells, OrderCells, desk_row, field_cmp, firm_cmp, firm_row, firm_rows, kept_cmp, kept_row, line_cmp, line_row, lines_from, move_cmp, move_row, order_cmp, order_lines, order_row}
 pub use Rattle.book.specs.inner.RunningNumbers.{Accepts, AreHeld, Becomes, Counts, CountsAll, CountsMore, Falls, HasEntry, IsChangedField, IsUpToDate, MayBecome, MayCount, ShareStep, add_part, added_on, before_on, new_share, no_share, settled_part, share_before, share_numbers, share_of, share_step, share_steps, shares_of_step, take_part, with_entries}
 pub use Rattle.book.specs.Steps.{LineStep, Step, becomes_firm, changes_held, changes_line, changes_state, changes_stock, line_steps, lines_of, orders_made, steps, steps_of}
-pub use Rattle.book.specs.inner.StepsSeen.{Leaves, line_seen, lines_before, number_cmp, joined, step_rows, step_seen, step_to}
+pub use Rattle.book.specs.inner.StepsSeen.{line_seen, lines_before, number_cmp, joined, step_rows, step_seen, step_to}
 pub use Rattle.book.specs.inner.Sums.{AreLinesOnFields, AreMovesOnFields, AreOnFields, AreOrdersOnFields, IsField, added, entry_name, lines_numbers, numbers_on, only_on, part_of_line}
 pub use Rattle.book.specs.Tables.{field_cells, firm_cells, kept_cells, line_cells, move_cells, no_content, order_cells, rows_among}
 pub use Rattle.book.specs.inner.RowEntries.{AreNumbered, AreOthers, BeginsOther, HasNumbers, HaveNumbers, IsBounded, IsFieldTold, IsKeptTold, IsLineTold, IsMoveByItself, IsMoveTold, IsOrderByItself, IsWhole, TellHeads, TellOrders, TellsField, head_of, head_row, mark_rows, told_ledger}

@@ -5,6 +5,7 @@ pub mod Next
 pub mod Answers
 pub mod Good
 pub mod Future
+pub mod OrderLists
 pub mod Model
 pub mod Examples
 pub mod Plans

@@ -5,6 +5,7 @@ use Rattle.std.specs.declared.cmp.Ordering.{Ordering}
 use Rattle.std.specs.Vec.{vec_capacity, vec_len}
 use Rattle.index.specs.InOrder.{EntryStorage, no_storage}
 use Rattle.book.specs.Ledger.{Field, Kept, Ledger, Move, Name, Order, name_of}
+use Rattle.book.specs.OrderLists.{OrderStorage, no_orders}
 use Rattle.book.specs.Rows.{FieldCells}
 use Rattle.book.specs.declared.book.Book.TheInside.{Inside}
 use Rattle.book.specs.declared.book.FieldEntry.{FieldEntry}
@@ -33,13 +34,13 @@ slots_cmp a b = nat_cmp a.number b.number
 pub record Storage : Type 0 where
   pub fields : EntryStorage
   pub moves : ℕ
-  pub orders : EntryStorage
+  pub orders : OrderStorage
   pub lines : List LineSlots
   pub kept : EntryStorage
 
 -- none
 abbrev pub nothing_stored : Storage
-nothing_stored = record { fields = no_storage; moves = 0; orders = no_storage; lines = []; kept = no_storage }
+nothing_stored = record { fields = no_storage; moves = 0; orders = no_orders; lines = []; kept = no_storage }
 
 -- the ledger, the room that has been made beside it, and the memory that is kept
 pub record BookView : Type 0 where

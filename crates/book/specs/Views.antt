@@ -1,9 +1,9 @@
 -- What a view of a field, an order or a kept key tells of it.
-use Rattle.std.specs.Prelude.{pos, ◌≡◌}
+use Rattle.std.specs.Prelude.{ℕ, pos, ◌≡◌, ◌&&◌, Option, find, nat_le}
 use Rattle.book.specs.declared.book.views.FieldView.{FieldView}
 use Rattle.book.specs.declared.book.views.KeptView.{KeptView}
 use Rattle.book.specs.declared.book.views.OrderView.{OrderView}
-use Rattle.book.specs.Ledger.{Field, Kept, Ledger, Order, name_of, shown_state}
+use Rattle.book.specs.Ledger.{Field, Kept, Ledger, Order, is_open, name_of, shown_state}
 use Rattle.words.specs.Spelling.{spelling}
 use Rattle.book.specs.Outcomes.{IsInfimum, IsSupremum, settled}
 
@@ -15,6 +15,10 @@ pub record ShowsField (A : Ledger) (f : Field) (view : FieldView) : Type 0 where
   pub value : pos view.value ≡ settled A f
   pub inf : IsInfimum A f (pos view.inf)
   pub sup : IsSupremum A f (pos view.sup)
+
+-- the first open order from that number on
+abbrev pub open_from : Ledger → ℕ → Option Order
+open_from A number = find (λ o. is_open o && nat_le number o.number) A.orders
 
 -- all of the order
 pub record ShowsOrder (o : Order) (view : OrderView) : Type 0 where

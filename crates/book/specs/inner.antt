@@ -3,6 +3,7 @@ pub mod Checking
 pub mod FieldRows
 pub mod InPlace
 pub mod KeptWords
+pub mod OpenOrders
 pub mod PlansSeen
 pub mod RowEntries
 pub mod RunningNumbers

@@ -2,19 +2,18 @@
 
 ghost use Rattle.book.specs.Future.{Honours, HonoursAlways, Settles};
 ghost use Rattle.book.specs.Good.{Good};
-ghost use Rattle.book.specs.Ledger.{name_of, new_ledger, field_named, kept_under, order_numbered, Ledger, is_open, is_transfer, places, insert_in_order, open_orders};
+ghost use Rattle.book.specs.Ledger.{name_of, new_ledger, field_named, kept_under, order_numbered, Ledger, is_transfer, places, insert_in_order};
 ghost use Rattle.book.specs.Next.{accept, move_made, next};
 ghost use Rattle.book.specs.Outcomes.{article_total};
 ghost use Rattle.book.specs.Plans.{Fits, HasRoomFor, KeepsStorage, RoomStays, NoRoomGrows};
-ghost use Rattle.book.specs.inner.StepsSeen.{Leaves, MayBePut, number_cmp};
+ghost use Rattle.book.specs.inner.StepsSeen.{MayBePut, number_cmp};
 ghost use Rattle.book.specs.Changes.{put_rows};
 ghost use Rattle.book.specs.inner.RunningNumbers.{IsUpToDate, with_entries};
 ghost use Rattle.book.specs.Tables.{rows_among};
 ghost use Rattle.book.specs.Model.{field_of, kept_of, order_of, move_of, nothing_stored, slots_cmp, slots_of};
 ghost use Rattle.std.specs.Cmp.Lexicographic.{slice_cmp};
-ghost use Rattle.std.specs.Option.{option_map_or};
 ghost use Rattle.std.specs.Ordering.{nat_cmp, is_lt};
-ghost use Rattle.std.specs.Prelude.{◌≡◌, IfSome, MatchOption, find, OnErr, OnOk, ◌<◌, ◌≤◌, ◌+◌, ◌-◌, None, ℕ, List, IsSomeAnd, IsTrue, count_by, false, length, map, option_map};
+ghost use Rattle.std.specs.Prelude.{◌≡◌, IfSome, MatchOption, find, OnErr, OnOk, ◌<◌, ◌≤◌, ◌+◌, ◌-◌, None, ℕ, List, IsSomeAnd, IsTrue, length, map, option_map};
 ghost use Rattle.std.specs.Str.{bytes_eq};
 ghost use Rattle.std.specs.Vec.{vec_capacity, vec_len};
 ghost use Rattle.words.specs.declared.command.Command.{Command};
@@ -29,7 +28,8 @@ mod tables;
 mod views;
 
 use crate::kept_words::KeptWords;
-use crate::order::{Order, OrderEntry, count_open, is_open};
+use crate::order::{Order, OrderEntry};
+use crate::orders::Orders;
 use crate::rows::Change;
 use escrow::{Article, Branch, FieldName, Key, Level, Moment, OrderNo, Quantity};
 use index::InOrder;
@@ -83,11 +83,9 @@ pub struct KeptEntry {
 #[derive(Drop)]
 pub struct Book {
     clock: Moment,
-    /// How many orders are open.
-    open_count: usize,
     fields: InOrder<FieldName, FieldEntry>,
     moves: Vec<MoveEntry>,
-    orders: InOrder<OrderNo, OrderEntry>,
+    orders: Orders,
     kept: InOrder<Key, KeptEntry>,
 }
 
@@ -111,10 +109,9 @@ impl Book {
     {
         Book {
             clock: Moment::first(),
-            open_count: 0,
             fields: InOrder::new(alloc),
             moves: Vec::new(alloc),
-            orders: InOrder::new(alloc),
+            orders: Orders::new(alloc),
             kept: InOrder::new(alloc),
         }
     }
@@ -157,7 +154,7 @@ impl Book {
     {
         self.fields.reserve(plan.field_count())?;
         self.moves.reserve(1)?;
-        self.orders.reserve(1)?;
+        self.orders.reserve()?;
         Ok(self.kept.reserve(1)?)
     }
 }
@@ -203,7 +200,7 @@ fn adopt_move(moves: &mut Vec<MoveEntry>, moved: Option<MoveEntry>)
 }
 
 /// Puts the orders in, each by its number.
-fn adopt_orders(orders: &mut InOrder<OrderNo, OrderEntry>, made: Vec<Order>)
+fn adopt_orders(orders: &mut Orders, made: Vec<Order>)
     requires { MayBePut orders.old.room made.items orders.old.entries }
     ensures orders { map order_of orders.new.entries ≡ put_rows number_cmp (map order_of made.items)
         (map order_of orders.old.entries) }
@@ -218,36 +215,6 @@ fn adopt_orders(orders: &mut InOrder<OrderNo, OrderEntry>, made: Vec<Order>)
 }
 
 impl Book {
-    /// Whether the order of that number is open, if there is one.
-    fn was_open(&self, number: OrderNo) -> bool
-        ensures { result ≡ option_map_or is_open (order_numbered self.now.ledger number) false }
-    {
-        match self.order_entry(number) {
-            Some(order) => is_open(order.state),
-            None => false,
-        }
-    }
-
-    /// How many of these were open as they were.
-    fn open_before(&self, made: &[Order]) -> usize
-        ensures { result ≡ count_by (λ o. option_map_or is_open (order_numbered self.now.ledger o.0) false) made.now }
-    {
-        let mut count = 0;
-        for order in made {
-            count += usize::from(self.was_open(order.0));
-        }
-        count
-    }
-
-    /// How many orders are open once these are put in.
-    fn open_after(&self, made: &[Order]) -> usize
-        requires { (c : Command) × Leaves self.now.ledger c (map order_of made.now) }
-        ensures { (c : Command) → Leaves self.now.ledger c (map order_of made.now)
-            → result ≡ open_orders (next self.now.ledger c) }
-    {
-        self.open_count + count_open(made) - self.open_before(made)
-    }
-
     /// Carries the plan out, and gives its rows. Takes no memory, and always succeeds. The ledger stays good, and honours
     /// its open orders; a commit of a transfer, a `firm` on it and a use leave the total of every article as it was.
     pub fn adopt(&mut self, plan: Plan) -> Vec<Change>
@@ -264,12 +231,10 @@ impl Book {
         ensures rows { rows_among result.items ≡ plan.changes }
     {
         let (parts, changes) = plan.into_parts();
-        let open_count = self.open_after(&parts.orders);
         let (key, place, words) = (parts.key, parts.place, parts.words);
         key.as_bytes();
         words.as_bytes();
         self.clock = parts.clock;
-        self.open_count = open_count;
         adopt_fields(&mut self.fields, &parts.fields);
         adopt_move(&mut self.moves, parts.moved);
         adopt_orders(&mut self.orders, parts.orders);

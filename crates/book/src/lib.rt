@@ -6,6 +6,7 @@ mod kept_words;
 mod laws;
 mod limits;
 mod order;
+mod orders;
 mod rows;
 
 pub use book::{Book, FieldView, KeptView, OrderView, Plan, Planned, TablesFault};

@@ -17,7 +17,7 @@ use Rattle.book.specs.Answers.{IsAccepted}
 use Rattle.book.specs.Changes.{changes_field}
 use Rattle.book.specs.Good.{Good}
 use Rattle.book.specs.Held.{held_to_add, held_to_take, if_add, if_take}
-use Rattle.book.specs.Ledger.{Field, Ledger, Name, Order, line_name, name_cmp, name_of, open_orders, open_state, same_name, settled_state, unsettled}
+use Rattle.book.specs.Ledger.{Field, Ledger, Name, Order, line_name, name_cmp, name_of, open_state, same_name, settled_state, unsettled}
 use Rattle.book.specs.Next.{accept}
 use Rattle.book.specs.Outcomes.{settled, signed, total}
 use Rattle.book.specs.Rows.{FieldCells}
@@ -34,10 +34,9 @@ use Rattle.book.specs.declared.order.State.{State}
 abbrev pub IsUpToDate : Ledger → Name × FieldEntry → Type 0
 IsUpToDate A e = entry_row e ≡ field_row A (field_of e)
 
--- What is in a book is a good ledger, the entry of each field is up to date, and the open orders are counted.
+-- What is in a book is a good ledger, and the entry of each field is up to date.
 abbrev pub Stands : Inside → Type 0
 Stands b = Good (ledger_of b) × Each (IsUpToDate (ledger_of b)) b.fields.entries
-    × (b.open_count ≡ open_orders (ledger_of b))
 
 -- with these entries put in one after the other, each under its name
 abbrev pub with_entries : List (Name × FieldEntry) → List (Name × FieldEntry) → List (Name × FieldEntry)

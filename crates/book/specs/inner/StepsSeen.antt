@@ -40,11 +40,6 @@ step_to A o = record { before = order_numbered A o.number; after = o }
 abbrev pub number_cmp : Order → Order → Ordering
 number_cmp a b = nat_cmp a.number b.number
 
--- The command passes its checks, and opens or changes these orders.
-pub record Leaves (A : Ledger) (c : Command) (made : List Order) : Type 0 where
-  pub passed : FirstFailure (checks A c) None
-  pub made_are : made ≡ orders_made A c
-
 -- the orders may be put in: all of them are there, or it is one, for which there is room
 abbrev pub MayBePut : ℕ → List (ℕ × OrderEntry) → List (ℕ × OrderEntry) → Type 0
 MayBePut room made entries =

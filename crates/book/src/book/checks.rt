@@ -39,7 +39,7 @@ impl Book {
         requires { more ≤ 2 }
         ensures { IsTrue result ↔ (MAX_PLACES < places self.now.ledger + open_orders self.now.ledger + more) }
     {
-        self.kept.len() + self.open_count + more > MAX_PLACES
+        self.kept.len() + self.open_count() + more > MAX_PLACES
     }
 
     /// The refusal and the line of the first check of the command that fails, or else what was found. No check fails for

@@ -27,6 +27,7 @@ use self::told::{moment, natural, read_all};
 use crate::book::{Book, FieldEntry, KeptEntry, MoveEntry};
 use crate::limits::{MAX_FIELDS, MAX_ORDERS, MAX_PLACES, SCHEMA_VERSION};
 use crate::order::{Line, Order, count_open};
+use crate::orders::Orders;
 use crate::rows::{DeskRow, FirmRow, LineRow, OrderRow, Tables};
 use escrow::{FieldName, Key, Moment};
 use index::InOrder;
@@ -175,11 +176,10 @@ impl Book {
             Ok(false) => return Err(TablesFault::Damaged),
             Err(Memory) => return Err(TablesFault::Memory),
         }
-        let open_count = count_open(&entries.orders);
         let Ok(fields) = InOrder::from_sorted(alloc, entries.fields) else {
             return Err(TablesFault::Memory);
         };
-        let Ok(orders) = InOrder::from_sorted(alloc, entries.orders) else {
+        let Ok(orders) = Orders::from_sorted(alloc, entries.orders) else {
             return Err(TablesFault::Memory);
         };
         let Ok(kept) = InOrder::from_sorted(alloc, entries.kept) else {
@@ -187,7 +187,6 @@ impl Book {
         };
         Ok(Book {
             clock: entries.clock,
-            open_count,
             fields,
             moves: entries.moves,
             orders,

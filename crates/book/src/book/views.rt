@@ -5,11 +5,11 @@ ghost use Rattle.std.specs.List.Sorted.{IsStrictlySortedBy};
 ghost use Rattle.book.specs.Good.{Good};
 ghost use Rattle.book.specs.Ledger.{Ledger, field_named, kept_under, name_cmp, name_of, open_orders, order_numbered, places, shown_state};
 ghost use Rattle.book.specs.inner.RunningNumbers.{IsUpToDate};
-ghost use Rattle.book.specs.Model.{field_of};
-ghost use Rattle.book.specs.Views.{ShowsField, ShowsKept, ShowsOrder};
+ghost use Rattle.book.specs.Model.{field_of, order_of};
+ghost use Rattle.book.specs.Views.{open_from, ShowsField, ShowsKept, ShowsOrder};
 
 use super::{Book, FieldEntry};
-use crate::order::{Kind, Line, Standing, State};
+use crate::order::{Kind, Line, OrderEntry, Standing, State};
 use escrow::{Article, Branch, FieldName, Key, Level, Moment, OrderNo};
 
 /// A field as it stands: its bounds, its settled value, and the least and the greatest value that the open
@@ -68,7 +68,7 @@ impl Book {
     pub fn open_count(&self) -> usize
         ensures { result ≡ open_orders self.now.ledger }
     {
-        self.open_count
+        self.orders.open_count()
     }
 
     /// What is kept under that key, or `None` exactly where nothing is.
@@ -111,19 +111,21 @@ impl Book {
         Some(view)
     }
 
+    /// The first open order from that number on, or `None` exactly where there is none.
+    pub fn open_from(&self, number: OrderNo) -> Option<OrderView<'_>>
+        ensures { let found = open_from self.now.ledger number in MatchOption result (found ≡ None)
+            (λ view. IsSomeAnd found (λ o. ShowsOrder o view)) }
+    {
+        let (first, entry) = self.orders.open_from(number)?;
+        Some(show_order(first, entry))
+    }
+
     /// The order of that number, or `None` exactly where there is none.
     pub fn order(&self, number: OrderNo) -> Option<OrderView<'_>>
         ensures { let found = order_numbered self.now.ledger number in MatchOption result (found ≡ None)
             (λ view. IsSomeAnd found (λ o. ShowsOrder o view)) }
     {
-        let entry = self.order_entry(number)?;
-        Some(OrderView {
-            number,
-            kind: entry.kind,
-            until: entry.until,
-            state: shown_state(entry.state, entry.firm),
-            lines: &entry.lines,
-        })
+        Some(show_order(number, self.order_entry(number)?))
     }
 }
 
@@ -136,6 +138,19 @@ fn shown_state(state: State, firm: bool) -> Standing
         State::Open => Standing::Open,
         State::Committed => Standing::Committed,
         State::Aborted => Standing::Aborted,
+    }
+}
+
+/// What is shown of an order.
+fn show_order(number: OrderNo, entry: &OrderEntry) -> OrderView<'_>
+    ensures { ShowsOrder (order_of (number, entry.now)) result }
+{
+    OrderView {
+        number,
+        kind: entry.kind,
+        until: entry.until,
+        state: shown_state(entry.state, entry.firm),
+        lines: &entry.lines,
     }
 }
 

@@ -1,4 +1,4 @@
-use Rattle.book.proofs.Prelude.{◌+◌, ◌∙◌, ◌≡◌, ◌≤◌, BookView, Done, Each, Good, IsUpToDate, Ledger, accept, number_cmp, order_of, orders_made, put_rows, ap, article_total, field_of, map, move_made, move_of, next, open_orders, option_map, places, rules, subst, sym}
+use Rattle.book.proofs.Prelude.{◌+◌, ◌∙◌, ◌≡◌, ◌≤◌, BookView, Done, Each, Good, IsUpToDate, Ledger, accept, number_cmp, order_of, orders_made, put_rows, ap, article_total, field_of, map, move_made, move_of, option_map, places, rules, subst, sym}
 use Rattle.book.specs.Plans.{PlanView}
 use Rattle.book.proofs.Futures.{honours_always}
 use Rattle.book.proofs.Goodness.{good_accept}
@@ -40,7 +40,7 @@ put c =
     let done = adopted A plan c.into_parts-parts.result.0.fields.entries old (good c) (good_after c) c.requires.fits (parts.told.fields ∙ ap (λ (p : PlanView). p.changes.fields) parts.parts) (ap (λ (v : BookView). v.ledger.fields) c.self.view_is) (subst (λ (v : BookView). Each (IsUpToDate v.ledger) old) c.self.view_is c.self.invariant.1) in
     (ap (map field_of) is ∙ done.0, subst (Each (IsUpToDate (accept A plan.request))) (sym is) done.1)
 
--- the clock, the move and the open orders as they are then
+-- the clock and the move as they are then
 clock : (c : goal.After-drop-parts-2) → c.into_parts-parts.result.0.clock ≡ (accept c.args.self.now.ledger c.args.plan.request).clock
 clock c =
     let parts = c.into_parts-parts.ensures in
@@ -51,20 +51,11 @@ move c =
     let parts = c.into_parts-parts.ensures in
     parts.told.moved ∙ (λ i. move_made (parts.parts i).place (parts.parts i).request.command) ∙ ap (λ n. move_made n c.args.plan.request.command) c.requires.fits.place
 
-pub open_after-open_count-requires : goal.open_after-open_count-requires
-open_after-open_count-requires c =
-    (c.args.plan.request.command, record { passed = c.requires.fits.accepted.1; made_are = ap (map order_of) c.deref.ensures.value ∙ ap (λ (p : PlanView). p.orders) c.into_parts-parts.ensures.parts ∙ c.requires.fits.orders })
-
-opened : (c : goal.After-drop-parts-2) → c.open_after-open_count.result ≡ open_orders (next c.args.self.now.ledger c.args.plan.request.command)
-opened c =
-    c.open_after-open_count.ensures c.args.plan.request.command
-    (record { passed = c.requires.fits.accepted.1; made_are = ap (map order_of) c.deref.ensures.value ∙ ap (λ (p : PlanView). p.orders) c.into_parts-parts.ensures.parts ∙ c.requires.fits.orders })
-
 pub returns-clause-next : goal.returns-clause-next
 returns-clause-next c = search (rules, put, orders, clock, move)
 
 pub invariant_of-self : goal.invariant_of-self
-invariant_of-self c = search (rules, returns-clause-next, good_after, put, orders, opened)
+invariant_of-self c = search (rules, returns-clause-next, good_after, put, orders)
 
 pub returns-clause-good : goal.returns-clause-good
 returns-clause-good c = (invariant_of-self c).0

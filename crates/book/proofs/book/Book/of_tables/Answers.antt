@@ -35,7 +35,7 @@ returns-clause-ok c =
     let good = c.in-Ok-true.ensures.0 c.in-Ok-true.field-0-test in
     let told = c.in_ok-entries.ensures.told in
     let rows = sym (told_rows c.in_ok-entries.entries.fields.items c.args.tables.fields c.in_ok-entries.ensures.fields) ∙ rows_of_entries B c.in_ok-entries.entries.fields.items good.1 in
-    let is : B ≡ ledger_of (record { clock = c.in_ok-entries.entries.clock; open_count = c.count_open-open_count.result; fields = c.in-Ok.fields; moves = c.in_ok-entries.entries.moves; orders = c.in-Ok-from_sorted.orders; kept = c.in-Ok-from_sorted-2.kept }) = λ i. record {
+    let is : B ≡ ledger_of (record { clock = c.in_ok-entries.entries.clock; fields = c.in-Ok.fields; moves = c.in_ok-entries.entries.moves; orders = c.in-Ok-from_sorted.orders; kept = c.in-Ok-from_sorted-2.kept }) = λ i. record {
       clock = c.in_ok-entries.entries.clock;
       fields = map field_of (sym c.in-Ok.ensures i);
       moves = map move_of c.in_ok-entries.entries.moves.items;
@@ -59,7 +59,7 @@ pub invariant_of-result : goal.invariant_of-result
 invariant_of-result c =
     let B : Ledger = told_ledger c.in_ok-entries.entries in
     let good = c.in-Ok-true.ensures.0 c.in-Ok-true.field-0-test in
-    let is : B ≡ ledger_of (record { clock = c.in_ok-entries.entries.clock; open_count = c.count_open-open_count.result; fields = c.in-Ok.fields; moves = c.in_ok-entries.entries.moves; orders = c.in-Ok-from_sorted.orders; kept = c.in-Ok-from_sorted-2.kept }) = λ i. record {
+    let is : B ≡ ledger_of (record { clock = c.in_ok-entries.entries.clock; fields = c.in-Ok.fields; moves = c.in_ok-entries.entries.moves; orders = c.in-Ok-from_sorted.orders; kept = c.in-Ok-from_sorted-2.kept }) = λ i. record {
       clock = c.in_ok-entries.entries.clock;
       fields = map field_of (sym c.in-Ok.ensures i);
       moves = map move_of c.in_ok-entries.entries.moves.items;
@@ -67,5 +67,4 @@ invariant_of-result c =
       kept = map kept_of (sym c.in-Ok-from_sorted-2.ensures i);
     } in
     let up = subst (Each (IsUpToDate B)) (sym c.in-Ok.ensures) good.1 in
-    let count = c.count_open-open_count.ensures ∙ ap (count_by (λ (o : ℕ × OrderEntry). open_state o.1.state)) c.deref.ensures.value ∙ sym (viewed order_of is_open c.in_ok-entries.entries.orders.items) in
-    (subst Good is good.0, subst (λ (L : Ledger). Each (IsUpToDate L) c.in-Ok.fields.entries) is up, count ∙ ap open_orders is)
+    (subst Good is good.0, subst (λ (L : Ledger). Each (IsUpToDate L) c.in-Ok.fields.entries) is up)

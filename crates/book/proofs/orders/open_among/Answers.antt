@@ -1,0 +1,13 @@
+use Rattle.book.proofs.Prelude.{◌+◌, ◌++◌, ◌∙◌, ◌∷◌, ◌≡◌, [], ap, arith, if◌then◌else◌, length, length-take, open_state, sym, take}
+use Rattle.std.specs.List.{insert}
+use Rattle.std.proofs.lemmas.List.Edits.{insert_end}
+use Rattle.book.specs.inner.OpenOrders.{open_numbers}
+use Rattle.book.proofs.Lists.{take-step}
+use Rattle.book.proofs.OpenOrders.{few_open, open_pushed}
+use Rattle.book.proofs.orders.open_among.Goals as goal
+
+pub insert-requires-clause-room : goal.insert-requires-clause-room
+insert-requires-clause-room c =
+    let i = c.loop-order.order-index in
+    let few = few_open (take i c.args.orders.now) in
+    omega (arith, few, ap length c.loop-order.invariant.items, c.loop-order.invariant.room, c.loop-order-test.true, length-take i c.args.orders.now)

@@ -1,0 +1,192 @@
+//! The orders of a book, and which of them are open.
+
+ghost use Rattle.std.specs.Prelude.{◌≡◌, ◌<◌, ◌≤◌, ◌^◌, [], None, Some, IfOk, MatchOption, MatchResult, OnErr, OnOk, find, length};
+ghost use Rattle.std.specs.BTreeMap.{insert_entry, is_at};
+ghost use Rattle.std.specs.List.Sorted.{IsPermutation, IsStrictlySortedBy};
+ghost use Rattle.std.specs.Map.{keys_of, lookup};
+ghost use Rattle.std.specs.Option.{option_copied};
+ghost use Rattle.std.specs.Ordering.{nat_cmp};
+ghost use Rattle.book.specs.OrderLists.{no_orders};
+ghost use Rattle.book.specs.inner.OpenOrders.{IsFirstFrom, IsPlaceFor, IsPlaceOf, is_open_from, marked, open_numbers};
+
+use crate::order::{Order, OrderEntry, is_open};
+use escrow::OrderNo;
+use index::{BlockList, InOrder};
+use std::alloc::{AllocError, Global};
+use std::marker::Model;
+
+/// Orders under their numbers, and the numbers of those that are open. Contracts see the orders in the order of their
+/// numbers, beside how many more fit without memory, and the memory that is kept.
+#[derive(Drop)]
+pub struct Orders {
+    all: InOrder<OrderNo, OrderEntry>,
+    /// In their order.
+    open_list: BlockList<OrderNo>,
+}
+
+impl Model for Orders {
+    ghost use Rattle.std.specs.Prelude.{◌≡◌, ◌≤◌, ◌^◌, length};
+    ghost use Rattle.book.specs.OrderLists.{OrderEntries};
+    ghost use Rattle.book.specs.inner.OpenOrders.{open_numbers, room_for};
+
+    ghost Value = { OrderEntries };
+
+    ghost view = { λ o. record {
+      entries = o.all.entries;
+      room = room_for o.all.room o.open_list.capacity (length o.all.entries);
+      storage = record { all = o.all.storage; open_list = o.open_list.storage };
+    } };
+
+    ghost invariant = { λ o. (o.open_list.items ≡ open_numbers o.all.entries) × (length o.all.entries ≤ o.open_list.capacity)
+        × (o.open_list.capacity ≤ 2 ^ 32) };
+}
+
+/// Where a number stands among numbers in order, or else where it would go.
+fn place_of(numbers: &BlockList<OrderNo>, number: OrderNo) -> Result<usize, usize>
+    requires { IsStrictlySortedBy nat_cmp numbers.now.items }
+    ensures { MatchResult result (IsPlaceOf number numbers.now.items) (IsPlaceFor number numbers.now.items) }
+{
+    numbers.binary_search_by(|other| other.cmp(&number))
+}
+
+/// The place of the first from a number on, among numbers in order.
+fn first_from(numbers: &BlockList<OrderNo>, number: OrderNo) -> usize
+    requires { IsStrictlySortedBy nat_cmp numbers.now.items }
+    ensures { IsFirstFrom number numbers.now.items result }
+{
+    match place_of(numbers, number) {
+        Ok(place) => place,
+        Err(place) => place,
+    }
+}
+
+/// Has a number among these in order, or not. Takes no memory.
+fn mark(numbers: &mut BlockList<OrderNo>, number: OrderNo, is_marked: bool)
+    requires rising { IsStrictlySortedBy nat_cmp numbers.old.items }
+    requires room { length (marked is_marked number numbers.old.items) ≤ numbers.old.capacity }
+    ensures items { numbers.new.items ≡ marked is_marked number numbers.old.items }
+    ensures capacity { numbers.new.capacity ≡ numbers.old.capacity }
+    ensures storage { numbers.new.storage ≡ numbers.old.storage }
+{
+    match place_of(numbers, number) {
+        Ok(place) => {
+            if !is_marked {
+                numbers.remove(place);
+            }
+        }
+        Err(place) => {
+            if is_marked {
+                numbers.insert(place, number);
+            }
+        }
+    }
+}
+
+/// The numbers of those orders that are open, with room for all.
+fn open_among(alloc: Global, orders: &[Order]) -> Result<BlockList<OrderNo>, AllocError>
+    ensures items { IfOk result (λ numbers. numbers.items ≡ open_numbers orders.now) }
+    ensures room { IfOk result (λ numbers. (length orders.now ≤ numbers.capacity) × (numbers.capacity ≤ 2 ^ 32)) }
+{
+    let mut numbers = BlockList::new(alloc);
+    numbers.reserve(orders.len())?;
+    for order in orders {
+        if is_open(order.1.state) {
+            let end = numbers.len();
+            numbers.insert(end, order.0);
+        }
+    }
+    Ok(numbers)
+}
+
+impl Orders {
+    /// No orders. Takes no memory.
+    pub fn new(alloc: Global) -> Orders
+        ensures { result ≡ record { entries = []; room = 0; storage = no_orders } }
+    {
+        Orders {
+            all: InOrder::new(alloc),
+            open_list: BlockList::new(alloc),
+        }
+    }
+
+    /// Orders that stand in the order of their numbers.
+    pub fn from_sorted(alloc: Global, orders: Vec<Order>) -> Result<Orders, AllocError>
+        requires { IsStrictlySortedBy nat_cmp (keys_of orders.items) }
+        ensures { IfOk result (λ r. r.entries ≡ orders.items) }
+    {
+        let open_list = open_among(alloc, &orders)?;
+        let all = InOrder::from_sorted(alloc, orders)?;
+        Ok(Orders { all, open_list })
+    }
+
+    /// How many there are.
+    pub fn len(&self) -> usize
+        ensures len { result ≡ length self.now.entries }
+        ensures rising { IsStrictlySortedBy nat_cmp (keys_of self.now.entries) }
+    {
+        self.all.len()
+    }
+
+    /// How many are open.
+    pub fn open_count(&self) -> usize
+        ensures { result ≡ length (open_numbers self.now.entries) }
+    {
+        self.open_list.len()
+    }
+
+    /// The orders as they came in.
+    pub fn arrived(&self) -> &[Order]
+        ensures { IsPermutation self.now.entries result.now }
+    {
+        self.all.arrived()
+    }
+
+    /// The order of that number.
+    pub fn get(&self, number: &OrderNo) -> Option<&OrderEntry>
+        ensures { option_copied result ≡ lookup (is_at (nat_cmp number.now)) self.now.entries }
+    {
+        self.all.get(number)
+    }
+
+    /// The first open order from that number on.
+    pub fn open_from(&self, number: OrderNo) -> Option<(OrderNo, &OrderEntry)>
+        ensures { let found = find (is_open_from number) self.now.entries in MatchOption result (found ≡ None)
+            (λ r. found ≡ Some (r.0, r.1.now)) }
+    {
+        self.all.len();
+        let place = first_from(&self.open_list, number);
+        if self.open_list.len() <= place {
+            return None;
+        }
+        let first = *self.open_list.get(place);
+        match self.all.get(&first) {
+            Some(entry) => Some((first, entry)),
+            None => unreachable!(),
+        }
+    }
+
+    /// Makes room for one more. Memory is wanted only where there was none.
+    pub fn reserve(&mut self) -> Result<(), AllocError>
+        ensures ok { OnOk result (1 ≤ self.new.room) }
+        ensures same { self.new.entries ≡ self.old.entries }
+        ensures room_stays { self.old.room ≤ self.new.room }
+        ensures full { OnErr result (self.old.room < 1) }
+    {
+        self.all.reserve(1)?;
+        let more = (self.all.len() + 1).saturating_sub(self.open_list.len());
+        self.open_list.reserve(more)
+    }
+
+    /// Puts an order in: in place of the one of its number, or else at its place. Takes no memory: that for a new one must
+    /// have been reserved.
+    pub fn put(&mut self, number: OrderNo, entry: OrderEntry)
+        requires { lookup (is_at (nat_cmp number)) self.old.entries ≡ None → 1 ≤ self.old.room }
+        ensures entries { self.new.entries ≡ insert_entry nat_cmp self.old.entries number entry }
+        ensures no_more { self.new.room ≤ self.old.room }
+        ensures storage { self.new.storage ≡ self.old.storage }
+    {
+        self.all.len();
+        mark(&mut self.open_list, number, is_open(entry.state));
+        self.all.put(number, entry);
+    }
+}
