@@ -90,14 +90,14 @@ first_and_rest : {T : Type 0} (l : List T) (x : T) → slice_get l 0 ≡ Some x 
 first_and_rest [] x there = absurd (none-some _ there)
 first_and_rest (y ∷ l) x there = ap (λ z. z ∷ l) (same_Some _ _ there)
 
--- the items as they are to be, where the k-th block is one short of its n
+-- the n items that are left are those that are to be, and the k-th block is one short
 pub record IsClosingUp {T : Type 0} (goal : List T) (n : ℕ) (blocks : List (List T)) (capacities : List ℕ) (k : ℕ) : Type 0 where
   pub are : joined blocks ≡ goal
   pub filled : IsOneShort n blocks k
   pub roomy : Each (λ c. 1024 ≤ c) capacities
   pub few : length blocks ≤ 2 ^ 22
 
--- ---- an item taken out
+-- ---- an item taken out, in a list of blocks
 
 module _
     {X T : Type 0} (items : X → List T) (capacity : X → ℕ) {n : ℕ} (xs : List X) (place : ℕ)
@@ -141,12 +141,12 @@ module _
           few = rw as_many lie.few;
         })
 
--- ---- one step
+-- ---- a step of the closing up
 
 module _
     {X T : Type 0} (items : X → List T) (capacity : X → ℕ) {goal : List T} {n : ℕ} (xs : List X) {k : ℕ}
     (way : IsClosingUp goal n (map items xs) (map capacity xs) k) where
-  -- the last
+  -- no step is left
   pub closes : n < 1024 * (k + 1) → IsInBlocks n (map items xs) (map capacity xs)
   closes last = record {
     filled = closed n (map items xs) k way.filled (omega (arith, last));

@@ -13,7 +13,7 @@ index_mut-requires g c =
 pub take_out-item-requires : goal.take_out-item-requires
 take_out-item-requires g c =
     let short = subst (λ v. c.args.place < length v.items) (sym c.self.view_is) c.requires.place in
-    is_within _ deque_capacity _ c.self.inside.blocks.items _ c.self.invariant short _ c.index_mut.ensures.value
+    omega (arith, is_within _ deque_capacity _ c.self.inside.blocks.items _ c.self.invariant short _ c.index_mut.ensures.value)
 
 pub overflow_sub-self : goal.overflow_sub-self
 overflow_sub-self g c =
