@@ -116,8 +116,10 @@ impl Book {
         ensures { let found = open_from self.now.ledger number in MatchOption result (found ≡ None)
             (λ view. IsSomeAnd found (λ o. ShowsOrder o view)) }
     {
-        let (first, entry) = self.orders.open_from(number)?;
-        Some(show_order(first, entry))
+        match self.orders.open_from(number) {
+            Some(first) => Some(show_order(first.0, first.1)),
+            None => None,
+        }
     }
 
     /// The order of that number, or `None` exactly where there is none.

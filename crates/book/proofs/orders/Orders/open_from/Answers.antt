@@ -1,4 +1,4 @@
-use Rattle.book.proofs.Prelude.{None, Some, ◌∙◌, ◌≡◌, IsStrictlySortedBy, OrderEntry, ap, arith, find, length, nat_cmp, option_copied, slice_get, subst, sym}
+use Rattle.book.proofs.Prelude.{None, Some, ◌∙◌, ◌≡◌, ◌≤◌, IsStrictlySortedBy, ap, arith, find, length, nat_cmp, option_copied, slice_get, subst, sym}
 use Rattle.book.specs.OrderLists.{OrderEntries}
 use Rattle.book.specs.inner.OpenOrders.{IsFirstFrom, is_open_from, open_numbers}
 use Rattle.book.proofs.OpenOrders.{first_open, none_open, open_sorted}
@@ -11,7 +11,8 @@ pub returns-then-len-place : goal.returns-then-len-place
 returns-then-len-place c =
     let n = c.args.number in
     let first = subst (λ ms. IsFirstFrom n ms c.first_from-place.result) c.self.invariant.0 c.first_from-place.ensures in
-    let past = omega (arith, c.if-len-place.true, c.len-2.ensures.value, ap length c.self.invariant.0) in
+    let past : length (open_numbers c.self.inside.all.entries) ≤ c.first_from-place.result =
+        omega (arith, c.if-len-place.true, c.len-2.ensures.value, ap length c.self.invariant.0) in
     subst (λ (v : OrderEntries). find (is_open_from n) v.entries ≡ None) c.self.view_is
     (none_open n c.self.inside.all.entries c.first_from-place.result first past)
 
