@@ -319,16 +319,16 @@ impl Book {
                 self.push_changed(alloc, &mut orders, number, &change)?;
             }
             Effect::Expires(now) => {
-                let numbers = self.expired(alloc, now)?;
+                let numbers = self.due(alloc, now)?;
                 self.push_aborted(alloc, &mut orders, &numbers)?;
             }
         }
         Ok(orders)
     }
 
-    /// The numbers of the orders that expire at that moment, in their order. It looks at all orders as they lie, and is
-    /// the one that does.
-    fn expired(&self, alloc: Global, now: Moment) -> Result<Vec<OrderNo>, Memory>
+    /// The numbers of the orders that an expiry at that moment aborts, in their order. It looks at all orders as they lie,
+    /// and is the one that does.
+    pub fn due(&self, alloc: Global, now: Moment) -> Result<Vec<OrderNo>, Memory>
         ensures { IfOk result (λ numbers. numbers.items ≡ map (λ o. o.number)
             (filter (expires now) self.now.ledger.orders)) }
     {

@@ -1,7 +1,7 @@
 use Rattle.std.proofs.lemmas.List.Sorted.{IsNonDecreasingBy-from_sort}
 use Rattle.book.proofs.Prelude.{◌∙◌, BookView, IsPermutation, List, ap, expires, filter, map, subst, ℕ}
 use Rattle.book.proofs.ExpiredOrders.{numbers_sorted}
-use Rattle.book.proofs.book.Book.expired.Goals as goal
+use Rattle.book.proofs.book.Book.due.Goals as goal
 
 pub returns : goal.returns
 returns c =
