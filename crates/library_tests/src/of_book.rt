@@ -4,8 +4,8 @@ mod steps;
 mod tables;
 
 use crate::books::{Step, book_after, request};
-use book::{Book, FieldView, Kind, OrderView, Planned, Standing};
-use escrow::{Article, Branch, OrderNo, Way};
+use book::{Book, FieldView, KeptView, Kind, OrderView, Planned, Standing};
+use escrow::{Article, Branch, Key, Moment, OrderNo, Way};
 use std::alloc::Global;
 use std::process::Abort;
 use std::test::Fail;
@@ -136,9 +136,66 @@ fn expect_answers<R: Abort + AllocGlobal>(rt: &R, book: &Book) -> Result<(), Fai
     Ok(())
 }
 
+/// The clock, and how many places, orders and open orders there are.
+fn counts(book: &Book) -> [usize; 4] {
+    let minutes = book.clock().get() as usize;
+    [
+        minutes,
+        book.places(),
+        book.order_count(),
+        book.open_count(),
+    ]
+}
+
+/// What is kept under the key: the call without its clauses.
+fn kept<'a>(book: &'a Book, key: &str) -> Option<KeptView<'a>> {
+    book.kept(Key::read(key.as_bytes()).ok()?)
+}
+
+/// It shows what is kept under a key, and nothing under another.
+fn shows_what_is_kept(book: &Book) -> bool {
+    match kept(book, "k-3") {
+        Some(view) => {
+            view.place == 3
+                && view.words == b"deliver N1 A-1 5".as_slice()
+                && kept(book, "k-4").is_none()
+        }
+        None => false,
+    }
+}
+
+/// The number of the first open order from that one on.
+fn open_from(book: &Book, number: u64) -> Option<u64> {
+    match book.open_from(OrderNo::new(number)?) {
+        Some(order) => Some(order.number.get()),
+        None => None,
+    }
+}
+
 #[test]
 fn commands_change_their_rows_and_are_shown(rt: HostRuntime) -> Result<(), Fail> {
     let book = book_after(&rt, steps::each_kind())?;
     assert!(rt; shows_two_fields(&book) && shows_an_order(&book));
+    assert!(rt; counts(&book) == [200, 20, 4, 1] && shows_what_is_kept(&book));
+    assert!(rt; open_from(&book, 1) == Some(8) && open_from(&book, 9) == None);
     expect_answers(&rt, &book)
+}
+
+/// How many orders are due at that moment, and the first of them.
+fn due(alloc: Global, book: &Book, minutes: u64) -> Result<(usize, Option<u64>), Fail> {
+    let Some(moment) = Moment::new(minutes) else {
+        return Err("no moment")?;
+    };
+    let numbers = book.due(alloc, moment)?;
+    let first = numbers.first().map(|number| number.get());
+    Ok((numbers.len(), first))
+}
+
+#[test]
+fn orders_are_due_at_their_moment(rt: HostRuntime) -> Result<(), Fail> {
+    let book = book_after(&rt, &steps::each_kind()[..18])?;
+    assert!(rt; due(rt.alloc(), &book, 49)? == (0, None));
+    assert!(rt; due(rt.alloc(), &book, 50)? == (1, Some(9)));
+    assert!(rt; due(rt.alloc(), &book, 999)? == (2, Some(4)));
+    Ok(())
 }

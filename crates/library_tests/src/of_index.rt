@@ -50,10 +50,11 @@ fn shows_all(entries: &InOrder<u32, u32>) -> bool {
 /// One more, under a key behind the others.
 fn takes_one_more(entries: &mut InOrder<u32, u32>) -> Result<bool, AllocError> {
     entries.reserve(1)?;
+    let has_room = 1 <= entries.room();
     if entries.get(&9000).is_none() {
         entries.insert(9000, 3000);
     }
-    Ok(entries.len() == 3001 && are_found(entries))
+    Ok(has_room && entries.len() == 3001 && are_found(entries))
 }
 
 /// Another value, under a key and at a place.
@@ -100,11 +101,23 @@ fn takes_another(list: &mut BlockList<u32>) -> bool {
     *list.get(1024) == 7 && *list.get(1023) == 1023
 }
 
+/// The last number of the first block is taken out, and those behind it move up.
+fn gives_one_back(list: &mut BlockList<u32>) -> bool {
+    if list.len() <= 1025 {
+        return false;
+    }
+    list.remove(1023) == 1023
+        && list.len() == 2999
+        && 3000 <= list.capacity()
+        && [*list.get(1022), *list.get(1023), *list.get(1024)] == [1022, 7, 1025]
+}
+
 #[test]
 fn lists_take_items_at_any_place(rt: HostRuntime) -> Result<(), Fail> {
     let mut list = counted(rt.alloc(), COUNT)?;
     assert!(rt; list.len() == 3000);
     assert!(rt; place(&list, 2999) == Ok(2999) && place(&list, 5000) == Err(3000));
     assert!(rt; takes_another(&mut list));
+    assert!(rt; gives_one_back(&mut list));
     Ok(())
 }
