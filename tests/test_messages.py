@@ -45,6 +45,18 @@ WORKED = [
         "A-1                       0        100         40         40         40\ntotal                        40\n",
     ),
     ("GET /v1/sheets/N9", "", 200, "total                         0\n"),
+    (
+        "GET /v1/articles/A-1",
+        "",
+        200,
+        "N1                        0        100         40         40         40\ntotal                        40\n",
+    ),
+    ("GET /v1/articles/B-9", "", 200, "total                         0\n"),
+    ("GET /v1/branches", "", 200, '{"branches":["N1"]}'),
+    ("GET /v1/desk", "", 200, '{"clock":0,"fields":1,"open":0,"orders":0,"places":1}'),
+    ("GET /v1/keys/K1", "", 200, '{"command":"field N1 A-1 0 100 40","place":1}'),
+    # a refused command's key is not kept
+    ("GET /v1/keys/K2", "", 404, NONE),
     (COMMANDS, '{"command":"open 8 120 take N1 A-1 35","key":"K4"}', 200, '{"place":2}'),
     (
         "GET /v1/orders/8",
@@ -67,6 +79,8 @@ WORKED = [
     (COMMANDS, '{"command":"more 8 take N1 A-1 1","key":"K6"}', 409, FIRM),
     (COMMANDS, '{"command":"firm 08","key":"K6"}', 400, BAD_COMMAND),
     (COMMANDS, '{"command":"use 8 N1 A-1 12","key":"K6"}', 200, '{"place":4}'),
+    ("GET /v1/desk", "", 200, '{"clock":0,"fields":1,"open":1,"orders":1,"places":4}'),
+    ("GET /v1/keys/K6", "", 200, '{"command":"use 8 N1 A-1 12","place":4}'),
     # the body of a view is not looked at
     (
         "GET /v1/fields/N1/A-1",
@@ -85,6 +99,15 @@ WORKED = [
     ("GET /v1/orders/08", "", 404, NONE),
     ("GET /v1/orders/0", "", 404, NONE),
     ("GET /v1/sheets/", "", 404, NONE),
+    ("GET /v1/articles/a-1", "", 404, NONE),
+    ("GET /v1/articles/", "", 404, NONE),
+    ("GET /v1/branches/", "", 404, NONE),
+    ("GET /v1/branches/N1", "", 404, NONE),
+    ("GET /v1/desk/", "", 404, NONE),
+    ("POST /v1/desk", "", 404, NONE),
+    ("GET /v1/keys/", "", 404, NONE),
+    ("GET /v1/keys/K%31", "", 404, NONE),
+    (f"GET /v1/keys/{'K' * 37}", "", 404, NONE),
     ("GET /", "", 404, NONE),
     # bodies that are no commands
     (COMMANDS, "", 400, BAD_COMMAND),
@@ -99,6 +122,13 @@ WORKED = [
         '"number":8,"state":"committed","until":120}',
     ),
     (COMMANDS, '{"command":"commit 8","key":5}', 400, BAD_COMMAND),
+    # branches by their bytes, each once; orders that ended are counted among all
+    (COMMANDS, '{"command":"field S1 A-1 0 9 9","key":"K8"}', 200, '{"place":6}'),
+    (COMMANDS, '{"command":"field A B-1 0 9 9","key":"K9"}', 200, '{"place":7}'),
+    (COMMANDS, '{"command":"field N1 B-1 0 9 9","key":"K10"}', 200, '{"place":8}'),
+    (COMMANDS, '{"command":"expire 60","key":"K11"}', 200, '{"place":9}'),
+    ("GET /v1/branches", "", 200, '{"branches":["A","N1","S1"]}'),
+    ("GET /v1/desk", "", 200, '{"clock":60,"fields":4,"open":0,"orders":1,"places":9}'),
 ]
 
 # messages on a desk that is stopped
@@ -107,6 +137,11 @@ ON_A_STOPPED_DESK = [
     ("GET /v1/fields/N1/A-1", "", 503, STOPPED),
     ("GET /v1/orders/7", "", 503, STOPPED),
     ("GET /v1/sheets/N1", "", 503, STOPPED),
+    ("GET /v1/articles/A-1", "", 503, STOPPED),
+    ("GET /v1/branches", "", 503, STOPPED),
+    ("GET /v1/desk", "", 503, STOPPED),
+    ("GET /v1/keys/K1", "", 503, STOPPED),
+    ("GET /v1/keys/", "", 404, NONE),
     ("GET /v1/sheets/n1", "", 404, NONE),
     (COMMANDS, "[]", 400, BAD_COMMAND),
     ("PUT /v1/commands", FIRST, 404, NONE),
