@@ -17,7 +17,7 @@ from support import DEPLOY
 from support.cases import ProgramCase, needs, path_of
 from support.programs import SECONDS, done, expect, new_desk
 
-PAGE = os.path.join(DEPLOY, "page", "desk.html")
+CONFIGURATION, PAGE = os.path.join(DEPLOY, "haproxy.cfg"), os.path.join(DEPLOY, "page", "desk.html")
 FIELDS = "".join(f"F{n} field N1 A-{n} 0 1000000 500\n" for n in range(1, 9))
 
 # a user of each group
@@ -60,22 +60,23 @@ def make_certificate(folder: str) -> None:
                 whole.write(part.read())
 
 
-class Front:
-    """A desk in a file with some fields, served behind a front, both on 127.0.0.1. `more` is read behind the configuration."""
+class Haproxy:
+    """HAProxy with the configuration that is shipped, or another, before a desk's port, both on 127.0.0.1. `more` is read behind
+    the configuration."""
 
-    def __init__(self, program: str, folder: str, limits: dict[str, str] = NO_LIMITS, more: str = "", script: str = FIELDS):
-        self.program, self.folder = program, folder
-        self.file = new_desk(program, folder)
-        done(program, ["run", self.file], script)
+    def __init__(
+        self, folder: str, desk_port: int, limits: dict[str, str] = NO_LIMITS, more: str = "", configuration: str = CONFIGURATION
+    ):
+        self.folder = folder
         make_certificate(folder)
         self.context = ssl.create_default_context(cafile=os.path.join(folder, "certificate"))
         self.log_path = os.path.join(folder, "log")
-        self.words = [str(path_of("haproxy")), "-f", f"{DEPLOY}/users.cfg", "-f", f"{DEPLOY}/haproxy.cfg"]
+        self.words = [str(path_of("haproxy")), "-f", f"{DEPLOY}/users.cfg", "-f", configuration]
         if more:
             with open(os.path.join(folder, "more.cfg"), "w", encoding="ascii") as file:
                 file.write(more)
             self.words += ["-f", file.name]
-        self.port, self.desk_port = free_port(), free_port()
+        self.port, self.desk_port = free_port(), desk_port
         self.environment = {
             **os.environ,
             **limits,
@@ -84,19 +85,6 @@ class Front:
             "PEM": os.path.join(folder, "pem"),
             "PAGE": PAGE,
         }
-        self.desk_start()
-        try:
-            self.start()
-        except BaseException:
-            self.desk_kill()
-            raise
-
-    def __enter__(self) -> "Front":
-        return self
-
-    def __exit__(self, *_: object) -> None:
-        self.stop()
-        self.desk_kill()
 
     def start(self) -> None:
         with open(self.log_path, "a", encoding="ascii") as log:
@@ -113,16 +101,6 @@ class Front:
         self.process.terminate()
         self.process.wait()
 
-    def desk_start(self, **options: Any) -> None:
-        words = [self.program, "serve", self.file, "--port", str(self.desk_port), "--connections", "1000000"]
-        self.desk = subprocess.Popen(words, stdin=subprocess.DEVNULL, stdout=subprocess.PIPE, stderr=subprocess.PIPE, **options)
-        told = self.desk.stdout and self.desk.stdout.readline()
-        expect(told == f"listening {self.desk_port}\n".encode(), f"no desk: {told!r}")
-
-    def desk_kill(self) -> None:
-        self.desk.send_signal(signal.SIGKILL)
-        self.desk.communicate()
-
     def log(self) -> list[str]:
         with open(self.log_path, encoding="ascii") as log:
             return log.readlines()
@@ -133,6 +111,39 @@ class Front:
     def socket(self) -> ssl.SSLSocket:
         plain = socket.create_connection(("127.0.0.1", self.port), SECONDS)
         return self.context.wrap_socket(plain, server_hostname="localhost")
+
+
+class Front(Haproxy):
+    """A desk in a file with some fields, served behind a front."""
+
+    def __init__(self, program: str, folder: str, limits: dict[str, str] = NO_LIMITS, more: str = "", script: str = FIELDS):
+        super().__init__(folder, free_port(), limits, more)
+        self.program, self.file = program, new_desk(program, folder)
+        done(program, ["run", self.file], script)
+        self.desk_start()
+        try:
+            self.start()
+        except BaseException:
+            self.desk_kill()
+            raise
+
+    def __enter__(self) -> "Front":
+        return self
+
+    def __exit__(self, *_: object) -> None:
+        self.stop()
+        self.desk_kill()
+
+    def desk_start(self, **options: Any) -> None:
+        words = [self.program, "serve", self.file, "--port", str(self.desk_port), "--connections", "1000000"]
+        words += ["--together", "256"]
+        self.desk = subprocess.Popen(words, stdin=subprocess.DEVNULL, stdout=subprocess.PIPE, stderr=subprocess.PIPE, **options)
+        told = self.desk.stdout and self.desk.stdout.readline()
+        expect(told == f"listening {self.desk_port}\n".encode(), f"no desk: {told!r}")
+
+    def desk_kill(self) -> None:
+        self.desk.send_signal(signal.SIGKILL)
+        self.desk.communicate()
 
     def ask(self, user: str | None, method: str, target: str, body: str | bytes | None = None) -> tuple[int, str]:
         """The status and the body of an answer, on a connection of its own."""

@@ -1,0 +1,106 @@
+"""nginx and Caddy in front of a desk, for tests: what each is told, and how it is run. All of it listens on 127.0.0.1 alone."""
+
+import os
+import socket
+import subprocess
+import time
+
+from support.cases import path_of
+from support.fronts import free_port
+from support.programs import SECONDS, expect
+
+# what stands around a site: only where its files lie, and that it is no daemon
+NGINX = """daemon off;
+pid FOLDER/nginx.pid;
+events {
+}
+http {
+    access_log off;
+    client_body_temp_path FOLDER/bodies;
+    proxy_temp_path FOLDER/answers;
+    fastcgi_temp_path FOLDER/others;
+    uwsgi_temp_path FOLDER/others;
+    scgi_temp_path FOLDER/others;
+SITE}
+"""
+CADDY = """{
+    admin off
+    auto_https disable_redirects
+}
+SITE"""
+
+# connections to the desk that are kept, and one for each message
+KEPT = """upstream desk {
+    server DESK;
+    keepalive 64;
+}
+server {
+    listen ADDRESS;
+    location / {
+        proxy_pass http://desk;
+        proxy_http_version 1.1;
+        proxy_set_header Connection "";
+    }
+}
+"""
+ONE_EACH = """server {
+    listen ADDRESS;
+    location / {
+        proxy_pass http://DESK;
+        proxy_http_version 1.1;
+        proxy_set_header Connection "";
+    }
+}
+"""
+PASSED = """http://ADDRESS {
+    reverse_proxy DESK
+}
+"""
+
+
+class Proxy:
+    """nginx or Caddy, with a site before a desk's port. In the site ADDRESS is where it listens, and DESK where the desk does."""
+
+    def __init__(self, name: str, folder: str, site: str, desk_port: int):
+        self.port = free_port()
+        self.folder, self.log_path = folder, os.path.join(folder, "proxy.log")
+        # nginx works as another user where root starts it
+        os.chmod(folder, 0o755)
+        site = site.replace("ADDRESS", f"127.0.0.1:{self.port}").replace("DESK", f"127.0.0.1:{desk_port}")
+        path = os.path.join(folder, "proxy.conf")
+        with open(path, "w", encoding="ascii") as file:
+            file.write((NGINX if name == "nginx" else CADDY).replace("SITE", site).replace("FOLDER", folder))
+        words = ["-e", "stderr", "-c", path] if name == "nginx" else ["run", "--adapter", "caddyfile", "--config", path]
+        self.words = [str(path_of(name)), *words]
+
+    def __enter__(self) -> "Proxy":
+        homes = {name: self.folder for name in ["HOME", "XDG_CONFIG_HOME", "XDG_DATA_HOME"]}
+        with open(self.log_path, "w", encoding="ascii") as log:
+            self.process = subprocess.Popen(
+                self.words, env={**os.environ, **homes}, stdin=subprocess.DEVNULL, stdout=log, stderr=subprocess.STDOUT
+            )
+        try:
+            self.wait()
+        except BaseException:
+            self.end()
+            raise
+        return self
+
+    def __exit__(self, *_: object) -> None:
+        self.end()
+
+    def wait(self) -> None:
+        """Until it listens."""
+        last = time.monotonic() + SECONDS
+        while self.process.poll() is None and time.monotonic() < last:
+            try:
+                socket.create_connection(("127.0.0.1", self.port), SECONDS).close()
+                return
+            except ConnectionRefusedError:
+                time.sleep(0.05)
+        with open(self.log_path, encoding="utf-8") as log:
+            expect(False, f"it does not listen: {log.read()}")
+
+    def end(self) -> None:
+        self.process.terminate()
+        self.process.wait()
