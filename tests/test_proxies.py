@@ -2,18 +2,20 @@
 is killed and started again, and messages that are none to the desk."""
 
 import concurrent.futures
+import contextlib
 import http.client
+import itertools
 import json
 import random
+import socket
 import time
 from collections.abc import Callable, Iterator
-from contextlib import contextmanager
 from typing import Any
 
 from support.cases import ProgramCase, needs
-from support.fronts import free_port, message
+from support.fronts import credentials, free_port, message
 from support.programs import SECONDS, done, expect, new_desk, note
-from support.proxies import KEPT, ONE_EACH, PASSED, Proxy
+from support.proxies import AUTHORITY, KEPT, ONE_EACH, PASSED, Proxy, told_caddy, told_nginx
 from support.service import Service
 
 CLIENTS, COMMANDS = 64, 10_000
@@ -25,6 +27,7 @@ CONNECTIONS, OPTIONS = 1_000_000, ["--together", "256"]
 NO_ANSWER = [500, 502, 503, 504]
 # the seconds for which nobody listens
 DOWN = 0.3
+USER = "ho"
 
 Answer = tuple[int, dict[str, Any]]
 # what is done: its place, its key, its spelling
@@ -110,7 +113,7 @@ def all_delivered(port: int, meanwhile: Callable[[Callable[[], int]], None]) -> 
 
 
 class ProxyCase(ProgramCase):
-    @contextmanager
+    @contextlib.contextmanager
     def behind(self, name: str, site: str) -> Iterator[tuple[Desk, Proxy]]:
         """A desk, and a proxy in front of it."""
         desk = Desk(self.program, self.folder)
@@ -156,3 +159,101 @@ class Restarts(ProxyCase):
     @needs("caddy")
     def test_commands_are_done_once_behind_caddy(self):
         self.expect_once("caddy", PASSED)
+
+
+# ---- messages that are none to the desk
+
+
+def head(line: str, *headers: str) -> bytes:
+    return "".join(f"{each}\r\n" for each in [f"{line} HTTP/1.1", "Host: desk", *headers, ""]).encode()
+
+
+TELL = "POST /v1/commands"
+BODY = message("BAD", "deliver N1 A-0 7").encode()
+CHUNKED = b"%x\r\n%s\r\n0\r\n\r\n" % (len(BODY), BODY)
+WHOLE = head(TELL, f"Content-Length: {len(BODY)}") + BODY
+# what is sent, and the statuses by which it may be answered, or None where it is not
+MESSAGES: dict[str, tuple[bytes, list[int | None]]] = {
+    "the head of a view": (head("HEAD /v1/fields/N1/A-1"), [404]),
+    "the head of a command": (head("HEAD /v1/commands", f"Content-Length: {len(BODY)}") + BODY, [404]),
+    "a view with a command behind it": (head("GET /v1/fields/N1/A-1", f"Content-Length: {len(WHOLE)}") + WHOLE, [200]),
+    "a body that is too large": (head(TELL, "Content-Length: 16385") + BODY.ljust(16_385), [400, 413, 502]),
+    "a head that is too large": (head(TELL, f"X: {'x' * 9_000}", f"Content-Length: {len(BODY)}") + BODY, [400, 414, 431]),
+    "two lengths": (head(TELL, "Content-Length: 1", f"Content-Length: {len(BODY)}") + BODY, [400]),
+    "a length and chunks": (head(TELL, "Content-Length: 4", "Transfer-Encoding: chunked") + CHUNKED, [400]),
+    "chunks that are none": (head(TELL, "Transfer-Encoding: chunked") + b"x\r\n" + BODY, [400, 502]),
+    "another target": (head("POST /v1/commands/", f"Content-Length: {len(BODY)}") + BODY, [404]),
+    "a query": (head("POST /v1/commands?x=1", f"Content-Length: {len(BODY)}") + BODY, [404]),
+    "a body that is cut short": (WHOLE[:-1], [None]),
+}
+
+
+def status_of(port: int, text: bytes) -> int | None:
+    """The status that is answered to what is sent, of which nothing more comes, or None where the connection ends without one."""
+    found = b""
+    with socket.create_connection(("127.0.0.1", port), SECONDS) as connection, contextlib.suppress(ConnectionError):
+        connection.sendall(text)
+        connection.shutdown(socket.SHUT_WR)
+        while b"\r\n\r\n" not in found and (part := connection.recv(65_536)):
+            found += part
+    return int(found.split()[1]) if found.startswith(b"HTTP/1.1 ") else None
+
+
+class Messages(ProxyCase):
+    def expect_nothing_done(self, name: str, site: str, of_chunks: int) -> None:
+        """What is no command to the desk does nothing, and those who ask beside it and behind it have their own answers. A good
+        body in chunks is one to a proxy that puts it together: then it is done, once."""
+        with self.behind(name, site) as (desk, proxy):
+            others = {number: Client(proxy.port) for number in range(1, 5)}
+            for row, (text, statuses) in MESSAGES.items():
+                found = status_of(proxy.port, text)
+                expect(found in statuses, f"{row}: {found}")
+                for _, (number, other) in itertools.product(range(2), others.items()):
+                    other.expect_value(number, START)
+                others[1].expect_value(0, START)
+            chunked = head(TELL, "Transfer-Encoding: chunked") + CHUNKED
+            found_of_chunks = [status_of(proxy.port, chunked) for _ in range(2)]
+            expect(found_of_chunks == [of_chunks] * 2, f"a body in chunks: {found_of_chunks}")
+            others[2].expect_value(0, START + 7 if of_chunks == 200 else START)
+            note(f"{sum(other.lost for other in others.values())} answers of others lost")
+            for other in others.values():
+                other.connection.close()
+
+    @needs("nginx")
+    def test_messages_that_are_none_do_nothing_behind_nginx(self):
+        self.expect_nothing_done("nginx", KEPT, 200)
+
+    @needs("caddy")
+    def test_messages_that_are_none_do_nothing_behind_caddy(self):
+        self.expect_nothing_done("caddy", PASSED, 400)
+
+
+# ---- what the documents tell
+
+
+class Documents(ProxyCase):
+    def expect_users(self, name: str, site: str, authority: str) -> None:
+        """Over TLS, who has the password is answered by the desk, and nobody else."""
+        with self.behind(name, site) as (_, proxy):
+            context = proxy.context(authority)
+
+            def ask(user: dict[str, str]) -> tuple[int, str]:
+                connection = http.client.HTTPSConnection("localhost", proxy.port, context=context, timeout=SECONDS)
+                connection.request("POST", "/v1/commands", message("K1", "deliver N1 A-0 7"), user)
+                answer = connection.getresponse()
+                found = answer.status, answer.read().decode()
+                connection.close()
+                return found
+
+            nobody: dict[str, str] = {}
+            for user in [nobody, credentials("nobody"), credentials(USER, "other")]:
+                expect(ask(user)[0] == 401, f"{user}: {ask(user)}")
+            expect(ask(credentials(USER)) == (200, f'{{"place":{CLIENTS + 1}}}'), f"{ask(credentials(USER))}")
+
+    @needs("nginx", "openssl")
+    def test_nginx_as_the_documents_tell(self):
+        self.expect_users("nginx", told_nginx(self.folder, USER), "certificate")
+
+    @needs("caddy")
+    def test_caddy_as_the_documents_tell(self):
+        self.expect_users("caddy", told_caddy(USER), AUTHORITY)

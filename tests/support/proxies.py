@@ -1,12 +1,15 @@
 """nginx and Caddy in front of a desk, for tests: what each is told, and how it is run. All of it listens on 127.0.0.1 alone."""
 
 import os
+import re
 import socket
+import ssl
 import subprocess
 import time
 
+from support import TOP
 from support.cases import path_of
-from support.fronts import free_port
+from support.fronts import free_port, make_certificate
 from support.programs import SECONDS, expect
 
 # what stands around a site: only where its files lie, and that it is no daemon
@@ -25,7 +28,9 @@ SITE}
 """
 CADDY = """{
     admin off
+    default_bind 127.0.0.1
     auto_https disable_redirects
+    skip_install_trust
 }
 SITE"""
 
@@ -57,16 +62,50 @@ PASSED = """http://ADDRESS {
 }
 """
 
+# where the authority lies that Caddy makes for itself
+AUTHORITY = "caddy/pki/authorities/local/root.crt"
+
+
+def told(path: str) -> str:
+    """What the documents have an operator write to this path."""
+    with open(os.path.join(TOP, "docs", "OPERATING.md"), encoding="utf-8") as file:
+        found = re.findall(f"^cat > {re.escape(path)} <<'?END'?\n(.*?)^END$", file.read(), re.DOTALL | re.MULTILINE)
+    expect(len(found) == 1, f"the documents tell {len(found)} times what is in {path}")
+    return found[0]
+
+
+def output_of(*words: str) -> str:
+    return subprocess.run(words, check=True, capture_output=True, text=True, timeout=SECONDS).stdout.strip()
+
+
+def told_nginx(folder: str, user: str) -> str:
+    """The site of nginx that the documents tell, with a user whose password is his name."""
+    make_certificate(folder)
+    with open(os.path.join(folder, "users"), "w", encoding="ascii") as file:
+        file.write(f"{user}:{output_of('openssl', 'passwd', '-6', user)}\n")
+    site = told("/etc/nginx/conf.d/shop.conf")
+    for old, new in [("shop.pem", "certificate"), ("shop.key", "key"), ("shop.users", "users")]:
+        site = site.replace(f"/etc/nginx/{old}", os.path.join(folder, new))
+    return site.replace("127.0.0.1:8080", "DESK").replace("443", "ADDRESS")
+
+
+def told_caddy(user: str) -> str:
+    """The same of Caddy."""
+    site = told("/etc/caddy/Caddyfile").replace("127.0.0.1:8080", "DESK").replace("localhost", "https://localhost:PORT")
+    return site.replace("$(caddy hash-password)", output_of(str(path_of("caddy")), "hash-password", "--plaintext", user))
+
 
 class Proxy:
-    """nginx or Caddy, with a site before a desk's port. In the site ADDRESS is where it listens, and DESK where the desk does."""
+    """nginx or Caddy, with a site before a desk's port. In the site ADDRESS is where it listens, PORT its port, and DESK where
+    the desk listens."""
 
     def __init__(self, name: str, folder: str, site: str, desk_port: int):
         self.port = free_port()
         self.folder, self.log_path = folder, os.path.join(folder, "proxy.log")
         # nginx works as another user where root starts it
         os.chmod(folder, 0o755)
-        site = site.replace("ADDRESS", f"127.0.0.1:{self.port}").replace("DESK", f"127.0.0.1:{desk_port}")
+        site = site.replace("ADDRESS", f"127.0.0.1:{self.port}").replace("PORT", str(self.port))
+        site = site.replace("DESK", f"127.0.0.1:{desk_port}")
         path = os.path.join(folder, "proxy.conf")
         with open(path, "w", encoding="ascii") as file:
             file.write((NGINX if name == "nginx" else CADDY).replace("SITE", site).replace("FOLDER", folder))
@@ -100,6 +139,14 @@ class Proxy:
                 time.sleep(0.05)
         with open(self.log_path, encoding="utf-8") as log:
             expect(False, f"it does not listen: {log.read()}")
+
+    def context(self, authority: str) -> ssl.SSLContext:
+        """Which trusts an authority whose certificate lies in the folder, and comes soon."""
+        path = os.path.join(self.folder, authority)
+        last = time.monotonic() + SECONDS
+        while not os.path.exists(path) and time.monotonic() < last:
+            time.sleep(0.05)
+        return ssl.create_default_context(cafile=path)
 
     def end(self) -> None:
         self.process.terminate()
