@@ -11,6 +11,7 @@ import ssl
 import subprocess
 import time
 import uuid
+from collections.abc import Sequence
 from typing import Any
 
 from support import DEPLOY
@@ -29,6 +30,9 @@ NO_LIMITS = dict.fromkeys(
     + ["CONNECTIONS_BY_ADDRESS", "HANDSHAKES_BY_ADDRESS", "FAILURES_BY_ADDRESS"],
     "1000000",
 )
+
+# as the service of systemd serves a desk
+TOGETHER = ["--together", "256"]
 
 Body = dict[str, Any]
 
@@ -60,17 +64,37 @@ def make_certificate(folder: str) -> None:
                 whole.write(part.read())
 
 
-class Front:
-    """A desk in a file with some fields, served behind a front, both on 127.0.0.1. `more` is read behind the configuration."""
+def added(folder: str, name: str, more: str) -> str:
+    """The path of a copy of a file that is shipped, with this behind it."""
+    path = os.path.join(folder, name)
+    with open(os.path.join(DEPLOY, name), encoding="utf-8") as shipped, open(path, "w", encoding="utf-8") as file:
+        file.write(shipped.read() + more)
+    return path
 
-    def __init__(self, program: str, folder: str, limits: dict[str, str] = NO_LIMITS, more: str = "", script: str = FIELDS):
+
+class Front:
+    """A desk in a file with some fields, served to many behind a front, both on 127.0.0.1. `more` is read behind the
+    configuration. Each of `shops`, such as "n2 1 N2", is one more user of the shops, with its orders and branches if it has any.
+    """
+
+    def __init__(
+        self,
+        program: str,
+        folder: str,
+        limits: dict[str, str] = NO_LIMITS,
+        more: str = "",
+        script: str = FIELDS,
+        shops: Sequence[str] = (),
+    ):
         self.program, self.folder = program, folder
         self.file = new_desk(program, folder)
         done(program, ["run", self.file], script)
         make_certificate(folder)
         self.context = ssl.create_default_context(cafile=os.path.join(folder, "certificate"))
         self.log_path = os.path.join(folder, "log")
-        self.words = [str(path_of("haproxy")), "-f", f"{DEPLOY}/users.cfg", "-f", f"{DEPLOY}/haproxy.cfg"]
+        names = [line.split()[0] for line in shops]
+        more_users = "".join(f"    user {name} insecure-password {name} groups shops\n" for name in names)
+        self.words = [str(path_of("haproxy")), "-f", added(folder, "users.cfg", more_users), "-f", f"{DEPLOY}/haproxy.cfg"]
         if more:
             with open(os.path.join(folder, "more.cfg"), "w", encoding="ascii") as file:
                 file.write(more)
@@ -83,6 +107,7 @@ class Front:
             "DESK": f"127.0.0.1:{self.desk_port}",
             "PEM": os.path.join(folder, "pem"),
             "PAGE": PAGE,
+            "SHOPS": added(folder, "shops.map", "".join(f"{line}\n" for line in shops if " " in line)),
         }
         self.desk_start()
         try:
@@ -114,7 +139,7 @@ class Front:
         self.process.wait()
 
     def desk_start(self, **options: Any) -> None:
-        words = [self.program, "serve", self.file, "--port", str(self.desk_port), "--connections", "1000000"]
+        words = [self.program, "serve", self.file, "--port", str(self.desk_port), "--connections", "1000000", *TOGETHER]
         self.desk = subprocess.Popen(words, stdin=subprocess.DEVNULL, stdout=subprocess.PIPE, stderr=subprocess.PIPE, **options)
         told = self.desk.stdout and self.desk.stdout.readline()
         expect(told == f"listening {self.desk_port}\n".encode(), f"no desk: {told!r}")
