@@ -11,6 +11,7 @@ import ssl
 import subprocess
 import time
 import uuid
+from collections.abc import Sequence
 from typing import Any
 
 from support import DEPLOY
@@ -29,6 +30,9 @@ NO_LIMITS = dict.fromkeys(
     + ["CONNECTIONS_BY_ADDRESS", "HANDSHAKES_BY_ADDRESS", "FAILURES_BY_ADDRESS"],
     "1000000",
 )
+
+# as the service of systemd serves a desk
+TOGETHER = ["--together", "256"]
 
 Body = dict[str, Any]
 
@@ -60,18 +64,35 @@ def make_certificate(folder: str) -> None:
                 whole.write(part.read())
 
 
+def added(folder: str, name: str, more: str) -> str:
+    """The path of a copy of a file that is shipped, with this behind it."""
+    path = os.path.join(folder, name)
+    with open(os.path.join(DEPLOY, name), encoding="utf-8") as shipped, open(path, "w", encoding="utf-8") as file:
+        file.write(shipped.read() + more)
+    return path
+
+
 class Haproxy:
     """HAProxy with the configuration that is shipped, or another, before a desk's port, both on 127.0.0.1. `more` is read behind
-    the configuration."""
+    the configuration. Each of `shops`, such as "n2 1 N2", is one more user of the shops, with its orders and branches if it has
+    any."""
 
     def __init__(
-        self, folder: str, desk_port: int, limits: dict[str, str] = NO_LIMITS, more: str = "", configuration: str = CONFIGURATION
+        self,
+        folder: str,
+        desk_port: int,
+        limits: dict[str, str] = NO_LIMITS,
+        more: str = "",
+        shops: Sequence[str] = (),
+        configuration: str = CONFIGURATION,
     ):
         self.folder = folder
         make_certificate(folder)
         self.context = ssl.create_default_context(cafile=os.path.join(folder, "certificate"))
         self.log_path = os.path.join(folder, "log")
-        self.words = [str(path_of("haproxy")), "-f", f"{DEPLOY}/users.cfg", "-f", configuration]
+        names = [line.split()[0] for line in shops]
+        more_users = "".join(f"    user {name} insecure-password {name} groups shops\n" for name in names)
+        self.words = [str(path_of("haproxy")), "-f", added(folder, "users.cfg", more_users), "-f", configuration]
         if more:
             with open(os.path.join(folder, "more.cfg"), "w", encoding="ascii") as file:
                 file.write(more)
@@ -84,6 +105,7 @@ class Haproxy:
             "DESK": f"127.0.0.1:{self.desk_port}",
             "PEM": os.path.join(folder, "pem"),
             "PAGE": PAGE,
+            "SHOPS": added(folder, "shops.map", "".join(f"{line}\n" for line in shops if " " in line)),
         }
 
     def start(self) -> None:
@@ -114,10 +136,18 @@ class Haproxy:
 
 
 class Front(Haproxy):
-    """A desk in a file with some fields, served behind a front."""
+    """A desk in a file with some fields, served to many behind a front."""
 
-    def __init__(self, program: str, folder: str, limits: dict[str, str] = NO_LIMITS, more: str = "", script: str = FIELDS):
-        super().__init__(folder, free_port(), limits, more)
+    def __init__(
+        self,
+        program: str,
+        folder: str,
+        limits: dict[str, str] = NO_LIMITS,
+        more: str = "",
+        script: str = FIELDS,
+        shops: Sequence[str] = (),
+    ):
+        super().__init__(folder, free_port(), limits, more, shops)
         self.program, self.file = program, new_desk(program, folder)
         done(program, ["run", self.file], script)
         self.desk_start()
@@ -135,8 +165,7 @@ class Front(Haproxy):
         self.desk_kill()
 
     def desk_start(self, **options: Any) -> None:
-        words = [self.program, "serve", self.file, "--port", str(self.desk_port), "--connections", "1000000"]
-        words += ["--together", "256"]
+        words = [self.program, "serve", self.file, "--port", str(self.desk_port), "--connections", "1000000", *TOGETHER]
         self.desk = subprocess.Popen(words, stdin=subprocess.DEVNULL, stdout=subprocess.PIPE, stderr=subprocess.PIPE, **options)
         told = self.desk.stdout and self.desk.stdout.readline()
         expect(told == f"listening {self.desk_port}\n".encode(), f"no desk: {told!r}")
