@@ -13,6 +13,8 @@ from services import Pace, Service
 from support.fronts import CONFIGURATION, OFFICE, Haproxy, credentials, head_of
 
 SHEET = "/v1/sheets/N0"
+# as older fronts, whose buffers were larger, had it; the environment of the program is not the front's
+MALLOC = {"MALLOC_MMAP_THRESHOLD_": "33554432", "MALLOC_TRIM_THRESHOLD_": "1073741824"}
 
 
 class Fronted(Service):
@@ -26,6 +28,10 @@ class Fronted(Service):
         super().__enter__()
         try:
             self.front = Haproxy(os.path.dirname(self.desk), self.port, configuration=self.configuration)
+            for name in MALLOC:
+                self.front.environment.pop(name, None)
+            if self.configuration != CONFIGURATION:
+                self.front.environment.update(MALLOC)
             self.front.start()
         except BaseException:
             self.end()

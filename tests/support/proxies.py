@@ -57,7 +57,7 @@ ONE_EACH = """server {
     }
 }
 """
-PASSED = """http://ADDRESS {
+PASSED = """http://:PORT {
     reverse_proxy DESK
 }
 """
