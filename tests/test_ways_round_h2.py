@@ -254,7 +254,8 @@ class WaysRoundH2(FrontCase):
                     time.sleep(0.2)
                     expect_own_answers(front, what)
                 expect_own_answers(front, f"{what}, which is gone")
-            expect(connections_of(front) == before, "the connection of the desk ended")
+            # three are sent at once
+            expect(connections_of(front) <= before + 2, "a connection of the desk ended")
 
     def test_an_unread_answer_holds_nobody_up(self):
         """Answers that may not be sent, since no window is open: those who ask meanwhile are answered, and the desk is given no

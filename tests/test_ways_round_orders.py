@@ -53,9 +53,21 @@ NOT_ITS_OWN = {
 }
 
 # the same with something before or within the command
-MISSPELLED = [" commit 7", "commit  7", "-commit 7", "commit-7", "commit 07", "commit 7-7", "commit7", "commit", "commit "]
+MISSPELLED = [" commit 7", "commit  7", "commit 07", "commit 7-7", "commit 7a", "commit", "commit "]
 # what no shop may send, whosever the order is
-OTHER_VERBS = ["firm 7", "COMMIT 7", "Commit 7", "commits 7", "commi 7", "7 commit", "expire 7", "commit-commit 7"]
+OTHER_VERBS = [
+    "-commit 7",
+    "commit-7",
+    "commit7",
+    "firm 7",
+    "COMMIT 7",
+    "Commit 7",
+    "commits 7",
+    "commi 7",
+    "7 commit",
+    "expire 7",
+    "commit-commit 7",
+]
 # a sign that no command has
 OTHER_SIGNS = ["commit +7", "commit\t7", "commit 7|2", "commit 7|2 N1", "commit 7.0", "commit 7_0", "commit 7,2", "commit 7\n"]
 
