@@ -82,6 +82,9 @@ class Found:
         named = [(clients, list(SERVERS)[index]) for clients, index in rows]
         return [(f"{clients}, {SERVERS[server]}", self.paces_of(work, clients, server)) for clients, server in named]
 
+    def has_slow(self, work: str) -> bool:
+        return any(cell.work == work and cell.pace == SLOW for cell in self.cells)
+
     def paces_of(self, work: str, clients: int, server: str) -> list[Figures | None]:
         return [self.cells.get(Cell(work, clients, server, pace)) for pace in PACES]
 
@@ -127,8 +130,8 @@ def cells_of(found: Figures | None) -> list[str]:
 
 
 def cells_text(found: Found, work: str) -> list[str]:
-    heads = ["clients", *COLUMNS, f"slow: {COLUMNS[0]}", *COLUMNS[1:]]
-    rows = [[name, *(cell for one in figures for cell in cells_of(one))] for name, figures in found.rows(work)]
+    heads = ["clients", *COLUMNS] + ([f"slow: {COLUMNS[0]}", *COLUMNS[1:]] if found.has_slow(work) else [])
+    rows = [[name, *(cell for one in figures for cell in cells_of(one))][: len(heads)] for name, figures in found.rows(work)]
     return [f"### {found.works[work].capitalize()}", "", *table(heads, rows)]
 
 
@@ -224,11 +227,12 @@ def narrow(heads: Sequence[str], rows: Sequence[Sequence[str]]) -> list[str]:
 
 
 def short_cells(found: Found, work: str) -> list[str]:
-    """Of slower syncs also the commands a sync."""
-    heads = ["clients", *COLUMNS[:3], f"slow: {COLUMNS[0]}", *COLUMNS[1:3], COLUMNS[-1]]
+    """Of slower syncs, where there are any, also the commands a sync."""
+    slow_heads = [f"slow: {COLUMNS[0]}", *COLUMNS[1:3], COLUMNS[-1]] if found.has_slow(work) else []
+    heads = ["clients", *COLUMNS[:3], *slow_heads]
     rows = []
     for name, (fast, slow) in found.rows(work):
-        rows.append([name, *cells_of(fast)[:3], *cells_of(slow)[:3], cells_of(slow)[-1]])
+        rows.append([name, *cells_of(fast)[:3], *cells_of(slow)[:3], cells_of(slow)[-1]][: len(heads)])
     return [f"{found.works[work].capitalize()}:", "", *narrow(heads, rows)]
 
 
