@@ -172,15 +172,16 @@ TELL = "POST /v1/commands"
 BODY = message("BAD", "deliver N1 A-0 7").encode()
 CHUNKED = b"%x\r\n%s\r\n0\r\n\r\n" % (len(BODY), BODY)
 WHOLE = head(TELL, f"Content-Length: {len(BODY)}") + BODY
-# what is sent, and the statuses by which it may be answered, or None where it is not
+# what is sent, and the statuses by which it may be answered, or None where it is not; the desk closes behind what it cannot read,
+# and a proxy that is still sending tells 502
 MESSAGES: dict[str, tuple[bytes, list[int | None]]] = {
     "the head of a view": (head("HEAD /v1/fields/N1/A-1"), [404]),
     "the head of a command": (head("HEAD /v1/commands", f"Content-Length: {len(BODY)}") + BODY, [404]),
     "a view with a command behind it": (head("GET /v1/fields/N1/A-1", f"Content-Length: {len(WHOLE)}") + WHOLE, [200]),
     "a body that is too large": (head(TELL, "Content-Length: 16385") + BODY.ljust(16_385), [400, 413, 502]),
-    "a head that is too large": (head(TELL, f"X: {'x' * 9_000}", f"Content-Length: {len(BODY)}") + BODY, [400, 414, 431]),
+    "a head that is too large": (head(TELL, f"X: {'x' * 9_000}", f"Content-Length: {len(BODY)}") + BODY, [400, 414, 431, 502]),
     "two lengths": (head(TELL, "Content-Length: 1", f"Content-Length: {len(BODY)}") + BODY, [400]),
-    "a length and chunks": (head(TELL, "Content-Length: 4", "Transfer-Encoding: chunked") + CHUNKED, [400]),
+    "a length and chunks": (head(TELL, "Content-Length: 4", "Transfer-Encoding: chunked") + CHUNKED, [400, 502]),
     "chunks that are none": (head(TELL, "Transfer-Encoding: chunked") + b"x\r\n" + BODY, [400, 502]),
     "another target": (head("POST /v1/commands/", f"Content-Length: {len(BODY)}") + BODY, [404]),
     "a query": (head("POST /v1/commands?x=1", f"Content-Length: {len(BODY)}") + BODY, [404]),
@@ -203,7 +204,7 @@ def status_of(port: int, text: bytes, is_cut: bool = False) -> int | None:
 
 
 class Messages(ProxyCase):
-    def expect_nothing_done(self, name: str, site: str, of_chunks: int) -> None:
+    def expect_nothing_done(self, name: str, site: str, of_chunks: list[int]) -> None:
         """What is no command to the desk does nothing, and those who ask beside it and behind it have their own answers. A good
         body in chunks is one to a proxy that puts it together: then it is done, once."""
         with self.behind(name, site) as (desk, proxy):
@@ -216,19 +217,19 @@ class Messages(ProxyCase):
                 others[1].expect_value(0, START)
             chunked = head(TELL, "Transfer-Encoding: chunked") + CHUNKED
             found_of_chunks = [status_of(proxy.port, chunked) for _ in range(2)]
-            expect(found_of_chunks == [of_chunks] * 2, f"a body in chunks: {found_of_chunks}")
-            others[2].expect_value(0, START + 7 if of_chunks == 200 else START)
+            expect(all(found in of_chunks for found in found_of_chunks), f"a body in chunks: {found_of_chunks}")
+            others[2].expect_value(0, START + 7 if 200 in of_chunks else START)
             note(f"{sum(other.lost for other in others.values())} answers of others lost")
             for other in others.values():
                 other.connection.close()
 
     @needs("nginx")
     def test_messages_that_are_none_do_nothing_behind_nginx(self):
-        self.expect_nothing_done("nginx", KEPT, 200)
+        self.expect_nothing_done("nginx", KEPT, [200])
 
     @needs("caddy")
     def test_messages_that_are_none_do_nothing_behind_caddy(self):
-        self.expect_nothing_done("caddy", PASSED, 400)
+        self.expect_nothing_done("caddy", PASSED, [400, 502])
 
 
 # ---- what the documents tell

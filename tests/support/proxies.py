@@ -1,5 +1,6 @@
 """nginx and Caddy in front of a desk, for tests: what each is told, and how it is run. All of it listens on 127.0.0.1 alone."""
 
+import contextlib
 import os
 import re
 import socket
@@ -141,12 +142,17 @@ class Proxy:
             expect(False, f"it does not listen: {log.read()}")
 
     def context(self, authority: str) -> ssl.SSLContext:
-        """Which trusts an authority whose certificate lies in the folder, and comes soon."""
+        """Which trusts an authority whose certificate lies in the folder. Caddy listens before it has made that and its own."""
         path = os.path.join(self.folder, authority)
         last = time.monotonic() + SECONDS
-        while not os.path.exists(path) and time.monotonic() < last:
+        while time.monotonic() < last:
+            with contextlib.suppress(OSError):
+                context = ssl.create_default_context(cafile=path)
+                with socket.create_connection(("127.0.0.1", self.port), SECONDS) as plain:
+                    context.wrap_socket(plain, server_hostname="localhost").close()
+                return context
             time.sleep(0.05)
-        return ssl.create_default_context(cafile=path)
+        raise AssertionError(f"no TLS in {SECONDS} s")
 
     def end(self) -> None:
         self.process.terminate()
