@@ -125,6 +125,23 @@ class Crowds(FrontCase):
             note(f"{count} commands in {time.time() - began:.1f} s, {len(accepted)} done, the desk killed {KILLS} times")
             expect_same_rows(self.program, self.folder, front, accepted)
 
+    def test_a_single_command_outlives_a_killed_desk(self):
+        """Sent on a kept connection to a desk that stands still, is killed and starts two seconds later: it is answered, done
+        once."""
+        with Front(self.program, self.folder) as front:
+            for number in range(3):
+                front.value()
+                front.desk.send_signal(signal.SIGSTOP)
+                with concurrent.futures.ThreadPoolExecutor(1) as pool:
+                    job = pool.submit(front.tell, WAREHOUSE, "deliver N1 A-1 1", f"ALONE-{number}")
+                    time.sleep(0.3)
+                    front.desk_kill()
+                    time.sleep(2)
+                    front.desk_start()
+                    found = job.result()
+                expect(found == (200, {"place": 9 + number}), f"{found}")
+                expect(front.value() == 501 + number, "not done once")
+
     def test_clients_outlive_a_front_that_stops(self):
         """The front stopped and started again under load: who asks again under the same key has each command done once."""
         with Front(self.program, self.folder) as front:
