@@ -87,7 +87,8 @@ class Users(FrontCase):
             expect(front.value() == 500, "something was delivered")
 
     def test_a_stopped_desk_may_start_again(self):
-        """A file that may not grow stops the desk. It is told, and the desk ends; started again it does the same command once."""
+        """A file that may not grow stops the desk. It is told, and the desk ends by itself; started again it does the same
+        command once."""
         with Front(self.program, self.folder) as front:
             front.desk_kill()
             size = os.path.getsize(front.file) + 20_000
@@ -101,7 +102,6 @@ class Users(FrontCase):
                 expect(found == (200, {"place": place}), f"{found}")
                 place += 1
             expect(found == (503, {"error": "stopped"}), f"{found}")
-            front.tell(WAREHOUSE, "deliver N1 A-1 1", f"K{place}")
             _, errors = front.desk.communicate(timeout=SECONDS)
             expect(errors == b"stockdesk: store\n", "no store fault is told")
             front.desk_start()
