@@ -243,7 +243,8 @@ class Configuration(FrontCase):
                 ["127.0.0.1", WAREHOUSE, "warehouse", "GET", "/v1/sheets/N1", "200", "-", "-"],
                 ["127.0.0.1", "-", "-", "GET", "/v1/sheets/N1", "401", "-", "-"],
             ]
-            expect(lines == want, f"{lines}")
+            # a line is written when its answer is on its way, so two may change places
+            expect(sorted(lines) == sorted(want), f"{lines}")
             expect(all(re.match(r"\d{4}-\d\d-\d\dT\d\d:\d\d:\d\dZ ", line) for line in front.log() if "/v1/" in line), "no time")
 
     def test_a_browser_is_told_to_be_careful(self):
