@@ -1,4 +1,5 @@
-"""What many clients found, as Markdown: as bench/clients prints it, and more shortly as docs/PERFORMANCE.md has it."""
+"""What many clients found, as Markdown: as bench/clients and bench/front print it, and more shortly as docs/PERFORMANCE.md has
+it."""
 
 from collections.abc import Iterator, Sequence
 from dataclasses import dataclass, field
@@ -7,8 +8,14 @@ from statistics import median
 from loads import Load
 from report import number, over, ratio, table
 
-PLAIN, ROUNDS, POSTGRES = "serve", "together", "postgres"
-SERVERS = {PLAIN: "`serve`", ROUNDS: "`--together`", POSTGRES: "PostgreSQL"}
+PLAIN, ROUNDS, POSTGRES, FRONT, OLDER = "serve", "together", "postgres", "front", "older"
+SERVERS = {
+    FRONT: "through the front",
+    OLDER: "through the older front",
+    PLAIN: "`serve`",
+    ROUNDS: "`--together`",
+    POSTGRES: "PostgreSQL",
+}
 FAST, SLOW = "fast", "slow"
 PACES = [FAST, SLOW]
 
@@ -16,6 +23,11 @@ PACES = [FAST, SLOW]
 # so many syncs and microseconds more
 ONE_GOAL = 0.95
 WAITERS, WAITS_GOAL, SYNCS, MICROS = 64, 0.99, 3, 20_000
+
+# the works of bench/front, and its goals for so many clients: deliveries against those without the front and through an older
+# one; asks a second; the share of waits within so many microseconds; and the milliseconds that a slow reader may add
+DELIVERIES, ASKS = "deliveries", "asks"
+WITHOUT_GOAL, OLDER_GOAL, ASKS_GOAL, FRONT_MICROS, ADDED_GOAL = 0.7, 4.0, 20_000, 30_000, 5.0
 
 COLUMNS = ["a second", "p50 ms", "p99 ms", "syncs a second", "a sync, ms", "commands a sync"]
 
@@ -43,7 +55,7 @@ class Figures:
 
 @dataclass(frozen=True)
 class Cell:
-    """The deliveries, how many clients send them, what does them, and with which syncs."""
+    """The requests, how many clients send them, what answers them, and with which syncs."""
 
     work: str
     clients: int
@@ -53,14 +65,16 @@ class Cell:
 
 @dataclass
 class Found:
-    """The names of deliveries and of syncs, and what was found: of cells; by pace the loads of one client, by `serve` and then
-    together; and by the number of clients that never read what those beside them found."""
+    """The names of requests and of syncs, and what was found: of cells; by pace the loads of one client, by `serve` and then
+    together; by the number of clients that never read what those beside them found; and the loads of others alone and then beside
+    a client that reads slowly."""
 
     works: dict[str, str]
     paces: dict[str, str]
     cells: dict[Cell, Figures] = field(default_factory=dict)
     one: dict[str, list[tuple[Load, Load]]] = field(default_factory=dict)
     unread: dict[int, Load] = field(default_factory=dict)
+    slow: list[tuple[Load, Load]] = field(default_factory=list)
 
     def rows(self, work: str) -> list[tuple[str, list[Figures | None]]]:
         """The numbers of clients and what serves them, and the figures of each pace."""
@@ -68,8 +82,20 @@ class Found:
         named = [(clients, list(SERVERS)[index]) for clients, index in rows]
         return [(f"{clients}, {SERVERS[server]}", self.paces_of(work, clients, server)) for clients, server in named]
 
+    def has_slow(self, work: str) -> bool:
+        return any(cell.work == work and cell.pace == SLOW for cell in self.cells)
+
     def paces_of(self, work: str, clients: int, server: str) -> list[Figures | None]:
         return [self.cells.get(Cell(work, clients, server, pace)) for pace in PACES]
+
+    def rate(self, work: str, server: str, pace: str = FAST) -> float | None:
+        """The requests a second of the clients of which goals speak."""
+        found = self.cells.get(Cell(work, WAITERS, server, pace))
+        return found.load.rate() if found else None
+
+    def slow_added(self, share: float) -> float:
+        """The median of the milliseconds that a client that reads slowly adds to the waits of such a share."""
+        return median(beside.millis(share) - alone.millis(share) for alone, beside in self.slow)
 
     def one_rates(self, pace: str) -> tuple[float, float, float]:
         """The medians of the commands a second of one client, by `serve` and together, and that of the ratios."""
@@ -104,9 +130,9 @@ def cells_of(found: Figures | None) -> list[str]:
 
 
 def cells_text(found: Found, work: str) -> list[str]:
-    heads = ["clients", *COLUMNS, f"slow: {COLUMNS[0]}", *COLUMNS[1:]]
-    rows = [[name, *(cell for one in figures for cell in cells_of(one))] for name, figures in found.rows(work)]
-    return [f"### Deliveries, {found.works[work]}", "", *table(heads, rows)]
+    heads = ["clients", *COLUMNS] + ([f"slow: {COLUMNS[0]}", *COLUMNS[1:]] if found.has_slow(work) else [])
+    rows = [[name, *(cell for one in figures for cell in cells_of(one))][: len(heads)] for name, figures in found.rows(work)]
+    return [f"### {found.works[work].capitalize()}", "", *table(heads, rows)]
 
 
 def one_text(found: Found) -> list[str]:
@@ -133,21 +159,66 @@ def unread_text(found: Found, readers: int) -> list[str]:
     return ["### Beside clients that ask for large sheets and never read", "", *table(heads, rows)]
 
 
-def goals(found: Found) -> Iterator[tuple[str, float, float]]:
-    """Each goal, at least what is to be reached, and what was found."""
+def slow_text(found: Found, readers: int) -> list[str]:
+    heads = [f"{readers} clients, each pair in turn", *COLUMNS[:3], "longest ms", "p50 added", "p99 added"]
+    rows = []
+    for alone, beside in found.slow:
+        rows.append(["alone", *speed(alone), millis(alone.millis(1)), "", ""])
+        rows.append(["beside it", *speed(beside), millis(beside.millis(1)), *added(beside, alone)])
+    return ["### Beside a client that reads a sheet of 720 KB, a byte a second", "", *table(heads, rows)]
+
+
+@dataclass(frozen=True)
+class Goal:
+    """A goal, the least that is to be reached, or the most, and what was found."""
+
+    name: str
+    limit: float
+    value: float
+    is_most: bool = False
+
+    def bound(self) -> str:
+        return f"at {'most' if self.is_most else 'least'} {self.limit:,}"
+
+    def found(self) -> str:
+        return number(self.value) if self.limit >= 100 else f"{self.value:.3f}"
+
+    def is_reached(self) -> bool:
+        return self.value <= self.limit if self.is_most else self.value >= self.limit
+
+
+def goals(found: Found) -> Iterator[Goal]:
     for pace in found.one:
-        yield f"one client, together against `serve`, {found.paces[pace]}", ONE_GOAL, found.one_rates(pace)[2]
+        yield Goal(f"one client, together against `serve`, {found.paces[pace]}", ONE_GOAL, found.one_rates(pace)[2])
     for cell, figures in found.cells.items():
-        if (cell.clients, cell.server) == (WAITERS, ROUNDS):
+        if (cell.clients, cell.server) == (WAITERS, ROUNDS) and cell.work != ASKS:
             name = f"waits of {WAITERS} clients within three syncs and 20 ms, {found.works[cell.work]}, {found.paces[cell.pace]}"
-            yield name, WAITS_GOAL, figures.in_time()
+            yield Goal(name, WAITS_GOAL, figures.in_time())
+    yield from front_goals(found)
+
+
+def front_goals(found: Found) -> Iterator[Goal]:
+    for pace in found.paces:
+        through, without = [found.rate(DELIVERIES, server, pace) for server in (FRONT, ROUNDS)]
+        if through and without:
+            yield Goal(
+                f"{WAITERS} clients through the front against without, {found.paces[pace]}", WITHOUT_GOAL, through / without
+            )
+    through, older = [found.rate(DELIVERIES, server) for server in (FRONT, OLDER)]
+    if through and older:
+        yield Goal(f"{WAITERS} clients through the front against the older front", OLDER_GOAL, through / older)
+    if asks := found.rate(ASKS, FRONT):
+        yield Goal(f"asks a second of {WAITERS} clients through the front", ASKS_GOAL, asks)
+    if figures := found.cells.get(Cell(DELIVERIES, WAITERS, FRONT, FAST)):
+        in_time = figures.load.within(FRONT_MICROS)
+        yield Goal(f"waits of {WAITERS} clients through the front within 30 ms", WAITS_GOAL, in_time)
+    if found.slow:
+        yield Goal("ms added at p99 by a client that reads a byte a second", ADDED_GOAL, found.slow_added(0.99), is_most=True)
 
 
 def goals_text(found: Found) -> list[str]:
-    rows = []
-    for goal, least, value in goals(found):
-        rows.append([goal, str(least), f"{value:.3f}", "yes" if value >= least else "no"])
-    return ["### Goals", "", *table(["goal", "at least", "found", "reached"], rows)] if rows else []
+    rows = [[goal.name, goal.bound(), goal.found(), "yes" if goal.is_reached() else "no"] for goal in goals(found)]
+    return ["### Goals", "", *table(["goal", "to be", "found", "reached"], rows)] if rows else []
 
 
 def narrow(heads: Sequence[str], rows: Sequence[Sequence[str]]) -> list[str]:
@@ -156,12 +227,13 @@ def narrow(heads: Sequence[str], rows: Sequence[Sequence[str]]) -> list[str]:
 
 
 def short_cells(found: Found, work: str) -> list[str]:
-    """Of slower syncs also the commands a sync."""
-    heads = ["clients", *COLUMNS[:3], f"slow: {COLUMNS[0]}", *COLUMNS[1:3], COLUMNS[-1]]
+    """Of slower syncs, where there are any, also the commands a sync."""
+    slow_heads = [f"slow: {COLUMNS[0]}", *COLUMNS[1:3], COLUMNS[-1]] if found.has_slow(work) else []
+    heads = ["clients", *COLUMNS[:3], *slow_heads]
     rows = []
     for name, (fast, slow) in found.rows(work):
-        rows.append([name, *cells_of(fast)[:3], *cells_of(slow)[:3], cells_of(slow)[-1]])
-    return [f"Deliveries, {found.works[work]}:", "", *narrow(heads, rows)]
+        rows.append([name, *cells_of(fast)[:3], *cells_of(slow)[:3], cells_of(slow)[-1]][: len(heads)])
+    return [f"{found.works[work].capitalize()}:", "", *narrow(heads, rows)]
 
 
 def short_unread(found: Found, readers: int) -> list[str]:
@@ -169,8 +241,14 @@ def short_unread(found: Found, readers: int) -> list[str]:
     return narrow([f"never read, beside {readers}", *COLUMNS[:3]], rows)
 
 
+def short_slow(found: Found, readers: int) -> list[str]:
+    rows = [[name, *speed(load)] for pair in found.slow for name, load in zip(["alone", "beside it"], pair)]
+    return narrow([f"{readers} clients", *COLUMNS[:3]], rows)
+
+
 def short_text(found: Found, readers: int) -> list[str]:
     """All that was found, as docs/PERFORMANCE.md has it."""
-    lines = [line for work in found.works for line in short_cells(found, work)] if found.cells else []
+    lines = [line for work in found.works if found.rows(work) for line in short_cells(found, work)]
     lines += short_unread(found, readers) if found.unread else []
-    return lines + [f"- {goal}: {value:.3f}, to be at least {least}" for goal, least, value in goals(found)]
+    lines += short_slow(found, readers) if found.slow else []
+    return lines + [f"- {goal.name}: {goal.found()}, to be {goal.bound()}" for goal in goals(found)]

@@ -1,4 +1,5 @@
-"""Deliveries by clients that each wait for their answer, and how long they wait: `wrk` sends them over HTTP, `pgbench` in SQL."""
+"""Deliveries and asks by clients that each wait for their answer, and how long they wait: `wrk` sends them over HTTP, `pgbench`
+deliveries in SQL."""
 
 import glob
 import os
@@ -23,18 +24,29 @@ WARMING = 2
 
 @dataclass(frozen=True)
 class Work:
-    """Deliveries to random fields of so many branches and articles, under random keys or under such as come in order."""
+    """Deliveries to random fields of so many branches and articles, under random keys or under such as come in order; or asks
+    for such fields."""
 
     name: str
     branches: int
     articles: int
     has_ordered_keys: bool = False
+    is_asks: bool = False
+
+    def kind(self) -> str:
+        return "asks" if self.is_asks else "deliveries"
+
+    def title(self) -> str:
+        return f"{self.kind()}, {self.name}"
+
+    def keys(self) -> str:
+        return "none" if self.is_asks else "ordered" if self.has_ordered_keys else "random"
 
 
 @dataclass(frozen=True)
 class Load:
-    """What clients found: the seconds that were measured, how many deliveries were answered in them after how many microseconds,
-    and how many deliveries were answered in the whole run."""
+    """What clients found: the seconds that were measured, how many requests were answered in them after how many microseconds,
+    and how many were answered in the whole run."""
 
     seconds: float
     waits: Counter[int]
@@ -77,7 +89,7 @@ def as_waited(counts: Counter[int], commands: int, expected: int) -> Counter[int
 
 
 def told_by_wrk(told: str, clients: int) -> Load:
-    """What deliveries.lua has printed."""
+    """What requests.lua has printed."""
     if wrong := re.search(r"Non-2xx.*|Socket errors.*", told):
         sys.exit(f"bench: wrk: {wrong[0]} (where the desk is full: take fewer --seconds)")
     [(micros, commands)] = [(int(micros), int(count)) for micros, count in re.findall(r"^run (\d+) (\d+)$", told, re.M)]
@@ -87,11 +99,11 @@ def told_by_wrk(told: str, clients: int) -> Load:
     return Load(micros / 1e6, as_waited(counts, commands, micros // (commands // clients)), commands)
 
 
-def by_wrk(port: int, work: Work, clients: int, seconds: int) -> Load:
-    """Sends deliveries to a service for so many seconds."""
+def by_wrk(address: str, work: Work, clients: int, seconds: int, header: str | None = None) -> Load:
+    """Sends requests to a service for so many seconds, each with a user's header if there is one."""
     words = ["wrk", "--threads", threads_for(clients), "--connections", str(clients), "--duration", f"{seconds}s"]
-    words += ["--timeout", f"{PATIENCE}s", "--script", os.path.join(HERE, "deliveries.lua"), f"http://127.0.0.1:{port}"]
-    words += ["--", str(work.branches), str(work.articles), "ordered" if work.has_ordered_keys else "random"]
+    words += ["--timeout", f"{PATIENCE}s", "--script", os.path.join(HERE, "requests.lua"), address]
+    words += ["--", str(work.branches), str(work.articles), work.keys(), *([header] if header else [])]
     ended = subprocess.run(words, check=True, stdout=subprocess.PIPE, text=True, timeout=seconds + 2 * PATIENCE)
     return told_by_wrk(ended.stdout, clients)
 

@@ -71,7 +71,7 @@ class Server(ABC):
 
     @abstractmethod
     def load(self, work: Work, clients: int, seconds: int) -> Load:
-        """Has so many clients send deliveries for so many seconds."""
+        """Has so many clients send requests for so many seconds."""
 
     @abstractmethod
     def kept(self) -> tuple[int, int]:
@@ -123,7 +123,7 @@ class Service(Server):
             self.process.stdout.close()
 
     def load(self, work: Work, clients: int, seconds: int) -> Load:
-        return by_wrk(self.port, work, clients, seconds)
+        return by_wrk(f"http://127.0.0.1:{self.port}", work, clients, seconds)
 
     def kept(self) -> tuple[int, int]:
         """The program is ended first: while it serves the file, nobody else can read that."""

@@ -5,6 +5,7 @@ import concurrent.futures
 import http.client
 import json
 import random
+import signal
 import socket
 import ssl
 import threading
@@ -12,13 +13,15 @@ import time
 from typing import Callable
 
 from support import fronts
-from support.fronts import SHOP, WAREHOUSE, Front, FrontCase, credentials, head_of, message
+from support.fronts import OFFICE, SHOP, WAREHOUSE, Front, FrontCase, credentials, head_of, message
 from support.programs import done, expect, new_desk, note
 from support.tables import rows_of, sqlite3
 
 CLIENTS = 64
 COMMANDS = 2_000
 KILLS = 3
+# what the system holds back for a client is little, so the front has to
+SMALL_BUFFERS = "global\n    tune.sndbuf.client 16384\n"
 
 # what is done: its place, its key, its spelling
 Done = tuple[int, str, str]
@@ -95,6 +98,14 @@ def expect_same_rows(program: str, folder: str, front: Front, accepted: list[Don
         expect(rows_of(front.file) == rows_of(played), "other rows")
 
 
+def delivered(front: Front, over: threading.Event) -> list[int]:
+    """What was answered to deliveries, each on a connection of its own, until it is over."""
+    found = []
+    while not over.is_set():
+        found.append(front.tell(WAREHOUSE, "deliver N1 A-2 1")[0])
+    return found
+
+
 class Crowds(FrontCase):
     def test_many_clients_outlive_a_killed_desk(self):
         """64 clients of two groups, the desk killed three times in the middle and started again: each command is answered."""
@@ -114,6 +125,23 @@ class Crowds(FrontCase):
             note(f"{count} commands in {time.time() - began:.1f} s, {len(accepted)} done, the desk killed {KILLS} times")
             expect_same_rows(self.program, self.folder, front, accepted)
 
+    def test_a_single_command_outlives_a_killed_desk(self):
+        """Sent on a kept connection to a desk that stands still, is killed and starts two seconds later: it is answered, done
+        once."""
+        with Front(self.program, self.folder) as front:
+            for number in range(3):
+                front.value()
+                front.desk.send_signal(signal.SIGSTOP)
+                with concurrent.futures.ThreadPoolExecutor(1) as pool:
+                    job = pool.submit(front.tell, WAREHOUSE, "deliver N1 A-1 1", f"ALONE-{number}")
+                    time.sleep(0.3)
+                    front.desk_kill()
+                    time.sleep(2)
+                    front.desk_start()
+                    found = job.result()
+                expect(found == (200, {"place": 9 + number}), f"{found}")
+                expect(front.value() == 501 + number, "not done once")
+
     def test_clients_outlive_a_front_that_stops(self):
         """The front stopped and started again under load: who asks again under the same key has each command done once."""
         with Front(self.program, self.folder) as front:
@@ -129,6 +157,31 @@ class Crowds(FrontCase):
             expect(lost > 0, "no answer was lost")
             note(f"{len(accepted)} done, {lost} answers lost on the way")
             expect_same_rows(self.program, self.folder, front, accepted)
+
+    def test_a_front_reads_its_files_anew(self):
+        """At SIGUSR2, under load: whoever comes is answered, and the shops' orders are those that stand in the file now."""
+        with Front(self.program, self.folder, shops=["n2 1"]) as front:
+            front.stop()
+            front.words.append("-W")
+            front.start()
+            expect(front.tell("n2", "open 1000000 60 take N1 A-1 1")[0] == 200, "an order of its range is refused")
+            expect(front.tell("n2", "open 2000000 60 take N1 A-1 1")[0] == 403, "an order of another range is done")
+            with open(front.environment["SHOPS"], "w", encoding="ascii") as file:
+                file.write("n2 2\n")
+            over = threading.Event()
+            with concurrent.futures.ThreadPoolExecutor(8) as pool:
+                jobs = [pool.submit(delivered, front, over) for _ in range(8)]
+                for _ in range(KILLS):
+                    time.sleep(0.5)
+                    front.process.send_signal(signal.SIGUSR2)
+                time.sleep(0.5)
+                over.set()
+                found = [status for job in jobs for status in job.result()]
+            expect(found == [200] * len(found), f"{set(found)}")
+            expect(front.tell("n2", "open 2000000 60 take N1 A-1 1")[0] == 200, "an order of its new range is refused")
+            expect(front.tell("n2", "abort 1000000")[0] == 403, "an order of its old range is ended")
+            expect(front.value("A-2") == 500 + len(found), "not each done once")
+            note(f"{len(found)} commands, the front read anew {KILLS} times")
 
 
 # ---- clients that are slow, or gone
@@ -158,6 +211,14 @@ def unread(front: Front, count: int) -> ssl.SSLSocket:
     return client
 
 
+def sessions_at_desk(front: Front) -> float:
+    """How many messages are at the desk, or their answers on the way from it."""
+    _, page = front.ask(OFFICE, "GET", "/metrics")
+    start = 'haproxy_server_current_sessions{proxy="desk",server="desk"}'
+    [line] = [line for line in page.splitlines() if line.startswith(start)]
+    return float(line.split()[-1])
+
+
 def median_of_asks(front: Front) -> float:
     """How many milliseconds an ask takes on a kept connection: the one in the middle of 41."""
     connection, took = front.connect(), []
@@ -176,8 +237,7 @@ class SlowClients(FrontCase):
         """100 idle clients, 20 that send a byte a second and 20 that never read a long sheet: an ask takes no longer than 50
         ms."""
         script = fronts.FIELDS + "".join(f"S{n} field N2 B-{n} 0 9 9\n" for n in range(2_000))
-        # what the system holds back for a client is little, so the front has to
-        with Front(self.program, self.folder, more="global\n    tune.sndbuf.client 16384\n", script=script) as front:
+        with Front(self.program, self.folder, more=SMALL_BUFFERS, script=script) as front:
             alone = median_of_asks(front)
             over = threading.Event()
             slow = [threading.Thread(target=send_slowly, args=(front, over)) for _ in range(20)]
@@ -195,6 +255,23 @@ class SlowClients(FrontCase):
             note(f"an ask took {alone:.1f} ms, and {beside:.1f} ms beside 140 slow clients")
             expect(beside <= 50, f"an ask took {beside:.0f} ms")
             expect(front.value() == 500, "a message that was cut short was done")
+
+    def test_one_user_keeps_few_connections(self):
+        """60 clients of a user who never read: what may be under way at once keeps a connection to the desk each, the others
+        are told, and whoever else asks is answered as ever."""
+        script = fronts.FIELDS + "".join(f"S{n} field N2 B-{n} 0 9 9\n" for n in range(9_000))
+        limits = {**fronts.NO_LIMITS, "UNDER_WAY_BY_USER": "20"}
+        with Front(self.program, self.folder, limits, SMALL_BUFFERS, script) as front:
+            waiting = [unread(front, 1) for _ in range(60)]
+            time.sleep(1)
+            status, _ = front.ask(SHOP, "GET", "/v1/fields/N1/A-1")
+            expect(status == 429, f"a user with 20 answers that are not taken is answered {status}")
+            found = [front.tell(WAREHOUSE, "deliver N1 A-1 1") for _ in range(20)]
+            expect([status for status, _ in found] == [200] * 20, f"{found}")
+            kept = sessions_at_desk(front)
+            expect(15 <= kept <= 21, f"{kept} connections to the desk are in use")
+            for client in waiting:
+                client.close()
 
     def test_a_message_may_come_in_pieces(self):
         """One byte, then the head but for its end, then half of the body, then the rest: it is answered as one that comes at

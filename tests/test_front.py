@@ -87,7 +87,8 @@ class Users(FrontCase):
             expect(front.value() == 500, "something was delivered")
 
     def test_a_stopped_desk_may_start_again(self):
-        """A file that may not grow stops the desk. It is told, and the desk ends; started again it does the same command once."""
+        """A file that may not grow stops the desk. It is told, and the desk ends by itself; started again it does the same
+        command once."""
         with Front(self.program, self.folder) as front:
             front.desk_kill()
             size = os.path.getsize(front.file) + 20_000
@@ -101,7 +102,6 @@ class Users(FrontCase):
                 expect(found == (200, {"place": place}), f"{found}")
                 place += 1
             expect(found == (503, {"error": "stopped"}), f"{found}")
-            front.tell(WAREHOUSE, "deliver N1 A-1 1", f"K{place}")
             _, errors = front.desk.communicate(timeout=SECONDS)
             expect(errors == b"stockdesk: store\n", "no store fault is told")
             front.desk_start()
@@ -243,7 +243,8 @@ class Configuration(FrontCase):
                 ["127.0.0.1", WAREHOUSE, "warehouse", "GET", "/v1/sheets/N1", "200", "-", "-"],
                 ["127.0.0.1", "-", "-", "GET", "/v1/sheets/N1", "401", "-", "-"],
             ]
-            expect(lines == want, f"{lines}")
+            # a line is written when its answer is on its way, so two may change places
+            expect(sorted(lines) == sorted(want), f"{lines}")
             expect(all(re.match(r"\d{4}-\d\d-\d\dT\d\d:\d\d:\d\dZ ", line) for line in front.log() if "/v1/" in line), "no time")
 
     def test_a_browser_is_told_to_be_careful(self):

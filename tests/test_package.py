@@ -12,12 +12,24 @@ import unittest
 
 from support import DEPLOY, TOP
 from support.cases import ProgramCase, needs
+from support.copies import BACKUP, alone
+from support.fronts import TOGETHER
 from support.programs import done, expect, note
 from support.service import Service, post
 
 PACKAGE = os.path.join(DEPLOY, "package")
+ROLLOVER = os.path.join(DEPLOY, "stockdesk-rollover")
 UNITS = sorted(glob.glob(os.path.join(DEPLOY, "*.service")) + glob.glob(os.path.join(DEPLOY, "*.timer")))
-LEAST_EXPOSED = 2.0
+# a unit of a service, and below what its exposure is
+EXPOSED = {"stockdesk@.service": 2.0, "stockdesk-backup@.service": 2.5, "stockdesk-check@.service": 2.5}
+SHARED = [
+    "User=stockdesk",
+    "CapabilityBoundingSet=",
+    "NoNewPrivileges=yes",
+    "MemoryDenyWriteExecute=yes",
+    "SystemCallArchitectures=native",
+]
+SHARED += ["SystemCallFilter=@system-service", "SystemCallFilter=~@privileged @resources"]
 
 
 def run(words: list[str], **options) -> subprocess.CompletedProcess[str]:
@@ -164,10 +176,35 @@ def calls_of(group: str) -> set[str]:
     return {name for name in names if name[0] != "@"}.union(*(calls_of(name) for name in names if name[0] == "@"))
 
 
+def allowed_calls() -> set[str]:
+    # as root alone SQLite gives a file its owner
+    as_root = {"fchown"} if os.geteuid() == 0 else set()
+    return (calls_of("@system-service") - calls_of("@privileged") - calls_of("@resources")) | {"execve"} | as_root
+
+
+def traced(folder: str, program: str) -> tuple[str, str]:
+    """What runs a program under strace, and the file of the calls that it and those that it begins make."""
+    wrapper, log = os.path.join(folder, "traced"), os.path.join(folder, "calls")
+    with open(wrapper, "w", encoding="ascii") as file:
+        file.write(f'#!/bin/sh\nexec strace -f -o {log} {program} "$@"\n')
+    os.chmod(wrapper, 0o755)
+    return wrapper, log
+
+
+def expect_allowed(log: str, some: str) -> None:
+    """The units let these calls pass, one of that name among them, and none maps memory to write and to run."""
+    with open(log, encoding="utf-8") as file:
+        text = file.read()
+    used = set(re.findall(r"^\d+ +(\w+)\(", text, re.MULTILINE))
+    expect(some in used, f"nothing was traced: {used}")
+    expect(used <= allowed_calls(), f"refused by the unit: {used - allowed_calls()}")
+    expect(not re.search(r"PROT_WRITE\|PROT_EXEC|mprotect\(.*PROT_EXEC", text), "memory is to be written and run")
+
+
 @needs("systemd-analyze")
 class Units(ProgramCase):
     def test_the_units_are_sound(self):
-        """systemd finds no fault but for programs that are not installed here, and the service's exposure is below 2."""
+        """systemd finds no fault but for programs that are not installed here."""
         for unit in UNITS:
             shutil.copy(unit, self.folder)
         for unit in UNITS:
@@ -179,27 +216,44 @@ class Units(ProgramCase):
             faults = [line for line in told.stderr.splitlines() if self.folder in line or "stockdesk" in line]
             others = [line for line in faults if "is not executable" not in line]
             expect(not others, f"{unit}: {others}")
-        told = run(["systemd-analyze", "security", "--offline=true", os.path.join(DEPLOY, "stockdesk@.service")])
-        exposed = re.search(r"Overall exposure level for .*: ([0-9.]+)", told.stdout)
-        expect(exposed and float(exposed[1]) < LEAST_EXPOSED, f"exposed: {told.stdout[-200:]}{told.stderr}")
-        note(f"exposure {exposed[1]}")
+
+    def test_no_unit_is_exposed(self):
+        """Each service is the user stockdesk's, and its exposure is small."""
+        expect({os.path.basename(unit) for unit in UNITS if unit.endswith(".service")} == set(EXPOSED), f"{UNITS}")
+        for name, most in EXPOSED.items():
+            path = os.path.join(DEPLOY, name)
+            told = run(["systemd-analyze", "security", "--offline=true", path])
+            found = re.search(r"Overall exposure level for .*: ([0-9.]+)", told.stdout)
+            expect(found and float(found[1]) < most, f"{name}: {told.stdout[-200:]}{told.stderr}")
+            with open(path, encoding="utf-8") as file:
+                kept = file.read().splitlines()
+            expect(set(SHARED) <= set(kept), f"{name} lacks {set(SHARED) - set(kept)}")
+            note(f"{name} {found[1]}")
 
     @needs("strace")
     def test_the_service_needs_no_call_that_its_unit_refuses(self):
         """A service under strace that makes, fills and serves a desk."""
-        wrapper, log = os.path.join(self.folder, "traced"), os.path.join(self.folder, "calls")
-        with open(wrapper, "w", encoding="ascii") as file:
-            file.write(f'#!/bin/sh\nexec strace -f -o {log} {self.program} "$@"\n')
-        os.chmod(wrapper, 0o755)
+        wrapper, log = traced(self.folder, self.program)
         path = os.path.join(self.folder, "desk.db")
         done(self.program, ["init", path])
-        service = Service(wrapper, path, 1)
+        service = Service(wrapper, path, 1, options=TOGETHER)
         connection = service.connect()
         post(connection, "K1", "field N1 A-1 0 100 40")
         connection.close()
         service.expect_end()
-        with open(log, encoding="utf-8") as file:
-            used = set(re.findall(r"^\d+ +(\w+)\(", file.read(), re.MULTILINE))
-        allowed = calls_of("@system-service") - calls_of("@privileged") - calls_of("@resources")
-        expect("accept4" in used or "accept" in used, f"nothing was traced: {used}")
-        expect(used <= allowed | {"execve"}, f"refused by the unit: {used - allowed}")
+        expect_allowed(log, "accept4")
+
+    @needs("strace")
+    def test_the_tools_need_no_call_that_their_units_refuse(self):
+        """The copy of a desk that is served, and the look at how full it is, under strace."""
+        path = os.path.join(self.folder, "desk.db")
+        done(self.program, ["init", path])
+        with alone(self.program, path) as service:
+            wrapper, log = traced(self.folder, BACKUP)
+            told = run([wrapper, str(service.process.pid), path, self.folder, "--program", self.program])
+            expect(told.returncode == 0, f"no copy: {told}")
+            expect_allowed(log, "pidfd_send_signal")
+            wrapper, log = traced(self.folder, ROLLOVER)
+            told = run([wrapper, "--check", path])
+            expect(told.returncode == 0, f"not looked at: {told}")
+            expect_allowed(log, "openat")

@@ -11,13 +11,14 @@ import ssl
 import subprocess
 import time
 import uuid
+from collections.abc import Sequence
 from typing import Any
 
 from support import DEPLOY
 from support.cases import ProgramCase, needs, path_of
 from support.programs import SECONDS, done, expect, new_desk
 
-PAGE = os.path.join(DEPLOY, "page", "desk.html")
+CONFIGURATION, PAGE = os.path.join(DEPLOY, "haproxy.cfg"), os.path.join(DEPLOY, "page", "desk.html")
 FIELDS = "".join(f"F{n} field N1 A-{n} 0 1000000 500\n" for n in range(1, 9))
 
 # a user of each group
@@ -29,6 +30,9 @@ NO_LIMITS = dict.fromkeys(
     + ["CONNECTIONS_BY_ADDRESS", "HANDSHAKES_BY_ADDRESS", "FAILURES_BY_ADDRESS"],
     "1000000",
 )
+
+# as the service of systemd serves a desk
+TOGETHER = ["--together", "256"]
 
 Body = dict[str, Any]
 
@@ -60,22 +64,40 @@ def make_certificate(folder: str) -> None:
                 whole.write(part.read())
 
 
-class Front:
-    """A desk in a file with some fields, served behind a front, both on 127.0.0.1. `more` is read behind the configuration."""
+def added(folder: str, name: str, more: str) -> str:
+    """The path of a copy of a file that is shipped, with this behind it."""
+    path = os.path.join(folder, name)
+    with open(os.path.join(DEPLOY, name), encoding="utf-8") as shipped, open(path, "w", encoding="utf-8") as file:
+        file.write(shipped.read() + more)
+    return path
 
-    def __init__(self, program: str, folder: str, limits: dict[str, str] = NO_LIMITS, more: str = "", script: str = FIELDS):
-        self.program, self.folder = program, folder
-        self.file = new_desk(program, folder)
-        done(program, ["run", self.file], script)
+
+class Haproxy:
+    """HAProxy with the configuration that is shipped, or another, before a desk's port, both on 127.0.0.1. `more` is read behind
+    the configuration. Each of `shops`, such as "n2 1 N2", is one more user of the shops, with its orders and branches if it has
+    any."""
+
+    def __init__(
+        self,
+        folder: str,
+        desk_port: int,
+        limits: dict[str, str] = NO_LIMITS,
+        more: str = "",
+        shops: Sequence[str] = (),
+        configuration: str = CONFIGURATION,
+    ):
+        self.folder = folder
         make_certificate(folder)
         self.context = ssl.create_default_context(cafile=os.path.join(folder, "certificate"))
         self.log_path = os.path.join(folder, "log")
-        self.words = [str(path_of("haproxy")), "-f", f"{DEPLOY}/users.cfg", "-f", f"{DEPLOY}/haproxy.cfg"]
+        names = [line.split()[0] for line in shops]
+        more_users = "".join(f"    user {name} insecure-password {name} groups shops\n" for name in names)
+        self.words = [str(path_of("haproxy")), "-f", added(folder, "users.cfg", more_users), "-f", configuration]
         if more:
             with open(os.path.join(folder, "more.cfg"), "w", encoding="ascii") as file:
                 file.write(more)
             self.words += ["-f", file.name]
-        self.port, self.desk_port = free_port(), free_port()
+        self.port, self.desk_port = free_port(), desk_port
         self.environment = {
             **os.environ,
             **limits,
@@ -83,20 +105,8 @@ class Front:
             "DESK": f"127.0.0.1:{self.desk_port}",
             "PEM": os.path.join(folder, "pem"),
             "PAGE": PAGE,
+            "SHOPS": added(folder, "shops.map", "".join(f"{line}\n" for line in shops if " " in line)),
         }
-        self.desk_start()
-        try:
-            self.start()
-        except BaseException:
-            self.desk_kill()
-            raise
-
-    def __enter__(self) -> "Front":
-        return self
-
-    def __exit__(self, *_: object) -> None:
-        self.stop()
-        self.desk_kill()
 
     def start(self) -> None:
         with open(self.log_path, "a", encoding="ascii") as log:
@@ -113,16 +123,6 @@ class Front:
         self.process.terminate()
         self.process.wait()
 
-    def desk_start(self, **options: Any) -> None:
-        words = [self.program, "serve", self.file, "--port", str(self.desk_port), "--connections", "1000000"]
-        self.desk = subprocess.Popen(words, stdin=subprocess.DEVNULL, stdout=subprocess.PIPE, stderr=subprocess.PIPE, **options)
-        told = self.desk.stdout and self.desk.stdout.readline()
-        expect(told == f"listening {self.desk_port}\n".encode(), f"no desk: {told!r}")
-
-    def desk_kill(self) -> None:
-        self.desk.send_signal(signal.SIGKILL)
-        self.desk.communicate()
-
     def log(self) -> list[str]:
         with open(self.log_path, encoding="ascii") as log:
             return log.readlines()
@@ -133,6 +133,46 @@ class Front:
     def socket(self) -> ssl.SSLSocket:
         plain = socket.create_connection(("127.0.0.1", self.port), SECONDS)
         return self.context.wrap_socket(plain, server_hostname="localhost")
+
+
+class Front(Haproxy):
+    """A desk in a file with some fields, served to many behind a front."""
+
+    def __init__(
+        self,
+        program: str,
+        folder: str,
+        limits: dict[str, str] = NO_LIMITS,
+        more: str = "",
+        script: str = FIELDS,
+        shops: Sequence[str] = (),
+    ):
+        super().__init__(folder, free_port(), limits, more, shops)
+        self.program, self.file = program, new_desk(program, folder)
+        done(program, ["run", self.file], script)
+        self.desk_start()
+        try:
+            self.start()
+        except BaseException:
+            self.desk_kill()
+            raise
+
+    def __enter__(self) -> "Front":
+        return self
+
+    def __exit__(self, *_: object) -> None:
+        self.stop()
+        self.desk_kill()
+
+    def desk_start(self, **options: Any) -> None:
+        words = [self.program, "serve", self.file, "--port", str(self.desk_port), "--connections", "1000000", *TOGETHER]
+        self.desk = subprocess.Popen(words, stdin=subprocess.DEVNULL, stdout=subprocess.PIPE, stderr=subprocess.PIPE, **options)
+        told = self.desk.stdout and self.desk.stdout.readline()
+        expect(told == f"listening {self.desk_port}\n".encode(), f"no desk: {told!r}")
+
+    def desk_kill(self) -> None:
+        self.desk.send_signal(signal.SIGKILL)
+        self.desk.communicate()
 
     def ask(self, user: str | None, method: str, target: str, body: str | bytes | None = None) -> tuple[int, str]:
         """The status and the body of an answer, on a connection of its own."""

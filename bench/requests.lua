@@ -1,6 +1,6 @@
--- Deliveries for `wrk`. The arguments are numbers of branches and articles, of which each delivery has random ones, and whether
--- the keys are `random` or `ordered`. At the end it prints the microseconds of the run, how many requests were answered, and how
--- many of them after how many microseconds.
+-- Deliveries for `wrk`, or asks. The arguments are numbers of branches and articles, of which each has random ones; whether the
+-- keys of deliveries are `random` or `ordered`, or `none`: then it asks for fields; and a user's header, if there is one. At the
+-- end it prints the microseconds of the run, how many requests were answered, and how many of them after how many microseconds.
 local thread = 0
 
 function setup(started)
@@ -11,7 +11,7 @@ end
 function init(arguments)
     branches, articles, keys = tonumber(arguments[1]), tonumber(arguments[2]), arguments[3]
     sent = 0
-    wrk.method = "POST"
+    wrk.headers["Authorization"] = arguments[4]
     math.randomseed(os.time() + 1000000000 * number)
 end
 
@@ -25,8 +25,11 @@ end
 
 function request()
     local branch, article = math.random(branches) - 1, math.random(articles) - 1
+    if keys == "none" then
+        return wrk.format("GET", string.format("/v1/fields/N%d/A-%d", branch, article))
+    end
     local body = string.format('{"key":"K-%d","command":"deliver N%d A-%d 1"}', key(), branch, article)
-    return wrk.format(nil, "/v1/commands", nil, body)
+    return wrk.format("POST", "/v1/commands", nil, body)
 end
 
 function done(summary, latency)
