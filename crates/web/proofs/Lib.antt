@@ -11,7 +11,7 @@ mod SomeParts
 mod SomeAsk
 mod SomeAnswer
 mod AnswerKinds
-mod FourRoutes
+mod RouteShapes
 mod OneView
 mod Ascii
 mod TwoMembers

@@ -38,20 +38,15 @@ order_told (Some o) = (json_answer 200 (order_object o), refl)
 
 some_reply : (A : Ledger) (ask : Ask) → Good A → (answer : Answer) × (B : Ledger) × Replies A ask answer B
 some_reply A (ask.Call r) g = let answer = answered_if_good A r g in (reply_answer answer.0, answer.1, (answer.0, answer.2, refl))
-some_reply A ask.BadCall g = (_, A, (refl, refl))
 some_reply A (ask.Field b a) g = let told = field_told A b a g (field_named A (name_of b a)) refl in (told.0, A, (told.1, refl))
 some_reply A (ask.Order n) g = let told = order_told (order_numbered A n) in (told.0, A, (told.1, refl))
 some_reply A (ask.Sheet b) g = let text = some_sheet (λ f. bytes_eq f.branch b) (λ v. v.article) A g in (text_answer text.0, A, ((text.0, text.1, refl), refl))
-some_reply A ask.Nothing g = (_, A, (refl, refl))
+some_reply A ask g = (_, A, (refl, refl))
 
 -- a good ledger stays good
 good_reply : (A : Ledger) (m : Message) (ask : Ask) (answer : Answer) (B : Ledger) → Good A → AsksFor m ask → Replies A ask answer B → Good B
 good_reply A m (ask.Call r) answer B g asks h = good_answer A r h.0 B g asks.1.key asks.1.command h.1
-good_reply A m ask.BadCall answer B g asks h = subst Good (sym h.1) g
-good_reply A m (ask.Field b a) answer B g asks h = subst Good (sym h.1) g
-good_reply A m (ask.Order n) answer B g asks h = subst Good (sym h.1) g
-good_reply A m (ask.Sheet b) answer B g asks (told, same) = subst Good (sym same) g
-good_reply A m ask.Nothing answer B g asks h = subst Good (sym h.1) g
+good_reply A m ask answer B g asks (told, same) = subst Good (sym same) g
 
 -- a ordinary answer to a part, after which the ledger is good
 abbrev Answered : Snapshot → Part → Type 0

@@ -1,11 +1,11 @@
 -- The JSON objects of bodies, their members in the order of their names.
-use Rattle.std.specs.Prelude.{ℕ, List, [], ◌∷◌, codes, map}
+use Rattle.std.specs.Prelude.{ℕ, List, [], ◌∷◌, codes, length, map}
 use Rattle.serde_json.specs.Data.{Data, Members, array, member, no_members, number, object, string, unsigned}
 use Rattle.serde_json.specs.View.{items_of}
 use Rattle.words.specs.OpenLines.{way_word}
 use Rattle.words.specs.Replies.{refusal_code, refusal_name}
 use Rattle.words.specs.declared.reply.Refusal.{Refusal}
-use Rattle.book.specs.Ledger.{Order, shown_state}
+use Rattle.book.specs.Ledger.{Ledger, Order, open_orders, places, shown_state}
 use Rattle.book.specs.declared.book.views.FieldView.{FieldView}
 use Rattle.book.specs.declared.book.views.OrderView.{OrderView}
 use Rattle.book.specs.declared.order.Kind.{Kind}
@@ -44,6 +44,13 @@ abbrev pub refused_object : Refusal → ℕ → Data
 refused_object refusal line =
     object_of ((codes "code", natural (refusal_code refusal)) ∷ (codes "line", natural line)
     ∷ (codes "refused", string (refusal_name refusal)) ∷ [])
+
+-- {"clock":C,"fields":F,"open":O,"orders":N,"places":P}
+abbrev pub desk_object : Ledger → Data
+desk_object A =
+    object_of ((codes "clock", natural A.clock) ∷ (codes "fields", natural (length A.fields))
+    ∷ (codes "open", natural (open_orders A)) ∷ (codes "orders", natural (length A.orders))
+    ∷ (codes "places", natural (places A)) ∷ [])
 
 -- {"article":"A","branch":"B","hi":HI,"inf":I,"lo":LO,"sup":S,"value":V}
 abbrev pub field_object : FieldView → Data

@@ -9,7 +9,7 @@ use Rattle.files.specs.Sheets.{IsBranchSheet}
 use Rattle.web.specs.Answers.{Answer, bad_answer, json_answer, none_answer, reply_answer, stopped_answer, text_answer}
 use Rattle.web.specs.declared.ask.Ask.{Ask}
 use Rattle.web.specs.declared.ask.Ask.TheVariants as ask
-use Rattle.web.specs.Objects.{field_object, order_object}
+use Rattle.web.specs.Objects.{desk_object, field_object, order_object}
 
 -- the field's object
 abbrev pub TellsField : Ledger → Field → Answer → Type 0
@@ -19,23 +19,25 @@ TellsField A f answer = (view : FieldView) × ShowsField A f view × (answer ≡
 abbrev pub TellsSheet : Ledger → List ℕ → Answer → Type 0
 TellsSheet A branch answer = (text : List ℕ) × IsBranchSheet A branch text × (answer ≡ text_answer text)
 
+-- the answer to an ask that calls nothing: what the ledger tells
+abbrev pub AnswersView : Ledger → Ask → Answer → Type 0
+AnswersView A ask.Desk answer = answer ≡ json_answer 200 (desk_object A)
+AnswersView A (ask.Field branch article) answer =
+    MatchOption (field_named A (name_of branch article)) (answer ≡ none_answer) (λ f. TellsField A f answer)
+AnswersView A (ask.Order number) answer =
+    MatchOption (order_numbered A number) (answer ≡ none_answer) (λ o. answer ≡ json_answer 200 (order_object o))
+AnswersView A (ask.Sheet branch) answer = TellsSheet A branch answer
+AnswersView A ask.BadCall answer = answer ≡ bad_answer
+AnswersView A ask.Nothing answer = answer ≡ none_answer
+AnswersView A (ask.Call request) answer = ⊥
+
 -- The answer to an ask at a ledger, of a desk that is not stopped, and the ledger after it.
 abbrev pub Replies : Ledger → Ask → Answer → Ledger → Type 0
 Replies A (ask.Call request) answer B = (reply : Reply) × Answers A request reply B × (answer ≡ reply_answer reply)
-Replies A ask.BadCall answer B = (answer ≡ bad_answer) × (B ≡ A)
-Replies A (ask.Field branch article) answer B =
-    MatchOption (field_named A (name_of branch article)) (answer ≡ none_answer) (λ f. TellsField A f answer) × (B ≡ A)
-Replies A (ask.Order number) answer B =
-    MatchOption (order_numbered A number) (answer ≡ none_answer) (λ o. answer ≡ json_answer 200 (order_object o))
-    × (B ≡ A)
-Replies A (ask.Sheet branch) answer B = TellsSheet A branch answer × (B ≡ A)
-Replies A ask.Nothing answer B = (answer ≡ none_answer) × (B ≡ A)
+Replies A ask answer B = AnswersView A ask answer × (B ≡ A)
 
 -- the answer of a desk that is stopped
 abbrev pub reply_of_stopped : Ask → Answer
-reply_of_stopped (ask.Call request) = stopped_answer
 reply_of_stopped ask.BadCall = bad_answer
-reply_of_stopped (ask.Field branch article) = stopped_answer
-reply_of_stopped (ask.Order number) = stopped_answer
-reply_of_stopped (ask.Sheet branch) = stopped_answer
 reply_of_stopped ask.Nothing = none_answer
+reply_of_stopped ask = stopped_answer

@@ -4,10 +4,10 @@ ghost use Rattle.std.specs.Prelude.{◌≡◌, ◌++◌, IfOk, OnOk};
 ghost use Rattle.book.specs.Ledger.{Order};
 ghost use Rattle.book.specs.Views.{ShowsOrder};
 ghost use Rattle.web.specs.Answers.{Answer, answer_bytes, header_line, json_answer, json_of, reply_answer, status_line, text_answer};
-ghost use Rattle.web.specs.Objects.{field_object, order_object, place_object, refused_object};
+ghost use Rattle.web.specs.Objects.{desk_object, field_object, order_object, place_object, refused_object};
 
-use crate::objects::{field_json, order_json, place_json, refused_json};
-use book::{FieldView, OrderView};
+use crate::objects::{desk_json, field_json, order_json, place_json, refused_json};
+use book::{Book, FieldView, OrderView};
 use http::StatusCode;
 use itoa::Buffer;
 use std::alloc::{AllocError, Global};
@@ -72,6 +72,13 @@ pub fn text_answer(alloc: Global, text: &[u8]) -> Result<Vec<u8>, AllocError>
     ensures { IfOk result (λ out. out.items ≡ answer_bytes (text_answer text.now)) }
 {
     answer_of(alloc, StatusCode::OK, b"text/plain", text)
+}
+
+/// The answer that tells how a desk stands.
+pub fn desk_answer(alloc: Global, book: &Book) -> Result<Vec<u8>, AllocError>
+    ensures { IfOk result (λ out. out.items ≡ answer_bytes (json_answer 200 (desk_object book.now.ledger))) }
+{
+    json_answer(alloc, StatusCode::OK, &desk_json(alloc, book)?)
 }
 
 /// The answer that tells a field.

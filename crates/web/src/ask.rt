@@ -22,6 +22,8 @@ pub enum Ask {
     Call(Request),
     /// A body that is no request.
     BadCall,
+    /// The desk: its clock, and how much of each kind it has.
+    Desk,
     /// A field.
     Field(Branch, Article),
     /// An order.

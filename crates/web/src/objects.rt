@@ -5,13 +5,33 @@ ghost use Rattle.serde_json.specs.View.{view as data_of};
 ghost use Rattle.serde_json.specs.Written.{compact_text};
 ghost use Rattle.book.specs.Ledger.{Order};
 ghost use Rattle.book.specs.Views.{ShowsOrder};
-ghost use Rattle.web.specs.Objects.{field_object, line_object, line_objects, order_object, view_object, place_object, refused_object};
+ghost use Rattle.web.specs.Objects.{desk_object, field_object, line_object, line_objects, order_object, view_object, place_object, refused_object};
 
 use crate::word::{article_text, branch_text, kind_text, state_text, way_text};
-use book::{FieldView, Line, OrderView};
+use book::{Book, FieldView, Line, OrderView};
 use serde_json::{Value, json};
 use std::alloc::{AllocError, Global};
 use words::Refusal;
+
+/// The object of a desk.
+fn desk_value(alloc: Global, book: &Book) -> Result<Value, AllocError>
+    ensures { IfOk result (λ value. data_of value ≡ desk_object book.now.ledger) }
+{
+    json!(in alloc; {
+        "clock": book.clock().get(),
+        "fields": book.field_count(),
+        "open": book.open_count(),
+        "orders": book.order_count(),
+        "places": book.places(),
+    })
+}
+
+/// The text of a desk's object.
+pub fn desk_json(alloc: Global, book: &Book) -> Result<Vec<u8>, AllocError>
+    ensures { IfOk result (λ text. text.items ≡ compact_text (desk_object book.now.ledger)) }
+{
+    desk_value(alloc, book)?.to_vec(alloc)
+}
 
 /// The object of a field.
 fn field_value(alloc: Global, view: &FieldView) -> Result<Value, AllocError>

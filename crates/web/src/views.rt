@@ -5,13 +5,23 @@ ghost use Rattle.desk.specs.Desk.{desk_state, snapshot};
 ghost use Rattle.web.specs.Turns.{Shows};
 ghost use Rattle.web.specs.declared.ask.Ask.TheVariants as ask;
 
-use crate::answer::{field_answer, order_answer, text_answer};
+use crate::answer::{desk_answer, field_answer, order_answer, text_answer};
 use crate::fixed::Fixed;
 use desk::{Answer, Desk};
 use escrow::{Article, Branch, OrderNo};
 use files::branch_sheet;
 use keep::Keep;
 use std::alloc::{AllocError, Global};
+
+/// The answer to a view of the desk.
+pub fn show_desk<K: Keep>(alloc: Global, desk: &Desk<K>) -> Result<Answer, AllocError>
+    ensures { IfOk result (λ answer. Shows (snapshot (desk_state K.Keep desk.now)) ask.Desk answer) }
+{
+    if desk.is_stopped() {
+        return Ok(Fixed::Stopped.answer());
+    }
+    Ok(Answer::Made(desk_answer(alloc, desk.book())?))
+}
 
 /// The answer to a view of a field.
 pub fn show_field<K: Keep>(
