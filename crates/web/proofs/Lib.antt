@@ -13,7 +13,6 @@ mod SomeAnswer
 mod AnswerKinds
 mod RouteShapes
 mod OneView
-mod Ascii
 mod TwoMembers
 mod Bodies
 mod OrderObject

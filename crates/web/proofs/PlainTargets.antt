@@ -6,7 +6,7 @@ use Rattle.std.proofs.lemmas.Fmt.{decimal_is_IsNumeral}
 use Rattle.std.proofs.lemmas.Str.Parse.{digit_from_value}
 use Rattle.std.specs.List.{list_all}
 use Rattle.std.specs.Str.Parse.{AllDigits}
-use Rattle.escrow.specs.Codes.{IsArticle, IsBranch, is_article_byte, is_branch_byte}
+use Rattle.escrow.specs.Codes.{IsArticle, IsBranch, IsKey, is_article_byte, is_branch_byte, is_key_byte}
 use Rattle.escrow.specs.Ranges.{IsOrderNo}
 use Rattle.matchit.specs.Params.{named}
 use Rattle.matchit.specs.Router.{RouteOf}
@@ -18,7 +18,7 @@ use Rattle.web.specs.Routes.{IsView, part_of, parts_on, resource_of, routes}
 use Rattle.web.specs.declared.ask.Ask.{Ask}
 use Rattle.web.specs.declared.ask.Ask.TheVariants as ask
 use Rattle.web.specs.declared.route.Resource.{Resource}
-use Rattle.web.specs.declared.route.Resource.TheVariants.{Commands, Desk, Field, Order, Sheet}
+use Rattle.web.specs.declared.route.Resource.TheVariants.{Article, Commands, Desk, Field, Key, Order, Sheet}
 use Rattle.web.proofs.RouteResult.{IsPart, is_found}
 use Rattle.web.proofs.RouteShapes.{Alone, Before, IsAsciiShape, IsAsciiText, IsTarget, OfField, Shape, ascii_shape, route_of, route_to, routed, shape}
 use Rattle.web.proofs.OneView.{same}
@@ -95,6 +95,9 @@ branch_part bytes h = part_from_test is_branch_byte (λ b e. (grind (arith, nat_
 article_part : (bytes : List ℕ) → IsArticle bytes → IsPart bytes
 article_part bytes h = part_from_test is_article_byte (λ b e. (grind (arith, nat_tests), grind (arith, nat_tests))) bytes h.some h.each
 
+key_part : (bytes : List ℕ) → IsKey bytes → IsPart bytes
+key_part bytes h = part_from_test is_key_byte (λ b e. (grind (arith, nat_tests), grind (arith, nat_tests))) bytes h.some h.each
+
 digits_part : (bytes : List ℕ) → 0 < length bytes → AllDigits 10 bytes → IsPart bytes
 digits_part [] some each = absurd (omega arith)
 digits_part (b ∷ bytes) some each = (omega (arith, digit_from_value b each.0), plain (b ∷ bytes) each)
@@ -132,6 +135,8 @@ view_said m (ask.Field branch article) get h =
     ((get, plain.2 ∙ cc (a, b) ∙ sym (field_text branch article)), h.3, h.4)
 view_said m (ask.Order n) get h = ((get, text_of (codes "/v1/orders/") (codes "number") m.head.target (decimal n) (plain_of m.head.target Order h.0) h.1), h.2)
 view_said m (ask.Sheet branch) get h = ((get, text_of (codes "/v1/sheets/") (codes "branch") m.head.target branch (plain_of m.head.target Sheet h.0) h.1), h.2)
+view_said m (ask.Article article) get h = ((get, text_of (codes "/v1/articles/") (codes "article") m.head.target article (plain_of m.head.target Article h.0) h.1), h.2)
+view_said m (ask.Kept key) get h = ((get, text_of (codes "/v1/keys/") (codes "key") m.head.target key (plain_of m.head.target Key h.0) h.1), h.2)
 view_said m (ask.Call r) get h = absurd h
 view_said m ask.BadCall get h = absurd h
 view_said m ask.Nothing get h = absurd h
@@ -171,5 +176,11 @@ is_read m (ask.Order n) ((get, e), h) =
     inr (get, (to, part, h))
 is_read m (ask.Sheet branch) ((get, e), h) =
     let (to, part) = before_read (codes "/v1/sheets/") (codes "branch") m.head.target branch Sheet refl (is_found Sheet branch (branch_part branch h)) e in
+    inr (get, (to, part, h))
+is_read m (ask.Article article) ((get, e), h) =
+    let (to, part) = before_read (codes "/v1/articles/") (codes "article") m.head.target article Article refl (is_found Article article (article_part article h)) e in
+    inr (get, (to, part, h))
+is_read m (ask.Kept key) ((get, e), h) =
+    let (to, part) = before_read (codes "/v1/keys/") (codes "key") m.head.target key Key refl (is_found Key key (key_part key h)) e in
     inr (get, (to, part, h))
 is_read m ask.Nothing h = absurd h

@@ -12,7 +12,7 @@ use Rattle.matchit.specs.Rows.{RowsOf, param_token, catch_all_token}
 use Rattle.matchit.specs.Seek.{first, has_slash, slash}
 use Rattle.web.specs.Routes.{AllFit, route_texts, routes}
 use Rattle.web.specs.declared.route.Resource.{Resource}
-use Rattle.web.specs.declared.route.Resource.TheVariants.{Commands, Desk, Field, Order, Sheet}
+use Rattle.web.specs.declared.route.Resource.TheVariants.{Article, Commands, Desk, Field, Key, Order, Sheet}
 use Rattle.web.proofs.RouteSearch.{Each, found_fits}
 
 -- ---- the routes
@@ -24,9 +24,11 @@ pub data Shape : Type 0 where
   OfField : Shape
 
 abbrev pub shape : Resource → Shape
+shape Article = Before (codes "/v1/articles/") (codes "article")
 shape Commands = Alone (codes "/v1/commands")
 shape Desk = Alone (codes "/v1/desk")
 shape Field = OfField
+shape Key = Before (codes "/v1/keys/") (codes "key")
 shape Order = Before (codes "/v1/orders/") (codes "number")
 shape Sheet = Before (codes "/v1/sheets/") (codes "branch")
 
@@ -56,7 +58,7 @@ abbrev row : Resource → List ℕ × RouteOf Resource
 row value = ((route_to value).pattern, route_to value)
 
 abbrev pub table : RowsOf (RouteOf Resource)
-table = row Commands ∷ row Desk ∷ row Field ∷ row Order ∷ row Sheet ∷ []
+table = row Article ∷ row Commands ∷ row Desk ∷ row Field ∷ row Key ∷ row Order ∷ row Sheet ∷ []
 
 pub routes_are : routes ≡ table
 unfolding matchit_on_literals
@@ -64,7 +66,7 @@ routes_are = refl
 
 pub all_fit : AllFit route_texts []
 unfolding matchit_on_literals
-all_fit = (refl, (refl, (refl, (refl, (refl, tt)))))
+all_fit = (refl, (refl, (refl, (refl, (refl, (refl, (refl, tt)))))))
 
 -- its bytes are ASCII
 abbrev pub IsAsciiText : List ℕ → Type 0
@@ -76,9 +78,11 @@ IsAsciiShape (Before path name) = IsAsciiText path × IsAsciiText name
 IsAsciiShape OfField = Unit {0}
 
 pub ascii_shape : (value : Resource) → IsAsciiShape (shape value)
+ascii_shape Article = (refl, refl)
 ascii_shape Commands = refl
 ascii_shape Desk = refl
 ascii_shape Field = tt
+ascii_shape Key = (refl, refl)
 ascii_shape Order = (refl, refl)
 ascii_shape Sheet = (refl, refl)
 
@@ -131,7 +135,7 @@ route_fits target route e =
     one value = (λ h. h, refl)
 
     each : Each (λ pattern found. Stays target pattern target found) table
-    each = (one Commands, (one Desk, (one Field, (one Order, (one Sheet, tt)))))
+    each = (one Article, (one Commands, (one Desk, (one Field, (one Key, (one Order, (one Sheet, tt)))))))
 
     byte : (b : ℕ) (pattern path : List ℕ) (found : RouteOf Resource) → Stays target (b ∷ pattern) (b ∷ path) found → Stays target pattern path found
     byte b pattern path found h = (λ f. h.0 (fits_byte b pattern path f), h.1)

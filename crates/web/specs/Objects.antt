@@ -31,6 +31,10 @@ natural n = number (unsigned n)
 abbrev pub command_object : List ℕ → List ℕ → Data
 command_object key command = object_of ((codes "command", string command) ∷ (codes "key", string key) ∷ [])
 
+-- {"command":"COMMAND","place":N}
+abbrev pub kept_object : List ℕ → ℕ → Data
+kept_object command place = object_of ((codes "command", string command) ∷ (codes "place", natural place) ∷ [])
+
 -- {"error":"NAME"}
 abbrev pub error_object : List ℕ → Data
 error_object name = object_of ((codes "error", string name) ∷ [])

@@ -1,23 +1,24 @@
 -- What is answered to an ask.
 use Rattle.std.specs.Prelude.{◌≡◌, ℕ, List, MatchOption}
+use Rattle.words.specs.Spelling.{spelling}
 use Rattle.words.specs.declared.reply.Reply.{Reply}
 use Rattle.book.specs.Answers.{Answers}
-use Rattle.book.specs.Ledger.{Field, Ledger, field_named, name_of, order_numbered}
+use Rattle.book.specs.Ledger.{Field, Ledger, field_named, kept_under, name_of, order_numbered}
 use Rattle.book.specs.Views.{ShowsField}
 use Rattle.book.specs.declared.book.views.FieldView.{FieldView}
-use Rattle.files.specs.Sheets.{IsBranchSheet}
+use Rattle.files.specs.Sheets.{IsArticleSheet, IsBranchSheet}
 use Rattle.web.specs.Answers.{Answer, bad_answer, json_answer, none_answer, reply_answer, stopped_answer, text_answer}
 use Rattle.web.specs.declared.ask.Ask.{Ask}
 use Rattle.web.specs.declared.ask.Ask.TheVariants as ask
-use Rattle.web.specs.Objects.{desk_object, field_object, order_object}
+use Rattle.web.specs.Objects.{desk_object, field_object, kept_object, order_object}
 
 -- the field's object
 abbrev pub TellsField : Ledger → Field → Answer → Type 0
 TellsField A f answer = (view : FieldView) × ShowsField A f view × (answer ≡ json_answer 200 (field_object view))
 
--- the branch's sheet
-abbrev pub TellsSheet : Ledger → List ℕ → Answer → Type 0
-TellsSheet A branch answer = (text : List ℕ) × IsBranchSheet A branch text × (answer ≡ text_answer text)
+-- a text that is one of these
+abbrev pub TellsText : (List ℕ → Type 0) → Answer → Type 0
+TellsText IsText answer = (text : List ℕ) × IsText text × (answer ≡ text_answer text)
 
 -- the answer to an ask that calls nothing: what the ledger tells
 abbrev pub AnswersView : Ledger → Ask → Answer → Type 0
@@ -26,7 +27,11 @@ AnswersView A (ask.Field branch article) answer =
     MatchOption (field_named A (name_of branch article)) (answer ≡ none_answer) (λ f. TellsField A f answer)
 AnswersView A (ask.Order number) answer =
     MatchOption (order_numbered A number) (answer ≡ none_answer) (λ o. answer ≡ json_answer 200 (order_object o))
-AnswersView A (ask.Sheet branch) answer = TellsSheet A branch answer
+AnswersView A (ask.Sheet branch) answer = TellsText (IsBranchSheet A branch) answer
+AnswersView A (ask.Article article) answer = TellsText (IsArticleSheet A article) answer
+AnswersView A (ask.Kept key) answer =
+    MatchOption (kept_under A key) (answer ≡ none_answer)
+    (λ k. answer ≡ json_answer 200 (kept_object (spelling k.command) k.place))
 AnswersView A ask.BadCall answer = answer ≡ bad_answer
 AnswersView A ask.Nothing answer = answer ≡ none_answer
 AnswersView A (ask.Call request) answer = ⊥

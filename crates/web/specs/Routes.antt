@@ -1,7 +1,7 @@
 -- The routes, as `matchit` reads and keeps them, the parts of a target, and the view under it (private: how a target is
 -- read).
 use Rattle.std.specs.Prelude.{◌≡◌, ℕ, List, [], ◌∷◌, Option, None, Some, codes, decimal, option_and_then, option_map, Result, Ok, Err}
-use Rattle.escrow.specs.Codes.{IsArticle, IsBranch}
+use Rattle.escrow.specs.Codes.{IsArticle, IsBranch, IsKey}
 use Rattle.escrow.specs.Ranges.{IsOrderNo}
 use Rattle.matchit.specs.Order.{placed}
 use Rattle.matchit.specs.Params.{named, walk}
@@ -14,16 +14,18 @@ use Rattle.matchit.specs.declared.params.Params.{Params}
 use Rattle.web.specs.declared.ask.Ask.{Ask}
 use Rattle.web.specs.declared.ask.Ask.TheVariants as ask
 use Rattle.web.specs.declared.route.Resource.{Resource}
-use Rattle.web.specs.declared.route.Resource.TheVariants.{Commands, Desk, Field, Order, Sheet}
+use Rattle.web.specs.declared.route.Resource.TheVariants.{Article, Commands, Desk, Field, Key, Order, Sheet}
 
 -- ---- routes
 
 -- the texts of the routes, each with what it leads to
 abbrev pub route_texts : List (List ℕ × Resource)
 route_texts =
-    (codes "/v1/commands", Commands)
+    (codes "/v1/articles/{article}", Article)
+    ∷ (codes "/v1/commands", Commands)
     ∷ (codes "/v1/desk", Desk)
     ∷ (codes "/v1/fields/{branch}/{article}", Field)
+    ∷ (codes "/v1/keys/{key}", Key)
     ∷ (codes "/v1/orders/{number}", Order)
     ∷ (codes "/v1/sheets/{branch}", Sheet)
     ∷ []
@@ -72,13 +74,17 @@ taken params = walk params.pattern.now params.text.now params.path.now params.na
 
 -- ---- views
 
--- the view is that of the target: its route is the view's, and its parts are the view's codes or number
+-- the view is that of the target: its route is the view's, and its parts are the view's codes, number or key
 abbrev pub IsView : List ℕ → Ask → Type 0
 IsView target ask.Desk = resource_of target ≡ Some Desk
 IsView target (ask.Field branch article) =
     (resource_of target ≡ Some Field) × (part_of (codes "branch") target ≡ Some branch)
     × (part_of (codes "article") target ≡ Some article)
     × IsBranch branch × IsArticle article
+IsView target (ask.Article article) =
+    (resource_of target ≡ Some Article) × (part_of (codes "article") target ≡ Some article) × IsArticle article
+IsView target (ask.Kept key) =
+    (resource_of target ≡ Some Key) × (part_of (codes "key") target ≡ Some key) × IsKey key
 IsView target (ask.Order number) =
     (resource_of target ≡ Some Order) × (part_of (codes "number") target ≡ Some (decimal number)) × IsOrderNo number
 IsView target (ask.Sheet branch) =

@@ -1,14 +1,15 @@
 //! The texts of objects. The JSON is written by `serde_json`.
 
 ghost use Rattle.std.specs.Prelude.{◌≡◌, IfOk};
+ghost use Rattle.std.specs.Str.{IsUtf8};
 ghost use Rattle.serde_json.specs.View.{view as data_of};
 ghost use Rattle.serde_json.specs.Written.{compact_text};
 ghost use Rattle.book.specs.Ledger.{Order};
 ghost use Rattle.book.specs.Views.{ShowsOrder};
-ghost use Rattle.web.specs.Objects.{desk_object, field_object, line_object, line_objects, order_object, view_object, place_object, refused_object};
+ghost use Rattle.web.specs.Objects.{desk_object, field_object, kept_object, line_object, line_objects, order_object, view_object, place_object, refused_object};
 
-use crate::word::{article_text, branch_text, kind_text, state_text, way_text};
-use book::{Book, FieldView, Line, OrderView};
+use crate::word::{article_text, branch_text, kind_text, state_text, utf8_text, way_text};
+use book::{Book, FieldView, KeptView, Line, OrderView};
 use serde_json::{Value, json};
 use std::alloc::{AllocError, Global};
 use words::Refusal;
@@ -53,6 +54,22 @@ pub fn field_json(alloc: Global, view: &FieldView) -> Result<Vec<u8>, AllocError
     ensures { IfOk result (λ text. text.items ≡ compact_text (field_object view.now)) }
 {
     field_value(alloc, view)?.to_vec(alloc)
+}
+
+/// The object of what is kept under a key.
+fn kept_value(alloc: Global, view: &KeptView) -> Result<Value, AllocError>
+    requires { IsUtf8 view.now.words.now }
+    ensures { IfOk result (λ value. data_of value ≡ kept_object view.now.words.now view.now.place) }
+{
+    json!(in alloc; {"command": utf8_text(view.words), "place": view.place})
+}
+
+/// The text of the object of what is kept under a key.
+pub fn kept_json(alloc: Global, view: &KeptView) -> Result<Vec<u8>, AllocError>
+    requires { IsUtf8 view.now.words.now }
+    ensures { IfOk result (λ text. text.items ≡ compact_text (kept_object view.now.words.now view.now.place)) }
+{
+    kept_value(alloc, view)?.to_vec(alloc)
 }
 
 /// The object of a command that is done.

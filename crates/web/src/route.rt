@@ -9,10 +9,12 @@ use std::alloc::Global;
 use std::marker::Model;
 
 /// The routes, each with what it leads to.
-const ROUTES: [(&str, Resource); 5] = [
+const ROUTES: [(&str, Resource); 7] = [
+    ("/v1/articles/{article}", Resource::Article),
     ("/v1/commands", Resource::Commands),
     ("/v1/desk", Resource::Desk),
     ("/v1/fields/{branch}/{article}", Resource::Field),
+    ("/v1/keys/{key}", Resource::Key),
     ("/v1/orders/{number}", Resource::Order),
     ("/v1/sheets/{branch}", Resource::Sheet),
 ];
@@ -20,9 +22,11 @@ const ROUTES: [(&str, Resource); 5] = [
 /// What a route leads to.
 #[derive(Clone, Copy)]
 pub enum Resource {
+    Article,
     Commands,
     Desk,
     Field,
+    Key,
     Order,
     Sheet,
 }

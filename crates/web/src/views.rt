@@ -5,11 +5,11 @@ ghost use Rattle.desk.specs.Desk.{desk_state, snapshot};
 ghost use Rattle.web.specs.Turns.{Shows};
 ghost use Rattle.web.specs.declared.ask.Ask.TheVariants as ask;
 
-use crate::answer::{desk_answer, field_answer, order_answer, text_answer};
+use crate::answer::{desk_answer, field_answer, kept_answer, order_answer, text_answer};
 use crate::fixed::Fixed;
 use desk::{Answer, Desk};
-use escrow::{Article, Branch, OrderNo};
-use files::branch_sheet;
+use escrow::{Article, Branch, Key, OrderNo};
+use files::{article_sheet, branch_sheet};
 use keep::Keep;
 use std::alloc::{AllocError, Global};
 
@@ -58,7 +58,7 @@ pub fn show_order<K: Keep>(
     }
 }
 
-/// The answer to a view of a sheet.
+/// The answer to a view of a branch's sheet.
 pub fn show_sheet<K: Keep>(
     alloc: Global,
     desk: &Desk<K>,
@@ -73,5 +73,36 @@ pub fn show_sheet<K: Keep>(
     match branch_sheet(alloc, desk.book(), branch, &mut text) {
         Ok(()) => Ok(Answer::Made(text_answer(alloc, &text)?)),
         Err(_) => Err(AllocError),
+    }
+}
+
+/// The answer to a view of an article's sheet.
+pub fn show_article<K: Keep>(
+    alloc: Global,
+    desk: &Desk<K>,
+    article: Article,
+) -> Result<Answer, AllocError>
+    ensures { IfOk result (λ answer. Shows (snapshot (desk_state K.Keep desk.now)) (ask.Article article) answer) }
+{
+    if desk.is_stopped() {
+        return Ok(Fixed::Stopped.answer());
+    }
+    let mut text = Vec::new(alloc);
+    match article_sheet(alloc, desk.book(), article, &mut text) {
+        Ok(()) => Ok(Answer::Made(text_answer(alloc, &text)?)),
+        Err(_) => Err(AllocError),
+    }
+}
+
+/// The answer to a view of what is kept under a key.
+pub fn show_kept<K: Keep>(alloc: Global, desk: &Desk<K>, key: Key) -> Result<Answer, AllocError>
+    ensures { IfOk result (λ answer. Shows (snapshot (desk_state K.Keep desk.now)) (ask.Kept key) answer) }
+{
+    if desk.is_stopped() {
+        return Ok(Fixed::Stopped.answer());
+    }
+    match desk.book().kept(key) {
+        Some(view) => Ok(Answer::Made(kept_answer(alloc, &view)?)),
+        None => Ok(Fixed::Nothing.answer()),
     }
 }
