@@ -15,7 +15,7 @@ use Rattle.web.specs.Answers.{Answer, json_answer, memory_answer, none_answer, r
 use Rattle.web.specs.declared.ask.Ask.{Ask}
 use Rattle.web.specs.declared.ask.Ask.TheVariants as ask
 use Rattle.web.specs.Messages.{Part, unreadable, whole}
-use Rattle.web.specs.Objects.{desk_object, kept_object, order_object}
+use Rattle.web.specs.Objects.{branches_object, desk_object, kept_object, order_object}
 use Rattle.web.specs.Replies.{AnswersView, Replies, TellsField, TellsText, reply_of_stopped}
 
 status_of : (x : Answer) (n : ℕ) (y : Answer) → x ≡ y → y.status ≡ n → x.status ≡ n
@@ -66,6 +66,7 @@ kept_other (Some k) x h e = made_other x (kept_object (spelling k.command) k.pla
 
 view_other : (A : Ledger) (ask : Ask) (x : Answer) → AnswersView A ask x → x.status ≢ 503
 view_other A ask.Desk x h = made_other x (desk_object A) h
+view_other A ask.Branches x (branches, are, h) = made_other x (branches_object branches) h
 view_other A (ask.Field b a) x h = field_other A (field_named A (name_of b a)) x h
 view_other A (ask.Order n) x h = order_other (order_numbered A n) x h
 view_other A (ask.Sheet b) x h = text_other (IsBranchSheet A b) x h

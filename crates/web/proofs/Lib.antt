@@ -13,9 +13,11 @@ mod SomeAnswer
 mod AnswerKinds
 mod RouteShapes
 mod OneView
+mod FieldBranches
 mod TwoMembers
 mod Bodies
 mod OrderObject
+mod BranchesObject
 mod AnswerBytes
 mod RouteSearch
 mod RouteResult

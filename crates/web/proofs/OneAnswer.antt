@@ -12,10 +12,11 @@ use Rattle.web.specs.Answers.{Answer, json_answer, none_answer, reply_answer, te
 use Rattle.web.specs.declared.ask.Ask.{Ask}
 use Rattle.web.specs.declared.ask.Ask.TheVariants as ask
 use Rattle.web.specs.Messages.{Part, unreadable, whole}
-use Rattle.web.specs.Objects.{field_object, kept_object, order_object}
+use Rattle.web.specs.Objects.{branches_object, field_object, kept_object, order_object}
 use Rattle.web.specs.Replies.{AnswersView, Replies, TellsField, TellsText, reply_of_stopped}
 use Rattle.files.specs.Sheets.{IsSheet}
 use Rattle.files.proofs.OneSheet.{one_sheet, view_one}
+use Rattle.web.proofs.FieldBranches.{one_list}
 use Rattle.web.proofs.OneAsk.{asks_one}
 use Rattle.web.proofs.OneStream.{parts_one}
 
@@ -36,6 +37,7 @@ kept_one None x y h k = h ∙ sym k
 kept_one (Some kept) x y h k = h ∙ sym k
 
 view_answered_once : (A : Ledger) (ask : Ask) (x y : Answer) → AnswersView A ask x → AnswersView A ask y → x ≡ y
+view_answered_once A ask.Branches x y (branches, are, e) (others, also, f) = e ∙ ap (λ (bs : List (List ℕ)). json_answer 200 (branches_object bs)) (one_list A.fields branches others are also) ∙ sym f
 view_answered_once A (ask.Field b a) x y h k = field_one A (field_named A (name_of b a)) x y h k
 view_answered_once A (ask.Order n) x y h k = order_one (order_numbered A n) x y h k
 view_answered_once A (ask.Sheet b) x y h k = sheet_one (λ f. bytes_eq f.branch b) (λ v. v.article) A x y h k

@@ -9,10 +9,11 @@ use Rattle.web.specs.Routes.{IsView, part_of, resource_of}
 use Rattle.web.specs.declared.ask.Ask.{Ask}
 use Rattle.web.specs.declared.ask.Ask.TheVariants as ask
 use Rattle.web.specs.declared.route.Resource.{Resource}
-use Rattle.web.specs.declared.route.Resource.TheVariants.{Article, Commands, Desk, Field, Key, Order, Sheet}
+use Rattle.web.specs.declared.route.Resource.TheVariants.{Article, Branches, Commands, Desk, Field, Key, Order, Sheet}
 
 abbrev resource_for : Ask → Resource
 resource_for ask.Desk = Desk
+resource_for ask.Branches = Branches
 resource_for (ask.Field branch article) = Field
 resource_for (ask.Order n) = Order
 resource_for (ask.Sheet branch) = Sheet
@@ -22,6 +23,7 @@ resource_for ask = Commands
 
 view_resource : (target : List ℕ) (a : Ask) → IsView target a → resource_of target ≡ Some (resource_for a)
 view_resource target ask.Desk h = h
+view_resource target ask.Branches h = h
 view_resource target (ask.Field branch article) h = h.0
 view_resource target (ask.Order n) h = h.0
 view_resource target (ask.Sheet branch) h = h.0
@@ -35,6 +37,7 @@ same e f = cc
 
 pub one_view : (target : List ℕ) (p q : Ask) → IsView target p → IsView target q → p ≡ q
 one_view target ask.Desk ask.Desk h g = refl
+one_view target ask.Branches ask.Branches h g = refl
 one_view target (ask.Field b a) (ask.Field c d) h g =
     let e : b ≡ c = same h.1 g.1 in
     let f : a ≡ d = same h.2 g.2 in
@@ -80,6 +83,7 @@ HasView target = (a : Ask) × IsView target a
 abbrev pub AreParts : List ℕ → Resource → Type 0
 AreParts target Commands = ⊥
 AreParts target Desk = Unit {0}
+AreParts target Branches = Unit {0}
 AreParts target Field =
     ((part : List ℕ) × (part_of (codes "branch") target ≡ Some part) × IsBranch part) × ((part : List ℕ) × (part_of (codes "article") target ≡ Some part) × IsArticle part)
 AreParts target Order = (part : List ℕ) × (part_of (codes "number") target ≡ Some part) × IsNumber part
@@ -90,6 +94,7 @@ AreParts target Sheet = (part : List ℕ) × (part_of (codes "branch") target �
 parts_decided : (target : List ℕ) (resource : Resource) → Decided (AreParts target resource)
 parts_decided target Commands = inr (λ h. h)
 parts_decided target Desk = inl tt
+parts_decided target Branches = inl tt
 parts_decided target Field =
     decided_both (part_decided IsBranch decided_branch (part_of (codes "branch") target)) (part_decided IsArticle decided_article (part_of (codes "article") target))
 parts_decided target Order = part_decided IsNumber number_decided (part_of (codes "number") target)
@@ -100,6 +105,7 @@ parts_decided target Sheet = part_decided IsBranch decided_branch (part_of (code
 view_by_parts : (target : List ℕ) (resource : Resource) → resource_of target ≡ Some resource → AreParts target resource → HasView target
 view_by_parts target Commands e h = absurd h
 view_by_parts target Desk e h = (ask.Desk, e)
+view_by_parts target Branches e h = (ask.Branches, e)
 view_by_parts target Field e ((b, f, branch), (a, g, article)) = (ask.Field b a, (e, f, g, branch, article))
 view_by_parts target Order e (part, f, (n, range, g)) = (ask.Order n, (e, f ∙ ap Some g, range))
 view_by_parts target Article e (a, f, article) = (ask.Article a, (e, f, article))
@@ -108,6 +114,7 @@ view_by_parts target Sheet e (b, f, branch) = (ask.Sheet b, (e, f, branch))
 
 parts_of : (target : List ℕ) (a : Ask) → IsView target a → AreParts target (resource_for a)
 parts_of target ask.Desk h = tt
+parts_of target ask.Branches h = tt
 parts_of target (ask.Field b a) h = ((b, h.1, h.3), (a, h.2, h.4))
 parts_of target (ask.Order n) h = (decimal n, h.1, (n, h.2, refl))
 parts_of target (ask.Sheet b) h = (b, h.1, h.2)

@@ -18,7 +18,7 @@ use Rattle.web.specs.Routes.{IsView, part_of, parts_on, resource_of, routes}
 use Rattle.web.specs.declared.ask.Ask.{Ask}
 use Rattle.web.specs.declared.ask.Ask.TheVariants as ask
 use Rattle.web.specs.declared.route.Resource.{Resource}
-use Rattle.web.specs.declared.route.Resource.TheVariants.{Article, Commands, Desk, Field, Key, Order, Sheet}
+use Rattle.web.specs.declared.route.Resource.TheVariants.{Article, Branches, Commands, Desk, Field, Key, Order, Sheet}
 use Rattle.web.proofs.RouteResult.{IsPart, is_found}
 use Rattle.web.proofs.RouteShapes.{Alone, Before, IsAsciiShape, IsAsciiText, IsTarget, OfField, Shape, ascii_shape, route_of, route_to, routed, shape}
 use Rattle.web.proofs.OneView.{same}
@@ -128,6 +128,7 @@ text_of path name target part (found, is, e) h = is ∙ ap (λ (part : List ℕ)
 -- a view that is read is said
 view_said : (m : Message) (a : Ask) → m.head.method ≡ codes "GET" → IsView m.head.target a → Says m a
 view_said m ask.Desk get h = (get, plain_of m.head.target Desk h)
+view_said m ask.Branches get h = (get, plain_of m.head.target Branches h)
 view_said m (ask.Field branch article) get h =
     let plain = plain_of m.head.target Field h.0 in
     let a : plain.0 ≡ branch = same plain.3 h.1 in
@@ -165,6 +166,7 @@ unfolding plain_target
 is_read m (ask.Call r) ((post, e), call) = inl (post, alone_read _ m.head.target Commands (is_found Commands) e, call)
 is_read m ask.BadCall ((post, e), none) = inl (post, alone_read _ m.head.target Commands (is_found Commands) e, none)
 is_read m ask.Desk (get, e) = inr (get, alone_read _ m.head.target Desk (is_found Desk) e)
+is_read m ask.Branches (get, e) = inr (get, alone_read (codes "/v1/branches") m.head.target Branches (is_found Branches) e)
 is_read m (ask.Field branch article) ((get, e), is_branch, is_article) =
     let target = codes "/v1/fields/" ++ (branch ++ slash ∷ article) in
     let found : first routes target ≡ Some (route_to Field) = is_found Field branch article (branch_part branch is_branch) (article_part article is_article) in

@@ -9,7 +9,7 @@ use Rattle.matchit.specs.Rows.{RowsOf, param_token, catch_all_token}
 use Rattle.matchit.specs.Seek.{cuts, first, has_slash, or_else, own, param_step, seek, slash, step}
 use Rattle.web.specs.Routes.{routes}
 use Rattle.web.specs.declared.route.Resource.{Resource}
-use Rattle.web.specs.declared.route.Resource.TheVariants.{Article, Commands, Desk, Field, Key, Order, Sheet}
+use Rattle.web.specs.declared.route.Resource.TheVariants.{Article, Branches, Commands, Desk, Field, Key, Order, Sheet}
 use Rattle.web.proofs.RouteShapes.{Alone, Before, OfField, Shape, route_to, routes_are, shape, table}
 use Rattle.web.proofs.TargetParts.{segment_is}
 
@@ -145,6 +145,7 @@ IsFound OfField route =
 pub is_found : (value : Resource) → IsFound (shape value) (route_to value)
 unfolding matchit_on_literals
 is_found Article = before_found (codes "/v1/articles/") (route_to Article) refl refl
+is_found Branches = refl
 is_found Commands = refl
 is_found Desk = refl
 is_found Field = field_found

@@ -12,7 +12,7 @@ use Rattle.matchit.specs.Rows.{RowsOf, param_token, catch_all_token}
 use Rattle.matchit.specs.Seek.{first, has_slash, slash}
 use Rattle.web.specs.Routes.{AllFit, route_texts, routes}
 use Rattle.web.specs.declared.route.Resource.{Resource}
-use Rattle.web.specs.declared.route.Resource.TheVariants.{Article, Commands, Desk, Field, Key, Order, Sheet}
+use Rattle.web.specs.declared.route.Resource.TheVariants.{Article, Branches, Commands, Desk, Field, Key, Order, Sheet}
 use Rattle.web.proofs.RouteSearch.{Each, found_fits}
 
 -- ---- the routes
@@ -25,6 +25,7 @@ pub data Shape : Type 0 where
 
 abbrev pub shape : Resource → Shape
 shape Article = Before (codes "/v1/articles/") (codes "article")
+shape Branches = Alone (codes "/v1/branches")
 shape Commands = Alone (codes "/v1/commands")
 shape Desk = Alone (codes "/v1/desk")
 shape Field = OfField
@@ -58,7 +59,7 @@ abbrev row : Resource → List ℕ × RouteOf Resource
 row value = ((route_to value).pattern, route_to value)
 
 abbrev pub table : RowsOf (RouteOf Resource)
-table = row Article ∷ row Commands ∷ row Desk ∷ row Field ∷ row Key ∷ row Order ∷ row Sheet ∷ []
+table = row Article ∷ row Branches ∷ row Commands ∷ row Desk ∷ row Field ∷ row Key ∷ row Order ∷ row Sheet ∷ []
 
 pub routes_are : routes ≡ table
 unfolding matchit_on_literals
@@ -66,7 +67,7 @@ routes_are = refl
 
 pub all_fit : AllFit route_texts []
 unfolding matchit_on_literals
-all_fit = (refl, (refl, (refl, (refl, (refl, (refl, (refl, tt)))))))
+all_fit = (refl, (refl, (refl, (refl, (refl, (refl, (refl, (refl, tt))))))))
 
 -- its bytes are ASCII
 abbrev pub IsAsciiText : List ℕ → Type 0
@@ -79,6 +80,7 @@ IsAsciiShape OfField = Unit {0}
 
 pub ascii_shape : (value : Resource) → IsAsciiShape (shape value)
 ascii_shape Article = (refl, refl)
+ascii_shape Branches = refl
 ascii_shape Commands = refl
 ascii_shape Desk = refl
 ascii_shape Field = tt
@@ -135,7 +137,7 @@ route_fits target route e =
     one value = (λ h. h, refl)
 
     each : Each (λ pattern found. Stays target pattern target found) table
-    each = (one Article, (one Commands, (one Desk, (one Field, (one Key, (one Order, (one Sheet, tt)))))))
+    each = (one Article, (one Branches, (one Commands, (one Desk, (one Field, (one Key, (one Order, (one Sheet, tt))))))))
 
     byte : (b : ℕ) (pattern path : List ℕ) (found : RouteOf Resource) → Stays target (b ∷ pattern) (b ∷ path) found → Stays target pattern path found
     byte b pattern path found h = (λ f. h.0 (fits_byte b pattern path f), h.1)

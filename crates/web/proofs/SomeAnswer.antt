@@ -22,6 +22,7 @@ use Rattle.web.specs.Messages.{Message, Part, unreadable, whole}
 use Rattle.web.specs.Objects.{field_object, kept_object, order_object}
 use Rattle.web.specs.Replies.{Replies, TellsField, reply_of_stopped}
 use Rattle.files.proofs.OneSheet.{some_sheet, view_of}
+use Rattle.web.proofs.FieldBranches.{are_branches, branches_at, once}
 use Rattle.web.proofs.SomeAsk.{some_ask}
 use Rattle.web.proofs.SomeParts.{some_parts}
 
@@ -43,6 +44,7 @@ kept_told (Some k) = (json_answer 200 (kept_object (spelling k.command) k.place)
 
 some_reply : (A : Ledger) (ask : Ask) → Good A → (answer : Answer) × (B : Ledger) × Replies A ask answer B
 some_reply A (ask.Call r) g = let answer = answered_if_good A r g in (reply_answer answer.0, answer.1, (answer.0, answer.2, refl))
+some_reply A ask.Branches g = (_, A, ((once None (branches_at A.fields), are_branches A.fields g.fields_in_order, refl), refl))
 some_reply A (ask.Field b a) g = let told = field_told A b a g (field_named A (name_of b a)) refl in (told.0, A, (told.1, refl))
 some_reply A (ask.Order n) g = let told = order_told (order_numbered A n) in (told.0, A, (told.1, refl))
 some_reply A (ask.Sheet b) g = let text = some_sheet (λ f. bytes_eq f.branch b) (λ v. v.article) A g in (text_answer text.0, A, ((text.0, text.1, refl), refl))

@@ -18,6 +18,7 @@ Says m (ask.Call request) = IsTo (codes "POST") (codes "/v1/commands") m × IsBo
 Says m ask.BadCall =
     IsTo (codes "POST") (codes "/v1/commands") m × ((request : Request) → IsBodyOf request m.body → ⊥)
 Says m ask.Desk = IsTo (codes "GET") (codes "/v1/desk") m
+Says m ask.Branches = IsTo (codes "GET") (codes "/v1/branches") m
 Says m (ask.Field branch article) =
     IsTo (codes "GET") (codes "/v1/fields/" ++ branch ++ codes "/" ++ article) m × IsBranch branch × IsArticle article
 Says m (ask.Order number) = IsTo (codes "GET") (codes "/v1/orders/" ++ decimal number) m × IsOrderNo number

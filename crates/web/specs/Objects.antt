@@ -56,6 +56,14 @@ desk_object A =
     ∷ (codes "open", natural (open_orders A)) ∷ (codes "orders", natural (length A.orders))
     ∷ (codes "places", natural (places A)) ∷ [])
 
+-- ["B",..]
+abbrev pub texts : List (List ℕ) → Data
+texts branches = array (items_of (map string branches))
+
+-- {"branches":["B",..]}
+abbrev pub branches_object : List (List ℕ) → Data
+branches_object branches = object_of ((codes "branches", texts branches) ∷ [])
+
 -- {"article":"A","branch":"B","hi":HI,"inf":I,"lo":LO,"sup":S,"value":V}
 abbrev pub field_object : FieldView → Data
 field_object v =

@@ -8,13 +8,19 @@ use Rattle.book.specs.Views.{ShowsField}
 use Rattle.book.specs.declared.book.views.FieldView.{FieldView}
 use Rattle.files.specs.Sheets.{IsArticleSheet, IsBranchSheet}
 use Rattle.web.specs.Answers.{Answer, bad_answer, json_answer, none_answer, reply_answer, stopped_answer, text_answer}
+use Rattle.web.specs.Branches.{AreBranches}
 use Rattle.web.specs.declared.ask.Ask.{Ask}
 use Rattle.web.specs.declared.ask.Ask.TheVariants as ask
-use Rattle.web.specs.Objects.{desk_object, field_object, kept_object, order_object}
+use Rattle.web.specs.Objects.{branches_object, desk_object, field_object, kept_object, order_object}
 
 -- the field's object
 abbrev pub TellsField : Ledger → Field → Answer → Type 0
 TellsField A f answer = (view : FieldView) × ShowsField A f view × (answer ≡ json_answer 200 (field_object view))
+
+-- the branches that have a field, each once
+abbrev pub TellsBranches : Ledger → Answer → Type 0
+TellsBranches A answer =
+    (branches : List (List ℕ)) × AreBranches A.fields branches × (answer ≡ json_answer 200 (branches_object branches))
 
 -- a text that is one of these
 abbrev pub TellsText : (List ℕ → Type 0) → Answer → Type 0
@@ -23,6 +29,7 @@ TellsText IsText answer = (text : List ℕ) × IsText text × (answer ≡ text_a
 -- the answer to an ask that calls nothing: what the ledger tells
 abbrev pub AnswersView : Ledger → Ask → Answer → Type 0
 AnswersView A ask.Desk answer = answer ≡ json_answer 200 (desk_object A)
+AnswersView A ask.Branches answer = TellsBranches A answer
 AnswersView A (ask.Field branch article) answer =
     MatchOption (field_named A (name_of branch article)) (answer ≡ none_answer) (λ f. TellsField A f answer)
 AnswersView A (ask.Order number) answer =

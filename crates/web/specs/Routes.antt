@@ -14,7 +14,7 @@ use Rattle.matchit.specs.declared.params.Params.{Params}
 use Rattle.web.specs.declared.ask.Ask.{Ask}
 use Rattle.web.specs.declared.ask.Ask.TheVariants as ask
 use Rattle.web.specs.declared.route.Resource.{Resource}
-use Rattle.web.specs.declared.route.Resource.TheVariants.{Article, Commands, Desk, Field, Key, Order, Sheet}
+use Rattle.web.specs.declared.route.Resource.TheVariants.{Article, Branches, Commands, Desk, Field, Key, Order, Sheet}
 
 -- ---- routes
 
@@ -22,6 +22,7 @@ use Rattle.web.specs.declared.route.Resource.TheVariants.{Article, Commands, Des
 abbrev pub route_texts : List (List ℕ × Resource)
 route_texts =
     (codes "/v1/articles/{article}", Article)
+    ∷ (codes "/v1/branches", Branches)
     ∷ (codes "/v1/commands", Commands)
     ∷ (codes "/v1/desk", Desk)
     ∷ (codes "/v1/fields/{branch}/{article}", Field)
@@ -77,6 +78,7 @@ taken params = walk params.pattern.now params.text.now params.path.now params.na
 -- the view is that of the target: its route is the view's, and its parts are the view's codes, number or key
 abbrev pub IsView : List ℕ → Ask → Type 0
 IsView target ask.Desk = resource_of target ≡ Some Desk
+IsView target ask.Branches = resource_of target ≡ Some Branches
 IsView target (ask.Field branch article) =
     (resource_of target ≡ Some Field) × (part_of (codes "branch") target ≡ Some branch)
     × (part_of (codes "article") target ≡ Some article)

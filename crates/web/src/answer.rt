@@ -5,10 +5,13 @@ ghost use Rattle.std.specs.Str.{IsUtf8};
 ghost use Rattle.book.specs.Ledger.{Order};
 ghost use Rattle.book.specs.Views.{ShowsOrder};
 ghost use Rattle.web.specs.Answers.{Answer, answer_bytes, header_line, json_answer, json_of, reply_answer, status_line, text_answer};
-ghost use Rattle.web.specs.Objects.{desk_object, field_object, kept_object, order_object, place_object, refused_object};
+ghost use Rattle.web.specs.Objects.{branches_object, desk_object, field_object, kept_object, order_object, place_object, refused_object};
 
-use crate::objects::{desk_json, field_json, kept_json, order_json, place_json, refused_json};
+use crate::objects::{
+    branches_json, desk_json, field_json, kept_json, order_json, place_json, refused_json,
+};
 use book::{Book, FieldView, KeptView, OrderView};
+use escrow::Branch;
 use http::StatusCode;
 use itoa::Buffer;
 use std::alloc::{AllocError, Global};
@@ -80,6 +83,13 @@ pub fn desk_answer(alloc: Global, book: &Book) -> Result<Vec<u8>, AllocError>
     ensures { IfOk result (λ out. out.items ≡ answer_bytes (json_answer 200 (desk_object book.now.ledger))) }
 {
     json_answer(alloc, StatusCode::OK, &desk_json(alloc, book)?)
+}
+
+/// The answer that tells branches.
+pub fn branches_answer(alloc: Global, branches: &[Branch]) -> Result<Vec<u8>, AllocError>
+    ensures { IfOk result (λ out. out.items ≡ answer_bytes (json_answer 200 (branches_object branches.now))) }
+{
+    json_answer(alloc, StatusCode::OK, &branches_json(alloc, branches)?)
 }
 
 /// The answer that tells a field.

@@ -24,6 +24,8 @@ pub enum Ask {
     BadCall,
     /// The desk: its clock, and how much of each kind it has.
     Desk,
+    /// The branches that have a field.
+    Branches,
     /// A field.
     Field(Branch, Article),
     /// An order.

@@ -6,10 +6,11 @@ ghost use Rattle.serde_json.specs.View.{view as data_of};
 ghost use Rattle.serde_json.specs.Written.{compact_text};
 ghost use Rattle.book.specs.Ledger.{Order};
 ghost use Rattle.book.specs.Views.{ShowsOrder};
-ghost use Rattle.web.specs.Objects.{desk_object, field_object, kept_object, line_object, line_objects, order_object, view_object, place_object, refused_object};
+ghost use Rattle.web.specs.Objects.{branches_object, desk_object, field_object, kept_object, line_object, line_objects, order_object, view_object, place_object, refused_object, texts};
 
 use crate::word::{article_text, branch_text, kind_text, state_text, utf8_text, way_text};
 use book::{Book, FieldView, KeptView, Line, OrderView};
+use escrow::Branch;
 use serde_json::{Value, json};
 use std::alloc::{AllocError, Global};
 use words::Refusal;
@@ -32,6 +33,32 @@ pub fn desk_json(alloc: Global, book: &Book) -> Result<Vec<u8>, AllocError>
     ensures { IfOk result (λ text. text.items ≡ compact_text (desk_object book.now.ledger)) }
 {
     desk_value(alloc, book)?.to_vec(alloc)
+}
+
+/// The list of the branches' codes.
+fn branch_texts(alloc: Global, branches: &[Branch]) -> Result<Value, AllocError>
+    ensures { IfOk result (λ value. data_of value ≡ texts branches.now) }
+{
+    let mut values = Vec::new(alloc);
+    for branch in branches {
+        values.push(json!(in alloc; branch_text(branch))?)?;
+    }
+    Ok(Value::Array(values))
+}
+
+/// The object of branches.
+fn branches_value(alloc: Global, branches: &[Branch]) -> Result<Value, AllocError>
+    ensures { IfOk result (λ value. data_of value ≡ branches_object branches.now) }
+{
+    let codes = branch_texts(alloc, branches)?;
+    json!(in alloc; {"branches": codes})
+}
+
+/// The text of the object of branches.
+pub fn branches_json(alloc: Global, branches: &[Branch]) -> Result<Vec<u8>, AllocError>
+    ensures { IfOk result (λ text. text.items ≡ compact_text (branches_object branches.now)) }
+{
+    branches_value(alloc, branches)?.to_vec(alloc)
 }
 
 /// The object of a field.

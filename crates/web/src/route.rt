@@ -9,8 +9,9 @@ use std::alloc::Global;
 use std::marker::Model;
 
 /// The routes, each with what it leads to.
-const ROUTES: [(&str, Resource); 7] = [
+const ROUTES: [(&str, Resource); 8] = [
     ("/v1/articles/{article}", Resource::Article),
+    ("/v1/branches", Resource::Branches),
     ("/v1/commands", Resource::Commands),
     ("/v1/desk", Resource::Desk),
     ("/v1/fields/{branch}/{article}", Resource::Field),
@@ -23,6 +24,7 @@ const ROUTES: [(&str, Resource); 7] = [
 #[derive(Clone, Copy)]
 pub enum Resource {
     Article,
+    Branches,
     Commands,
     Desk,
     Field,

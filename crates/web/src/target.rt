@@ -26,6 +26,7 @@ pub fn view_of(router: &Router<Resource>, target: &str) -> Option<Ask>
     match found.value {
         Resource::Commands => None,
         Resource::Desk => Some(Ask::Desk),
+        Resource::Branches => Some(Ask::Branches),
         Resource::Field => {
             let branch = branch_of(&found.params)?;
             let article = article_of(&found.params)?;

@@ -5,7 +5,10 @@ ghost use Rattle.desk.specs.Desk.{desk_state, snapshot};
 ghost use Rattle.web.specs.Turns.{Shows};
 ghost use Rattle.web.specs.declared.ask.Ask.TheVariants as ask;
 
-use crate::answer::{desk_answer, field_answer, kept_answer, order_answer, text_answer};
+use crate::answer::{
+    branches_answer, desk_answer, field_answer, kept_answer, order_answer, text_answer,
+};
+use crate::branches::branches_of;
 use crate::fixed::Fixed;
 use desk::{Answer, Desk};
 use escrow::{Article, Branch, Key, OrderNo};
@@ -21,6 +24,17 @@ pub fn show_desk<K: Keep>(alloc: Global, desk: &Desk<K>) -> Result<Answer, Alloc
         return Ok(Fixed::Stopped.answer());
     }
     Ok(Answer::Made(desk_answer(alloc, desk.book())?))
+}
+
+/// The answer to a view of the branches.
+pub fn show_branches<K: Keep>(alloc: Global, desk: &Desk<K>) -> Result<Answer, AllocError>
+    ensures { IfOk result (λ answer. Shows (snapshot (desk_state K.Keep desk.now)) ask.Branches answer) }
+{
+    if desk.is_stopped() {
+        return Ok(Fixed::Stopped.answer());
+    }
+    let branches = branches_of(alloc, desk.book())?;
+    Ok(Answer::Made(branches_answer(alloc, &branches)?))
 }
 
 /// The answer to a view of a field.
