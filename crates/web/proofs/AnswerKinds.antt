@@ -2,18 +2,21 @@
 use Rattle.std.proofs.Common.{◌≡◌, ◌≢◌, ◌∙◌, Bool, true, false, true≢false, ℕ, List, [], ◌∷◌, Option, Some, None, MatchOption, MatchBool, ap, arith, length, refl, sym}
 use Rattle.std.specs.List.{AllByRecursion as Each}
 use Rattle.serde_json.proofs.OnLiterals.{serde_json_on_literals}
+use Rattle.serde_json.specs.Data.{Data}
+use Rattle.words.specs.Spelling.{spelling}
 use Rattle.words.specs.declared.reply.Reply.{Reply}
 use Rattle.words.specs.declared.reply.Reply.TheVariants.{Done, Refused}
-use Rattle.book.specs.Ledger.{Field, Ledger, Order, field_named, name_of, order_numbered}
+use Rattle.book.specs.Ledger.{Field, Kept, Ledger, Order, field_named, kept_under, name_of, order_numbered}
+use Rattle.files.specs.Sheets.{IsArticleSheet, IsBranchSheet}
 use Rattle.desk.specs.Desk.{Snapshot}
 use Rattle.desk.specs.Dialogue.{AnswerKind, AreAnswers, no_memory, ordinary, stopping}
 use Rattle.web.specs.Web.{AnswersPart, RepliesAt, http}
-use Rattle.web.specs.Answers.{Answer, json_answer, memory_answer, none_answer, reply_answer, stopped_answer}
+use Rattle.web.specs.Answers.{Answer, json_answer, memory_answer, none_answer, reply_answer, stopped_answer, text_answer}
 use Rattle.web.specs.declared.ask.Ask.{Ask}
 use Rattle.web.specs.declared.ask.Ask.TheVariants as ask
 use Rattle.web.specs.Messages.{Part, unreadable, whole}
-use Rattle.web.specs.Objects.{order_object}
-use Rattle.web.specs.Replies.{Replies, TellsField, reply_of_stopped}
+use Rattle.web.specs.Objects.{branches_object, desk_object, kept_object, order_object}
+use Rattle.web.specs.Replies.{AnswersView, Replies, TellsField, TellsText, reply_of_stopped}
 
 status_of : (x : Answer) (n : ℕ) (y : Answer) → x ≡ y → y.status ≡ n → x.status ≡ n
 status_of x n y e s = ap (λ (a : Answer). a.status) e ∙ s
@@ -51,13 +54,31 @@ call_other : (reply : Reply) (x : Answer) → x ≡ reply_answer reply → x.sta
 call_other (Done place) x h e = let s = ap (λ (a : Answer). a.status) h in absurd (omega (arith, s, e))
 call_other (Refused refusal line) x h e = let s = ap (λ (a : Answer). a.status) h in absurd (omega (arith, s, e))
 
+made_other : (x : Answer) (d : Data) → x ≡ json_answer 200 d → x.status ≢ 503
+made_other x d h e = let s = status_of x 200 (json_answer 200 d) h refl in absurd (omega (arith, s, e))
+
+text_other : (IsText : List ℕ → Type 0) (x : Answer) → TellsText IsText x → x.status ≢ 503
+text_other IsText x (text, is, h) e = let s = status_of x 200 (text_answer text) h refl in absurd (omega (arith, s, e))
+
+kept_other : (found : Option Kept) (x : Answer) → MatchOption found (x ≡ none_answer) (λ k. x ≡ json_answer 200 (kept_object (spelling k.command) k.place)) → x.status ≢ 503
+kept_other None x h e = let s = status_of x 404 none_answer h refl in absurd (omega (arith, s, e))
+kept_other (Some k) x h e = made_other x (kept_object (spelling k.command) k.place) h e
+
+view_other : (A : Ledger) (ask : Ask) (x : Answer) → AnswersView A ask x → x.status ≢ 503
+view_other A ask.Desk x h = made_other x (desk_object A) h
+view_other A ask.Branches x (branches, are, h) = made_other x (branches_object branches) h
+view_other A (ask.Field b a) x h = field_other A (field_named A (name_of b a)) x h
+view_other A (ask.Order n) x h = order_other (order_numbered A n) x h
+view_other A (ask.Sheet b) x h = text_other (IsBranchSheet A b) x h
+view_other A (ask.Article a) x h = text_other (IsArticleSheet A a) x h
+view_other A (ask.Kept key) x h = kept_other (kept_under A key) x h
+view_other A ask.BadCall x h = λ e. let s = ap (λ (a : Answer). a.status) h in absurd (omega (arith, s, e))
+view_other A ask.Nothing x h = λ e. let s = ap (λ (a : Answer). a.status) h in absurd (omega (arith, s, e))
+view_other A (ask.Call r) x h = absurd h
+
 reply_other : (A : Ledger) (ask : Ask) (x : Answer) (B : Ledger) → Replies A ask x B → x.status ≢ 503
 reply_other A (ask.Call r) x B h = call_other h.0 x h.2
-reply_other A ask.BadCall x B h = λ e. let s = ap (λ (a : Answer). a.status) h.0 in absurd (omega (arith, s, e))
-reply_other A (ask.Field b a) x B h = field_other A (field_named A (name_of b a)) x h.0
-reply_other A (ask.Order n) x B h = order_other (order_numbered A n) x h.0
-reply_other A (ask.Sheet b) x B (told, same) = λ e. let s = ap (λ (a : Answer). a.status) told.2 in absurd (omega (arith, s, e))
-reply_other A ask.Nothing x B h = λ e. let s = ap (λ (a : Answer). a.status) h.0 in absurd (omega (arith, s, e))
+reply_other A ask x B h = view_other A ask x h.0
 
 other_status : (x y : Answer) (n : ℕ) → x.status ≢ n → y.status ≡ n → x ≢ y
 other_status x y n other s e = other (status_of x n y e s)

@@ -11,12 +11,13 @@ mod SomeParts
 mod SomeAsk
 mod SomeAnswer
 mod AnswerKinds
-mod FourRoutes
+mod RouteShapes
 mod OneView
-mod Ascii
+mod FieldBranches
 mod TwoMembers
 mod Bodies
 mod OrderObject
+mod BranchesObject
 mod AnswerBytes
 mod RouteSearch
 mod RouteResult

@@ -1,8 +1,9 @@
 -- A part has one answer under its kind.
 use Rattle.std.proofs.Common.{◌≡◌, ◌∙◌, Bool, true, false, ℕ, List, [], ◌∷◌, Option, Some, None, MatchOption, MatchBool, ap, refl, subst, sym}
 use Rattle.std.specs.Str.{bytes_eq}
+use Rattle.words.specs.Spelling.{spelling}
 use Rattle.book.proofs.Runs.{answered_once}
-use Rattle.book.specs.Ledger.{Field, Ledger, Order, field_named, name_of, order_numbered}
+use Rattle.book.specs.Ledger.{Field, Kept, Ledger, Name, Order, field_named, kept_under, name_of, order_numbered}
 use Rattle.book.specs.declared.book.views.FieldView.{FieldView}
 use Rattle.desk.specs.Desk.{Snapshot}
 use Rattle.desk.specs.Dialogue.{AnswerKind, AreAnswers, IsTranscript, no_memory, ordinary, stopping, text_of}
@@ -11,9 +12,11 @@ use Rattle.web.specs.Answers.{Answer, json_answer, none_answer, reply_answer, te
 use Rattle.web.specs.declared.ask.Ask.{Ask}
 use Rattle.web.specs.declared.ask.Ask.TheVariants as ask
 use Rattle.web.specs.Messages.{Part, unreadable, whole}
-use Rattle.web.specs.Objects.{field_object, order_object}
-use Rattle.web.specs.Replies.{Replies, TellsField, reply_of_stopped}
+use Rattle.web.specs.Objects.{branches_object, field_object, kept_object, order_object}
+use Rattle.web.specs.Replies.{AnswersView, Replies, TellsField, TellsText, reply_of_stopped}
+use Rattle.files.specs.Sheets.{IsSheet}
 use Rattle.files.proofs.OneSheet.{one_sheet, view_one}
+use Rattle.web.proofs.FieldBranches.{one_list}
 use Rattle.web.proofs.OneAsk.{asks_one}
 use Rattle.web.proofs.OneStream.{parts_one}
 
@@ -25,13 +28,27 @@ order_one : (found : Option Order) (x y : Answer) → MatchOption found (x ≡ n
 order_one None x y h k = h ∙ sym k
 order_one (Some o) x y h k = h ∙ sym k
 
+sheet_one : (is_shown : Name → Bool) (title : FieldView → List ℕ) (A : Ledger) (x y : Answer) → TellsText (IsSheet is_shown title A) x → TellsText (IsSheet is_shown title A) y → x ≡ y
+sheet_one is_shown title A x y (text, sheet, e) (other, also, f) = e ∙ ap text_answer (one_sheet is_shown title A text other sheet also) ∙ sym f
+
+kept_one : (found : Option Kept) (x y : Answer) → MatchOption found (x ≡ none_answer) (λ k. x ≡ json_answer 200 (kept_object (spelling k.command) k.place))
+    → MatchOption found (y ≡ none_answer) (λ k. y ≡ json_answer 200 (kept_object (spelling k.command) k.place)) → x ≡ y
+kept_one None x y h k = h ∙ sym k
+kept_one (Some kept) x y h k = h ∙ sym k
+
+view_answered_once : (A : Ledger) (ask : Ask) (x y : Answer) → AnswersView A ask x → AnswersView A ask y → x ≡ y
+view_answered_once A ask.Branches x y (branches, are, e) (others, also, f) = e ∙ ap (λ (bs : List (List ℕ)). json_answer 200 (branches_object bs)) (one_list A.fields branches others are also) ∙ sym f
+view_answered_once A (ask.Field b a) x y h k = field_one A (field_named A (name_of b a)) x y h k
+view_answered_once A (ask.Order n) x y h k = order_one (order_numbered A n) x y h k
+view_answered_once A (ask.Sheet b) x y h k = sheet_one (λ f. bytes_eq f.branch b) (λ v. v.article) A x y h k
+view_answered_once A (ask.Article a) x y h k = sheet_one (λ f. bytes_eq f.article a) (λ v. v.branch) A x y h k
+view_answered_once A (ask.Kept key) x y h k = kept_one (kept_under A key) x y h k
+view_answered_once A (ask.Call r) x y h k = absurd h
+view_answered_once A ask x y h k = h ∙ sym k
+
 reply_one : (A : Ledger) (ask : Ask) (x y : Answer) (B C : Ledger) → Replies A ask x B → Replies A ask y C → (x ≡ y) × (B ≡ C)
 reply_one A (ask.Call r) x y B C h k = let same = answered_once A r h.0 k.0 B C h.1 k.1 in (h.2 ∙ ap reply_answer same.0 ∙ sym k.2, same.1)
-reply_one A ask.BadCall x y B C h k = (h.0 ∙ sym k.0, h.1 ∙ sym k.1)
-reply_one A (ask.Field b a) x y B C h k = (field_one A (field_named A (name_of b a)) x y h.0 k.0, h.1 ∙ sym k.1)
-reply_one A (ask.Order n) x y B C h k = (order_one (order_numbered A n) x y h.0 k.0, h.1 ∙ sym k.1)
-reply_one A (ask.Sheet b) x y B C (told, same) (also, again) = (told.2 ∙ ap text_answer (one_sheet (λ f. bytes_eq f.branch b) (λ v. v.article) A told.0 also.0 told.1 also.1) ∙ sym also.2, same ∙ sym again)
-reply_one A ask.Nothing x y B C h k = (h.0 ∙ sym k.0, h.1 ∙ sym k.1)
+reply_one A ask x y B C (told, same) (also, again) = (view_answered_once A ask x y told also, same ∙ sym again)
 
 -- two snapshots of one ledger, stopped or not alike, are the same
 stand_one : (B C : Snapshot) → B.ledger ≡ C.ledger → B.is_stopped ≡ C.is_stopped → B ≡ C

@@ -14,14 +14,9 @@ one_call body (ask.Call r) (ask.Call s) h k = ap ask.Call (one_body body r s h k
 one_call body (ask.Call r) ask.BadCall h k = absurd (k r h)
 one_call body ask.BadCall (ask.Call s) h k = absurd (h s k)
 one_call body ask.BadCall ask.BadCall h k = refl
-one_call body (ask.Field b a) c h k = absurd h
-one_call body (ask.Order n) c h k = absurd h
-one_call body (ask.Sheet b) c h k = absurd h
-one_call body ask.Nothing c h k = absurd h
-one_call body c (ask.Field b a) h k = absurd k
-one_call body c (ask.Order n) h k = absurd k
-one_call body c (ask.Sheet b) h k = absurd k
-one_call body c ask.Nothing h k = absurd k
+one_call body (ask.Call r) b h k = absurd k
+one_call body ask.BadCall b h k = absurd k
+one_call body a b h k = absurd h
 
 one_read : (m : Message) (a b : Ask) → IsRead m a → IsRead m b → a ≡ b
 one_read m a b (inl (post, to, h)) (inl (also, too, k)) = one_call m.body a b h k
@@ -34,14 +29,6 @@ says_one m a b h k = one_read m a b (is_read m a h) (is_read m b k)
 
 pub asks_one : (m : Message) (a b : Ask) → AsksFor m a → AsksFor m b → a ≡ b
 asks_one m ask.Nothing ask.Nothing h k = refl
-asks_one m ask.Nothing (ask.Call r) h k = absurd (h (ask.Call r) k)
-asks_one m ask.Nothing ask.BadCall h k = absurd (h ask.BadCall k)
-asks_one m ask.Nothing (ask.Field b a) h k = absurd (h (ask.Field b a) k)
-asks_one m ask.Nothing (ask.Order n) h k = absurd (h (ask.Order n) k)
-asks_one m ask.Nothing (ask.Sheet b) h k = absurd (h (ask.Sheet b) k)
-asks_one m (ask.Call r) ask.Nothing h k = absurd (k (ask.Call r) h)
-asks_one m ask.BadCall ask.Nothing h k = absurd (k ask.BadCall h)
-asks_one m (ask.Field b a) ask.Nothing h k = absurd (k (ask.Field b a) h)
-asks_one m (ask.Order n) ask.Nothing h k = absurd (k (ask.Order n) h)
-asks_one m (ask.Sheet b) ask.Nothing h k = absurd (k (ask.Sheet b) h)
+asks_one m ask.Nothing b h k = absurd (h b k)
+asks_one m a ask.Nothing h k = absurd (k a h)
 asks_one m a b h k = says_one m a b h k

@@ -6,11 +6,11 @@ use Rattle.std.proofs.lemmas.Fmt.{decimal_is_IsNumeral}
 use Rattle.std.proofs.lemmas.Str.Parse.{digit_from_value}
 use Rattle.std.specs.List.{list_all}
 use Rattle.std.specs.Str.Parse.{AllDigits}
-use Rattle.escrow.specs.Codes.{IsArticle, IsBranch, is_article_byte, is_branch_byte}
+use Rattle.escrow.specs.Codes.{IsArticle, IsBranch, IsKey, is_article_byte, is_branch_byte, is_key_byte}
 use Rattle.escrow.specs.Ranges.{IsOrderNo}
 use Rattle.matchit.specs.Params.{named}
 use Rattle.matchit.specs.Router.{RouteOf}
-use Rattle.matchit.specs.Seek.{first, has_slash, slash}
+use Rattle.matchit.specs.Seek.{first, has_slash, same_text, slash}
 use Rattle.web.specs.Asks.{Says}
 use Rattle.web.specs.Messages.{Message}
 use Rattle.web.specs.Reads.{IsRead}
@@ -18,11 +18,11 @@ use Rattle.web.specs.Routes.{IsView, part_of, parts_on, resource_of, routes}
 use Rattle.web.specs.declared.ask.Ask.{Ask}
 use Rattle.web.specs.declared.ask.Ask.TheVariants as ask
 use Rattle.web.specs.declared.route.Resource.{Resource}
-use Rattle.web.specs.declared.route.Resource.TheVariants.{Commands, Field, Order, Sheet}
-use Rattle.web.proofs.RouteResult.{IsPart, commands_found, field_found, order_found, sheet_found}
-use Rattle.web.proofs.FourRoutes.{IsRouted, commands_route, field_route, order_route, routed, sheet_route}
+use Rattle.web.specs.declared.route.Resource.TheVariants.{Article, Branches, Commands, Desk, Field, Key, Order, Sheet}
+use Rattle.web.proofs.RouteResult.{IsPart, is_found}
+use Rattle.web.proofs.RouteShapes.{Alone, Before, IsAsciiShape, IsAsciiText, IsTarget, OfField, Shape, ascii_shape, route_of, route_to, routed, shape}
 use Rattle.web.proofs.OneView.{same}
-use Rattle.web.proofs.TargetParts.{field_parts, order_parts, sheet_parts}
+use Rattle.web.proofs.TargetParts.{before_parts, field_parts}
 
 -- ---- what a target with a route has for its resource and its parts
 
@@ -32,45 +32,45 @@ resource_is target route e = rw e refl
 part_is : (name target : List ℕ) (route : RouteOf Resource) → first routes target ≡ Some route → part_of name target ≡ named name (parts_on target route)
 part_is name target route e = rw e refl
 
--- a target with a resource has the resource's route
-route_of : (target : List ℕ) (resource : Resource) → resource_of target ≡ Some resource → (route : RouteOf Resource) × (first routes target ≡ Some route) × IsRouted resource target route
-route_of target resource h = by (first routes target) refl
+same_bytes : (text : List ℕ) → same_text text text ≡ true
+same_bytes [] = refl
+same_bytes (b ∷ text) = let e : (b == b) ≡ true = grind (arith, nat_tests) in rw e (same_bytes text)
+
+named_first : (name part : List ℕ) → named name ((name, part) ∷ []) ≡ Some part
+named_first name part = rw (same_bytes name) refl
+
+-- the part behind the path
+before_part : (path name part target : List ℕ) (value : Resource) → IsAsciiText path → target ≡ path ++ part → first routes target ≡ Some (route_of (Before path name) value) → part_of name target ≡ Some part
+before_part path name part target value ascii is e =
+    part_is name target (route_of (Before path name) value) e
+    ∙ ap (λ (t : List ℕ). named name (parts_on t (route_of (Before path name) value))) is
+    ∙ ap (named name) (before_parts path name part value ascii) ∙ named_first name part
+
+-- what a target with a route of that shape is, and the parts that it has
+abbrev IsPlain : Shape → List ℕ → Type 0
+IsPlain (Alone path) target = target ≡ path
+IsPlain (Before path name) target = (part : List ℕ) × (target ≡ path ++ part) × (part_of name target ≡ Some part)
+IsPlain OfField target =
+    (part : List ℕ) × (rest : List ℕ) × (target ≡ codes "/v1/fields/" ++ (part ++ slash ∷ rest)) × (part_of (codes "branch") target ≡ Some part) × (part_of (codes "article") target ≡ Some rest)
+
+plain_target : (s : Shape) (value : Resource) (target : List ℕ) → IsAsciiShape s → first routes target ≡ Some (route_of s value) → IsTarget s target → IsPlain s target
+plain_target (Alone path) value target ascii e is = is
+plain_target (Before path name) value target ascii e (part, is) = (part, is, before_part path name part target value ascii.0 is e)
+plain_target OfField value target ascii e (part, rest, is, plain) =
+    let parts : parts_on target (route_of OfField value) ≡ (codes "branch", part) ∷ ((codes "article", rest) ∷ []) =
+    ap (λ (t : List ℕ). parts_on t (route_of OfField value)) is ∙ field_parts part rest value plain in
+    (part, rest, is, part_is (codes "branch") target (route_of OfField value) e ∙ ap (named (codes "branch")) parts, part_is (codes "article") target (route_of OfField value) e ∙ ap (named (codes "article")) parts)
+
+-- a target with a resource is one of the resource's route
+plain_of : (target : List ℕ) (value : Resource) → resource_of target ≡ Some value → IsPlain (shape value) target
+plain_of target value h = by (first routes target) refl
   where
-    by : (found : Option (RouteOf Resource)) → first routes target ≡ found → (route : RouteOf Resource) × (first routes target ≡ Some route) × IsRouted resource target route
+    by : (found : Option (RouteOf Resource)) → first routes target ≡ found → IsPlain (shape value) target
     by None e = let none = rw e at h in cc none
     by (Some route) e =
-        let value : route.value ≡ resource = let same = rw e at h in cc same in
-        (route, e, subst (λ (r : Resource). IsRouted r target route) value (routed target route e))
-
-commands_plain : (target : List ℕ) → resource_of target ≡ Some Commands → target ≡ codes "/v1/commands"
-commands_plain target h = (route_of target Commands h).2.1
-
-order_plain : (target : List ℕ) → resource_of target ≡ Some Order → (part : List ℕ) × (target ≡ codes "/v1/orders/" ++ part) × (part_of (codes "number") target ≡ Some part)
-order_plain target h =
-    let found = route_of target Order h in
-    let part = found.2.1 in
-    let text : target ≡ codes "/v1/orders/" ++ part = found.2.2 in
-    let parts : parts_on target found.0 ≡ (codes "number", part) ∷ [] = ap (λ (route : RouteOf Resource). parts_on target route) found.2.0 ∙ ap (λ (t : List ℕ). parts_on t order_route) text ∙ order_parts part in
-    (part, text, part_is (codes "number") target found.0 found.1 ∙ ap (named (codes "number")) parts)
-
-sheet_plain : (target : List ℕ) → resource_of target ≡ Some Sheet → (part : List ℕ) × (target ≡ codes "/v1/sheets/" ++ part) × (part_of (codes "branch") target ≡ Some part)
-sheet_plain target h =
-    let found = route_of target Sheet h in
-    let part = found.2.1 in
-    let text : target ≡ codes "/v1/sheets/" ++ part = found.2.2 in
-    let parts : parts_on target found.0 ≡ (codes "branch", part) ∷ [] = ap (λ (route : RouteOf Resource). parts_on target route) found.2.0 ∙ ap (λ (t : List ℕ). parts_on t sheet_route) text ∙ sheet_parts part in
-    (part, text, part_is (codes "branch") target found.0 found.1 ∙ ap (named (codes "branch")) parts)
-
-field_plain : (target : List ℕ) → resource_of target ≡ Some Field
-    → (part : List ℕ) × (rest : List ℕ) × (target ≡ codes "/v1/fields/" ++ (part ++ slash ∷ rest)) × (part_of (codes "branch") target ≡ Some part) × (part_of (codes "article") target ≡ Some rest)
-field_plain target h =
-    let found = route_of target Field h in
-    let part = found.2.1 in
-    let rest = found.2.2 in
-    let text : target ≡ codes "/v1/fields/" ++ (part ++ slash ∷ rest) = found.2.3 in
-    let parts : parts_on target found.0 ≡ (codes "branch", part) ∷ ((codes "article", rest) ∷ []) =
-    ap (λ (route : RouteOf Resource). parts_on target route) found.2.0 ∙ ap (λ (t : List ℕ). parts_on t field_route) text ∙ field_parts part rest found.2.4 in
-    (part, rest, text, part_is (codes "branch") target found.0 found.1 ∙ ap (named (codes "branch")) parts, part_is (codes "article") target found.0 found.1 ∙ ap (named (codes "article")) parts)
+        let is : route.value ≡ value = let found = rw e at h in cc found in
+        let (one, fits) = routed target route e in
+        subst (λ (r : Resource). IsPlain (shape r) target) is (plain_target (shape route.value) route.value target (ascii_shape route.value) (e ∙ ap Some one) fits)
 
 -- ---- codes and numbers are parts
 
@@ -95,6 +95,9 @@ branch_part bytes h = part_from_test is_branch_byte (λ b e. (grind (arith, nat_
 article_part : (bytes : List ℕ) → IsArticle bytes → IsPart bytes
 article_part bytes h = part_from_test is_article_byte (λ b e. (grind (arith, nat_tests), grind (arith, nat_tests))) bytes h.some h.each
 
+key_part : (bytes : List ℕ) → IsKey bytes → IsPart bytes
+key_part bytes h = part_from_test is_key_byte (λ b e. (grind (arith, nat_tests), grind (arith, nat_tests))) bytes h.some h.each
+
 digits_part : (bytes : List ℕ) → 0 < length bytes → AllDigits 10 bytes → IsPart bytes
 digits_part [] some each = absurd (omega arith)
 digits_part (b ∷ bytes) some each = (omega (arith, digit_from_value b each.0), plain (b ∷ bytes) each)
@@ -118,62 +121,68 @@ part_plain (b ∷ bytes) h = h.1
 field_text : (branch article : List ℕ) → codes "/v1/fields/" ++ branch ++ codes "/" ++ article ≡ codes "/v1/fields/" ++ (branch ++ slash ∷ article)
 field_text branch article = append_assoc (codes "/v1/fields/" ++ branch) (codes "/") article ∙ append_assoc (codes "/v1/fields/") branch (slash ∷ article)
 
+-- a target is the path and the part that is found in it
+text_of : (path name target part : List ℕ) → IsPlain (Before path name) target → part_of name target ≡ Some part → target ≡ path ++ part
+text_of path name target part (found, is, e) h = is ∙ ap (λ (part : List ℕ). path ++ part) (same e h)
+
 -- a view that is read is said
 view_said : (m : Message) (a : Ask) → m.head.method ≡ codes "GET" → IsView m.head.target a → Says m a
+view_said m ask.Desk get h = (get, plain_of m.head.target Desk h)
+view_said m ask.Branches get h = (get, plain_of m.head.target Branches h)
 view_said m (ask.Field branch article) get h =
-    let plain = field_plain m.head.target h.0 in
+    let plain = plain_of m.head.target Field h.0 in
     let a : plain.0 ≡ branch = same plain.3 h.1 in
     let b : plain.1 ≡ article = same plain.4 h.2 in
     ((get, plain.2 ∙ cc (a, b) ∙ sym (field_text branch article)), h.3, h.4)
-view_said m (ask.Order n) get h =
-    let plain = order_plain m.head.target h.0 in
-    ((get, plain.1 ∙ ap (λ (part : List ℕ). codes "/v1/orders/" ++ part) (same plain.2 h.1)), h.2)
-view_said m (ask.Sheet branch) get h =
-    let plain = sheet_plain m.head.target h.0 in
-    ((get, plain.1 ∙ ap (λ (part : List ℕ). codes "/v1/sheets/" ++ part) (same plain.2 h.1)), h.2)
+view_said m (ask.Order n) get h = ((get, text_of (codes "/v1/orders/") (codes "number") m.head.target (decimal n) (plain_of m.head.target Order h.0) h.1), h.2)
+view_said m (ask.Sheet branch) get h = ((get, text_of (codes "/v1/sheets/") (codes "branch") m.head.target branch (plain_of m.head.target Sheet h.0) h.1), h.2)
+view_said m (ask.Article article) get h = ((get, text_of (codes "/v1/articles/") (codes "article") m.head.target article (plain_of m.head.target Article h.0) h.1), h.2)
+view_said m (ask.Kept key) get h = ((get, text_of (codes "/v1/keys/") (codes "key") m.head.target key (plain_of m.head.target Key h.0) h.1), h.2)
 view_said m (ask.Call r) get h = absurd h
 view_said m ask.BadCall get h = absurd h
 view_said m ask.Nothing get h = absurd h
 
 -- what is read is said
 pub said : (m : Message) (a : Ask) → IsRead m a → Says m a
-said m (ask.Call r) (inl (post, h, call)) = ((post, commands_plain m.head.target h), call)
-said m ask.BadCall (inl (post, h, none)) = ((post, commands_plain m.head.target h), none)
-said m (ask.Field b a) (inl (post, h, none)) = absurd none
-said m (ask.Order n) (inl (post, h, none)) = absurd none
-said m (ask.Sheet b) (inl (post, h, none)) = absurd none
-said m ask.Nothing (inl (post, h, none)) = absurd none
+said m (ask.Call r) (inl (post, h, call)) = ((post, plain_of m.head.target Commands h), call)
+said m ask.BadCall (inl (post, h, none)) = ((post, plain_of m.head.target Commands h), none)
+said m a (inl (post, h, none)) = absurd none
 said m a (inr (get, h)) = view_said m a get h
 
-commands_read : (m : Message) → m.head.target ≡ codes "/v1/commands" → resource_of m.head.target ≡ Some Commands
-commands_read m e = subst (λ (t : List ℕ). resource_of t ≡ Some Commands) (sym e) (resource_is (codes "/v1/commands") commands_route commands_found)
+-- a path alone leads to its resource
+alone_read : (path target : List ℕ) (value : Resource) → first routes path ≡ Some (route_of (Alone path) value) → target ≡ path → resource_of target ≡ Some value
+alone_read path target value found is = subst (λ (t : List ℕ). resource_of t ≡ Some value) (sym is) (resource_is path (route_of (Alone path) value) found)
+
+-- a path and a part behind it lead to the path's resource, with the part
+before_read : (path name target part : List ℕ) (value : Resource) → IsAsciiText path → first routes (path ++ part) ≡ Some (route_of (Before path name) value) → target ≡ path ++ part
+    → (resource_of target ≡ Some value) × (part_of name target ≡ Some part)
+before_read path name target part value ascii found is =
+    let e : first routes target ≡ Some (route_of (Before path name) value) = ap (first routes) is ∙ found in
+    (resource_is target (route_of (Before path name) value) e, before_part path name part target value ascii is e)
 
 -- what is said is read
 pub is_read : (m : Message) (a : Ask) → Says m a → IsRead m a
-is_read m (ask.Call r) ((post, e), call) = inl (post, commands_read m e, call)
-is_read m ask.BadCall ((post, e), none) = inl (post, commands_read m e, none)
+unfolding plain_target
+is_read m (ask.Call r) ((post, e), call) = inl (post, alone_read _ m.head.target Commands (is_found Commands) e, call)
+is_read m ask.BadCall ((post, e), none) = inl (post, alone_read _ m.head.target Commands (is_found Commands) e, none)
+is_read m ask.Desk (get, e) = inr (get, alone_read _ m.head.target Desk (is_found Desk) e)
+is_read m ask.Branches (get, e) = inr (get, alone_read (codes "/v1/branches") m.head.target Branches (is_found Branches) e)
 is_read m (ask.Field branch article) ((get, e), is_branch, is_article) =
-    let text = sym (e ∙ field_text branch article) in
     let target = codes "/v1/fields/" ++ (branch ++ slash ∷ article) in
-    let found : first routes target ≡ Some field_route = field_found branch article (branch_part branch is_branch) (article_part article is_article) in
-    let parts = field_parts branch article (part_plain branch (branch_part branch is_branch)) in
-    inr (
-      get,
-      subst (λ (t : List ℕ). IsView t (ask.Field branch article)) text
-          (resource_is target field_route found, part_is (codes "branch") target field_route found ∙ ap (named (codes "branch")) parts, part_is (codes "article") target field_route found ∙ ap (named (codes "article")) parts, is_branch, is_article),
-    )
+    let found : first routes target ≡ Some (route_to Field) = is_found Field branch article (branch_part branch is_branch) (article_part article is_article) in
+    let plain = plain_target OfField Field target tt found (branch, article, refl, part_plain branch (branch_part branch is_branch)) in
+    let view : IsView target (ask.Field branch article) = (resource_is target (route_to Field) found, plain.3, plain.4, is_branch, is_article) in
+    inr (get, subst (λ (t : List ℕ). IsView t (ask.Field branch article)) (sym (e ∙ field_text branch article)) view)
 is_read m (ask.Order n) ((get, e), h) =
-    let target = codes "/v1/orders/" ++ decimal n in
-    let found : first routes target ≡ Some order_route = order_found (decimal n) (number_part n h) in
-    inr (
-      get,
-      subst (λ (t : List ℕ). IsView t (ask.Order n)) (sym e) (resource_is target order_route found, part_is (codes "number") target order_route found ∙ ap (named (codes "number")) (order_parts (decimal n)), h),
-    )
+    let (to, part) = before_read (codes "/v1/orders/") (codes "number") m.head.target (decimal n) Order refl (is_found Order (decimal n) (number_part n h)) e in
+    inr (get, (to, part, h))
 is_read m (ask.Sheet branch) ((get, e), h) =
-    let target = codes "/v1/sheets/" ++ branch in
-    let found : first routes target ≡ Some sheet_route = sheet_found branch (branch_part branch h) in
-    inr (
-      get,
-      subst (λ (t : List ℕ). IsView t (ask.Sheet branch)) (sym e) (resource_is target sheet_route found, part_is (codes "branch") target sheet_route found ∙ ap (named (codes "branch")) (sheet_parts branch), h),
-    )
+    let (to, part) = before_read (codes "/v1/sheets/") (codes "branch") m.head.target branch Sheet refl (is_found Sheet branch (branch_part branch h)) e in
+    inr (get, (to, part, h))
+is_read m (ask.Article article) ((get, e), h) =
+    let (to, part) = before_read (codes "/v1/articles/") (codes "article") m.head.target article Article refl (is_found Article article (article_part article h)) e in
+    inr (get, (to, part, h))
+is_read m (ask.Kept key) ((get, e), h) =
+    let (to, part) = before_read (codes "/v1/keys/") (codes "key") m.head.target key Key refl (is_found Key key (key_part key h)) e in
+    inr (get, (to, part, h))
 is_read m ask.Nothing h = absurd h

@@ -1,4 +1,4 @@
--- The route of a target that one of the four patterns fits.
+-- The route of a target that one of the patterns fits.
 use Rattle.std.proofs.Common.{◌≡◌, ◌∙◌, ◌<◌, ◌+◌, ◌-◌, ℕ, zero, suc, List, [], ◌∷◌, ◌++◌, ◌&&◌, Option, Some, None, Bool, true, false, ap, arith, codes, inl, inr, length, length-append, ltb, refl, ◌==◌}
 use Rattle.std.proofs.lemmas.Bool.{cases_Bool}
 use Rattle.std.proofs.lemmas.Bool.Decides.{nat_tests}
@@ -9,7 +9,8 @@ use Rattle.matchit.specs.Rows.{RowsOf, param_token, catch_all_token}
 use Rattle.matchit.specs.Seek.{cuts, first, has_slash, or_else, own, param_step, seek, slash, step}
 use Rattle.web.specs.Routes.{routes}
 use Rattle.web.specs.declared.route.Resource.{Resource}
-use Rattle.web.proofs.FourRoutes.{commands_route, field_route, order_route, sheet_route, routes_are, row}
+use Rattle.web.specs.declared.route.Resource.TheVariants.{Article, Branches, Commands, Desk, Field, Key, Order, Sheet}
+use Rattle.web.proofs.RouteShapes.{Alone, Before, OfField, Shape, route_to, routes_are, shape, table}
 use Rattle.web.proofs.TargetParts.{segment_is}
 
 module _ {K : Type 0} where
@@ -110,30 +111,44 @@ module _ {K : Type 0} where
       let size : length part + 1 - 1 ≡ length part = omega arith in
       rw (other, seek_none 0 (part ++ slash ∷ rest), slash_step k b part rest pattern plain, size, seek_past part ((slash ∷ pattern, k) ∷ []) (slash ∷ rest), e) (or_else_none found)
 
-four : (target : List ℕ) → first routes target ≡ first (row commands_route ∷ (row field_route ∷ (row order_route ∷ (row sheet_route ∷ [])))) target
-four target = ap (λ (rows : RowsOf (RouteOf Resource)). first rows target) routes_are
-
-pub commands_found : first routes (codes "/v1/commands") ≡ Some commands_route
-unfolding matchit_on_literals
-commands_found = refl
+in_table : (target : List ℕ) → first routes target ≡ first table target
+in_table target = ap (λ (rows : RowsOf (RouteOf Resource)). first rows target) routes_are
 
 -- a part that a parameter takes: some bytes, the first of them a byte, and no slash among them
 abbrev pub IsPart : List ℕ → Type 0
 IsPart [] = ⊥
 IsPart (b ∷ part) = (b < 256) × (has_slash (b ∷ part) ≡ false)
 
-pub order_found : (part : List ℕ) → IsPart part → first routes (codes "/v1/orders/" ++ part) ≡ Some order_route
-order_found [] h = elim h [ ]
-order_found (b ∷ part) h = four _ ∙ seek_text (codes "/v1/orders/") _ (b ∷ part) refl ∙ last_part order_route b part h.0 h.1
+-- the row of the path is the only one that its bytes lead to
+before_found : (path : List ℕ) (route : RouteOf Resource) → stay_bare path table ≡ true → steps path table ≡ (param_token ∷ [], route) ∷ []
+    → (part : List ℕ) → IsPart part → first routes (path ++ part) ≡ Some route
+before_found path route bare leads [] h = elim h [ ]
+before_found path route bare leads (b ∷ part) h =
+    in_table _ ∙ seek_text path table (b ∷ part) bare ∙ ap (λ (rows : RowsOf (RouteOf Resource)). seek 0 rows (b ∷ part)) leads ∙ last_part route b part h.0 h.1
 
-pub sheet_found : (part : List ℕ) → IsPart part → first routes (codes "/v1/sheets/" ++ part) ≡ Some sheet_route
-sheet_found [] h = elim h [ ]
-sheet_found (b ∷ part) h = four _ ∙ seek_text (codes "/v1/sheets/") _ (b ∷ part) refl ∙ last_part sheet_route b part h.0 h.1
-
-pub field_found : (part rest : List ℕ) → IsPart part → IsPart rest → first routes (codes "/v1/fields/" ++ (part ++ slash ∷ rest)) ≡ Some field_route
+field_found : (part rest : List ℕ) → IsPart part → IsPart rest → first routes (codes "/v1/fields/" ++ (part ++ slash ∷ rest)) ≡ Some (route_to Field)
 field_found [] rest h g = elim h [ ]
 field_found (b ∷ part) [] h g = elim g [ ]
 field_found (b ∷ part) (c ∷ rest) h g =
-    let last : seek 0 ((slash ∷ (param_token ∷ []), field_route) ∷ []) (slash ∷ (c ∷ rest)) ≡ Some field_route =
-    seek_byte slash ((slash ∷ (param_token ∷ []), field_route) ∷ []) (c ∷ rest) refl ∙ last_part field_route c rest g.0 g.1 in
-    four _ ∙ seek_text (codes "/v1/fields/") _ (b ∷ (part ++ slash ∷ (c ∷ rest))) refl ∙ part_then_slash field_route b part (c ∷ rest) (param_token ∷ []) (Some field_route) h.0 h.1 last
+    let last : seek 0 ((slash ∷ (param_token ∷ []), route_to Field) ∷ []) (slash ∷ (c ∷ rest)) ≡ Some (route_to Field) =
+    seek_byte slash ((slash ∷ (param_token ∷ []), route_to Field) ∷ []) (c ∷ rest) refl ∙ last_part (route_to Field) c rest g.0 g.1 in
+    in_table _ ∙ seek_text (codes "/v1/fields/") table (b ∷ (part ++ slash ∷ (c ∷ rest))) refl
+    ∙ part_then_slash (route_to Field) b part (c ∷ rest) (param_token ∷ []) (Some (route_to Field)) h.0 h.1 last
+
+-- each target of that shape has that route
+abbrev pub IsFound : Shape → RouteOf Resource → Type 0
+IsFound (Alone path) route = first routes path ≡ Some route
+IsFound (Before path name) route = (part : List ℕ) → IsPart part → first routes (path ++ part) ≡ Some route
+IsFound OfField route =
+    (part rest : List ℕ) → IsPart part → IsPart rest → first routes (codes "/v1/fields/" ++ (part ++ slash ∷ rest)) ≡ Some route
+
+pub is_found : (value : Resource) → IsFound (shape value) (route_to value)
+unfolding matchit_on_literals
+is_found Article = before_found (codes "/v1/articles/") (route_to Article) refl refl
+is_found Branches = refl
+is_found Commands = refl
+is_found Desk = refl
+is_found Field = field_found
+is_found Key = before_found (codes "/v1/keys/") (route_to Key) refl refl
+is_found Order = before_found (codes "/v1/orders/") (route_to Order) refl refl
+is_found Sheet = before_found (codes "/v1/sheets/") (route_to Sheet) refl refl

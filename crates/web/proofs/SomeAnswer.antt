@@ -2,11 +2,12 @@
 use Rattle.std.proofs.Common.{◌≡◌, Bool, true, false, ℕ, List, [], ◌∷◌, Option, Some, None, MatchOption, refl, subst, sym}
 use Rattle.std.specs.List.{AllByRecursion as Each}
 use Rattle.std.specs.Str.{bytes_eq}
+use Rattle.words.specs.Spelling.{spelling}
 use Rattle.book.proofs.Goodness.{good_answer}
 use Rattle.book.proofs.Runs.{answered_if_good}
 use Rattle.book.proofs.ShownNumbers.{Contains-of_find}
 use Rattle.book.specs.Good.{Good}
-use Rattle.book.specs.Ledger.{Field, Ledger, Order, field_named, name_of, order_numbered, same_name}
+use Rattle.book.specs.Ledger.{Field, Kept, Ledger, Order, field_named, kept_under, name_of, order_numbered, same_name}
 use Rattle.desk.specs.Desk.{DeskState, Snapshot, snapshot}
 use Rattle.desk.specs.Dialogue.{AnswerKind, AreAnswers, BeginsTranscript, EndsCut, IsTranscript, ordinary, text_of}
 use Rattle.desk.specs.Streams.{Streams}
@@ -18,9 +19,10 @@ use Rattle.web.specs.Asks.{AsksFor}
 use Rattle.web.specs.declared.ask.Ask.{Ask}
 use Rattle.web.specs.declared.ask.Ask.TheVariants as ask
 use Rattle.web.specs.Messages.{Message, Part, unreadable, whole}
-use Rattle.web.specs.Objects.{field_object, order_object}
+use Rattle.web.specs.Objects.{field_object, kept_object, order_object}
 use Rattle.web.specs.Replies.{Replies, TellsField, reply_of_stopped}
 use Rattle.files.proofs.OneSheet.{some_sheet, view_of}
+use Rattle.web.proofs.FieldBranches.{are_branches, branches_at, once}
 use Rattle.web.proofs.SomeAsk.{some_ask}
 use Rattle.web.proofs.SomeParts.{some_parts}
 
@@ -36,22 +38,24 @@ order_told : (found : Option Order) → (answer : Answer) × MatchOption found (
 order_told None = (none_answer, refl)
 order_told (Some o) = (json_answer 200 (order_object o), refl)
 
+kept_told : (found : Option Kept) → (answer : Answer) × MatchOption found (answer ≡ none_answer) (λ k. answer ≡ json_answer 200 (kept_object (spelling k.command) k.place))
+kept_told None = (none_answer, refl)
+kept_told (Some k) = (json_answer 200 (kept_object (spelling k.command) k.place), refl)
+
 some_reply : (A : Ledger) (ask : Ask) → Good A → (answer : Answer) × (B : Ledger) × Replies A ask answer B
 some_reply A (ask.Call r) g = let answer = answered_if_good A r g in (reply_answer answer.0, answer.1, (answer.0, answer.2, refl))
-some_reply A ask.BadCall g = (_, A, (refl, refl))
+some_reply A ask.Branches g = (_, A, ((once None (branches_at A.fields), are_branches A.fields g.fields_in_order, refl), refl))
 some_reply A (ask.Field b a) g = let told = field_told A b a g (field_named A (name_of b a)) refl in (told.0, A, (told.1, refl))
 some_reply A (ask.Order n) g = let told = order_told (order_numbered A n) in (told.0, A, (told.1, refl))
 some_reply A (ask.Sheet b) g = let text = some_sheet (λ f. bytes_eq f.branch b) (λ v. v.article) A g in (text_answer text.0, A, ((text.0, text.1, refl), refl))
-some_reply A ask.Nothing g = (_, A, (refl, refl))
+some_reply A (ask.Article a) g = let text = some_sheet (λ f. bytes_eq f.article a) (λ v. v.branch) A g in (text_answer text.0, A, ((text.0, text.1, refl), refl))
+some_reply A (ask.Kept key) g = let told = kept_told (kept_under A key) in (told.0, A, (told.1, refl))
+some_reply A ask g = (_, A, (refl, refl))
 
 -- a good ledger stays good
 good_reply : (A : Ledger) (m : Message) (ask : Ask) (answer : Answer) (B : Ledger) → Good A → AsksFor m ask → Replies A ask answer B → Good B
 good_reply A m (ask.Call r) answer B g asks h = good_answer A r h.0 B g asks.1.key asks.1.command h.1
-good_reply A m ask.BadCall answer B g asks h = subst Good (sym h.1) g
-good_reply A m (ask.Field b a) answer B g asks h = subst Good (sym h.1) g
-good_reply A m (ask.Order n) answer B g asks h = subst Good (sym h.1) g
-good_reply A m (ask.Sheet b) answer B g asks (told, same) = subst Good (sym same) g
-good_reply A m ask.Nothing answer B g asks h = subst Good (sym h.1) g
+good_reply A m ask answer B g asks (told, same) = subst Good (sym same) g
 
 -- a ordinary answer to a part, after which the ledger is good
 abbrev Answered : Snapshot → Part → Type 0

@@ -8,19 +8,15 @@ use Rattle.web.specs.Routes.{IsView, resource_of}
 use Rattle.web.specs.declared.ask.Ask.{Ask}
 use Rattle.web.specs.declared.ask.Ask.TheVariants as ask
 use Rattle.web.specs.declared.route.Resource.{Resource}
-use Rattle.web.specs.declared.route.Resource.TheVariants.{Commands, Field, Order, Sheet}
+use Rattle.web.specs.declared.route.Resource.TheVariants.{Commands}
 use Rattle.web.proofs.Bodies.{IsSomeBody, body_decided}
 use Rattle.web.proofs.OneView.{HasView, view_decided}
 use Rattle.web.proofs.PlainTargets.{is_read, said}
 
 -- what is said is asked for
 asks_from_says : (m : Message) (a : Ask) → Says m a → AsksFor m a
-asks_from_says m (ask.Call r) h = h
-asks_from_says m ask.BadCall h = h
-asks_from_says m (ask.Field b a) h = h
-asks_from_says m (ask.Order n) h = h
-asks_from_says m (ask.Sheet b) h = h
 asks_from_says m ask.Nothing h = absurd h
+asks_from_says m a h = h
 
 pub asks_as_read : (m : Message) (a : Ask) → IsRead m a → AsksFor m a
 asks_as_read m a h = asks_from_says m a (said m a h)
@@ -53,9 +49,7 @@ commands_decided target = by (resource_of target) refl
     by : (found : Option Resource) → resource_of target ≡ found → Decided (resource_of target ≡ Some Commands)
     by None e = inr (λ h. let f = sym e ∙ h in cc f)
     by (Some Commands) e = inl e
-    by (Some Field) e = inr (λ h. let f = sym e ∙ h in cc f)
-    by (Some Order) e = inr (λ h. let f = sym e ∙ h in cc f)
-    by (Some Sheet) e = inr (λ h. let f = sym e ∙ h in cc f)
+    by (Some other) e = inr (λ h. let f = sym e ∙ h in cc f)
 
 pub some_ask : (m : Message) → (a : Ask) × AsksFor m a
 some_ask m = by (decided_word m.head.method (codes "GET")) (decided_both (decided_word m.head.method (codes "POST")) (commands_decided m.head.target))

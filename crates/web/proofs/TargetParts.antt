@@ -1,27 +1,29 @@
 -- The parts that the names in a route take of a target.
-use Rattle.std.proofs.Common.{◌≡◌, ◌∙◌, ◌≤◌, ◌+◌, ◌-◌, ℕ, suc, List, [], ◌∷◌, ◌++◌, drop, length, true, false, ap, append_assoc, arith, codes, inl, inr, length-append, leb, ltb, refl, sym, ◌==◌}
+use Rattle.std.proofs.Common.{◌≡◌, ◌∙◌, ◌≤◌, ◌+◌, ◌-◌, ◌&&◌, Bool, cond, ℕ, suc, List, [], ◌∷◌, ◌++◌, drop, get_or, length, true, false, ap, append_assoc, arith, codes, inl, inr, length-append, leb, ltb, refl, sym, ◌==◌}
 use Rattle.std.proofs.lemmas.Bool.{cases_Bool}
 use Rattle.std.proofs.lemmas.Bool.Decides.{nat_tests}
 use Rattle.std.proofs.lemmas.List.{drop_at, length-drop, take_at}
-use Rattle.std.proofs.Math.Seq.{take-length}
-use Rattle.std.specs.List.{list_all}
+use Rattle.std.proofs.Math.Seq.{drop-append-add, take-length}
 use Rattle.matchit.specs.Params.{after_token, part_of, walk, wild_from, wild_stop}
+use Rattle.matchit.specs.Route.{close_brace, open_brace}
 use Rattle.matchit.specs.Rows.{param_token}
 use Rattle.matchit.specs.Seek.{has_slash, segment, slash}
 use Rattle.web.specs.Routes.{parts_on}
-use Rattle.web.proofs.FourRoutes.{field_route, order_route, sheet_route}
+use Rattle.web.specs.declared.route.Resource.{Resource}
+use Rattle.web.proofs.RouteShapes.{Before, IsAsciiText, OfField, route_of}
 
 -- the place of the parameter behind a text
-wild_behind : (text pattern : List ℕ) (size token at : ℕ) → list_all (λ b. ltb b param_token) text ≡ true → at + length text ≤ size
+wild_behind : (text pattern : List ℕ) (size token at : ℕ) → IsAsciiText text → at + length text ≤ size
     → wild_from (text ++ param_token ∷ pattern) size token at ≡ (token + length text, at + length text)
 wild_behind [] pattern size token at bytes fits = let e : token ≡ token + 0 = omega arith in let f : at ≡ at + 0 = omega arith in cc
-wild_behind (b ∷ text) pattern size token at bytes fits = elim (cases_Bool (ltb b param_token)) [
+wild_behind (b ∷ text) pattern size token at bytes fits = elim (cases_Bool (ltb b 128)) [
   | inl small ↦
+      let byte : ltb b param_token ≡ true = grind (arith, nat_tests) in
       let inside : ltb at size ≡ true = grind (arith, nat_tests) in
       let more = wild_behind text pattern size (token + 1) (at + 1) (rw small at bytes) (omega arith) in
       let e : token + 1 + length text ≡ token + suc (length text) = omega arith in
       let f : at + 1 + length text ≡ at + suc (length text) = omega arith in
-      rw (small, inside) (more ∙ cc (e, f))
+      rw (byte, inside) (more ∙ cc (e, f))
   | inr large ↦ let none = rw large at bytes in cc none
 ]
 
@@ -52,25 +54,51 @@ segment_is (b ∷ part) rest none = elim (cases_Bool (b == slash)) [
   | inr e ↦ rw e (ap (λ (bytes : List ℕ). b ∷ bytes) (segment_is part rest (rw e at none)))
 ]
 
-pub sheet_parts : (rest : List ℕ) → parts_on (codes "/v1/sheets/" ++ rest) sheet_route ≡ (codes "branch", rest) ∷ []
-sheet_parts rest =
-    let size = length-append (codes "/v1/sheets/") rest in
-    step_is sheet_route.pattern sheet_route.text (codes "/v1/sheets/" ++ rest) (12, 18) [] 0 0 11 11 (length (codes "/v1/sheets/" ++ rest)) 12 rest
-    (wild_behind (codes "/v1/sheets/") [] (length (codes "/v1/sheets/" ++ rest)) 0 0 refl (omega arith)) refl refl (rest_is (codes "/v1/sheets/" ++ rest) rest 11 refl (omega arith))
+-- ---- a path before a part
 
-pub order_parts : (rest : List ℕ) → parts_on (codes "/v1/orders/" ++ rest) order_route ≡ (codes "number", rest) ∷ []
-order_parts rest =
-    let size = length-append (codes "/v1/orders/") rest in
-    step_is order_route.pattern order_route.text (codes "/v1/orders/" ++ rest) (12, 18) [] 0 0 11 11 (length (codes "/v1/orders/" ++ rest)) 12 rest
-    (wild_behind (codes "/v1/orders/") [] (length (codes "/v1/orders/" ++ rest)) 0 0 refl (omega arith)) refl refl (rest_is (codes "/v1/orders/" ++ rest) rest 11 refl (omega arith))
+no_third : {X : Type 0} (a b : Bool) (x y : X) → cond (a && b && false) x y ≡ y
+no_third true true x y = refl
+no_third true false x y = refl
+no_third false b x y = refl
 
-pub field_parts : (part rest : List ℕ) → has_slash part ≡ false
-    → parts_on (codes "/v1/fields/" ++ (part ++ slash ∷ rest)) field_route ≡ (codes "branch", part) ∷ ((codes "article", rest) ∷ [])
-field_parts part rest plain = first ∙ ap (λ (parts : List (List ℕ × List ℕ)). (codes "branch", part) ∷ parts) second
+-- the last parameter takes the rest of the path
+wild_last : (pattern path : List ℕ) (token at : ℕ) → ltb (token + 1) (length pattern) ≡ false → wild_stop pattern token path at ≡ length path
+wild_last pattern path token at last = rw last (no_third (ltb token (length pattern)) (get_or pattern token 0 == param_token) _ (length path))
+
+pub before_parts : (path name part : List ℕ) (value : Resource) → IsAsciiText path → parts_on (path ++ part) (route_of (Before path name) value) ≡ (name, part) ∷ []
+before_parts path name part value ascii = step ∙ ap (λ (n : List ℕ). (n, part) ∷ []) named
   where
-    path : List ℕ
-    path = codes "/v1/fields/" ++ (part ++ slash ∷ rest)
+    size : length (path ++ part) ≡ length path + length part
+    size = length-append path part
 
+    found : wild_from (path ++ param_token ∷ []) (length (path ++ part)) 0 0 ≡ (length path, length path)
+    found =
+        let none : 0 + length path ≡ length path = omega arith in
+        wild_behind path [] (length (path ++ part)) 0 0 ascii (omega (arith, size)) ∙ ap (λ (n : ℕ). (n, n)) none
+
+    ends : wild_stop (path ++ param_token ∷ []) (length path) (path ++ part) (length path) ≡ length (path ++ part)
+    ends =
+        let long = length-append path (param_token ∷ []) in
+        wild_last (path ++ param_token ∷ []) (path ++ part) (length path) (length path) (grind (arith, nat_tests))
+
+    named : part_of (path ++ open_brace ∷ (name ++ close_brace ∷ [])) (length path + 1) (length path + 1 + length name) ≡ name
+    named =
+        let long = length-append path (open_brace ∷ (name ++ close_brace ∷ [])) in
+        let more = length-append name (close_brace ∷ []) in
+        part_is (path ++ open_brace ∷ (name ++ close_brace ∷ [])) name (close_brace ∷ []) (length path + 1) (length path + 1 + length name)
+        (drop-append-add path (open_brace ∷ (name ++ close_brace ∷ [])) 1) refl (omega arith)
+
+    step : parts_on (path ++ part) (route_of (Before path name) value) ≡ (part_of (path ++ open_brace ∷ (name ++ close_brace ∷ [])) (length path + 1) (length path + 1 + length name), part) ∷ []
+    step = step_is (path ++ param_token ∷ []) (path ++ open_brace ∷ (name ++ close_brace ∷ [])) (path ++ part) (length path + 1, length path + 1 + length name) [] 0 0
+        (length path) (length path) (length (path ++ part)) (after_token (length path)) part found ends refl
+        (rest_is (path ++ part) part (length path) (drop_at path part (length path) refl) (omega (arith, size)))
+
+-- ---- the parts of a field
+
+pub field_parts : (part rest : List ℕ) (value : Resource) → has_slash part ≡ false
+    → parts_on (codes "/v1/fields/" ++ (part ++ slash ∷ rest)) (route_of OfField value) ≡ (codes "branch", part) ∷ ((codes "article", rest) ∷ [])
+field_parts part rest value plain = first ∙ ap (λ (parts : List (List ℕ × List ℕ)). (codes "branch", part) ∷ parts) second
+  where
     size : length (codes "/v1/fields/" ++ (part ++ slash ∷ rest)) ≡ 12 + length part + length rest
     size = omega (arith, length-append (codes "/v1/fields/") (part ++ slash ∷ rest), length-append part (slash ∷ rest))
 
@@ -78,16 +106,17 @@ field_parts part rest plain = first ∙ ap (λ (parts : List (List ℕ × List �
     behind = ap (λ (bytes : List ℕ). drop (11 + length part + 1) (codes "/v1/fields/" ++ bytes)) (sym (append_assoc part (slash ∷ []) rest))
         ∙ drop_at (codes "/v1/fields/" ++ (part ++ slash ∷ [])) rest (11 + length part + 1) (omega (arith, length-append (codes "/v1/fields/") (part ++ slash ∷ []), length-append part (slash ∷ [])))
 
-    ends : wild_stop field_route.pattern 11 (codes "/v1/fields/" ++ (part ++ slash ∷ rest)) 11 ≡ 11 + length part
+    ends : wild_stop (route_of OfField value).pattern 11 (codes "/v1/fields/" ++ (part ++ slash ∷ rest)) 11 ≡ 11 + length part
     ends = let long = ap length (segment_is part rest plain) ∙ length-append part (slash ∷ []) in omega (arith, long)
 
-    first : parts_on (codes "/v1/fields/" ++ (part ++ slash ∷ rest)) field_route
-        ≡ (codes "branch", part) ∷ walk field_route.pattern field_route.text (codes "/v1/fields/" ++ (part ++ slash ∷ rest)) ((21, 28) ∷ []) 12 (11 + length part)
-    first = step_is field_route.pattern field_route.text (codes "/v1/fields/" ++ (part ++ slash ∷ rest)) (12, 18) ((21, 28) ∷ []) 0 0 11 11 (11 + length part) 12 part
+    first : parts_on (codes "/v1/fields/" ++ (part ++ slash ∷ rest)) (route_of OfField value)
+        ≡ (codes "branch", part) ∷ walk (route_of OfField value).pattern (route_of OfField value).text (codes "/v1/fields/" ++ (part ++ slash ∷ rest)) ((21, 28) ∷ []) 12 (11 + length part)
+    first = step_is (route_of OfField value).pattern (route_of OfField value).text (codes "/v1/fields/" ++ (part ++ slash ∷ rest)) (12, 18) ((21, 28) ∷ []) 0 0 11 11 (11 + length part) 12 part
         (wild_behind (codes "/v1/fields/") (slash ∷ (param_token ∷ [])) (length (codes "/v1/fields/" ++ (part ++ slash ∷ rest))) 0 0 refl (omega (arith, size))) ends refl
         (part_is (codes "/v1/fields/" ++ (part ++ slash ∷ rest)) part (slash ∷ rest) 11 (11 + length part) refl refl (omega (arith, size)))
 
-    second : walk field_route.pattern field_route.text (codes "/v1/fields/" ++ (part ++ slash ∷ rest)) ((21, 28) ∷ []) 12 (11 + length part) ≡ (codes "article", rest) ∷ []
-    second = step_is field_route.pattern field_route.text (codes "/v1/fields/" ++ (part ++ slash ∷ rest)) (21, 28) [] 12 (11 + length part) 13 (11 + length part + 1) (length (codes "/v1/fields/" ++ (part ++ slash ∷ rest))) 14 rest
+    second : walk (route_of OfField value).pattern (route_of OfField value).text (codes "/v1/fields/" ++ (part ++ slash ∷ rest)) ((21, 28) ∷ []) 12 (11 + length part) ≡ (codes "article", rest) ∷ []
+    second = step_is (route_of OfField value).pattern (route_of OfField value).text (codes "/v1/fields/" ++ (part ++ slash ∷ rest)) (21, 28) [] 12 (11 + length part) 13 (11 + length part + 1)
+        (length (codes "/v1/fields/" ++ (part ++ slash ∷ rest))) 14 rest
         (wild_behind (slash ∷ []) [] (length (codes "/v1/fields/" ++ (part ++ slash ∷ rest))) 12 (11 + length part) refl (omega (arith, size))) refl refl
         (rest_is (codes "/v1/fields/" ++ (part ++ slash ∷ rest)) rest (11 + length part + 1) behind (omega (arith, size)))

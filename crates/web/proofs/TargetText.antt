@@ -3,7 +3,6 @@ use Rattle.std.proofs.Common.{◌≡◌, ◌∙◌, ◌<◌, ◌+◌, ℕ, zero,
 use Rattle.std.proofs.lemmas.Bool.{cases_Bool, ltb-true}
 use Rattle.std.proofs.lemmas.List.{take_at}
 use Rattle.std.proofs.Math.Seq.{drop-append-add}
-use Rattle.std.specs.List.{list_all}
 use Rattle.std.proofs.lemmas.Str.{IsCharBoundary-after_ascii, IsCharBoundary-before_ascii, IsUtf8-drop, IsUtf8-from_ascii, IsUtf8-take}
 use Rattle.std.specs.Str.{IsAscii, IsUtf8}
 use Rattle.matchit.specs.Params.{AllText, named, walk}
@@ -13,9 +12,8 @@ use Rattle.matchit.specs.Seek.{first, slash}
 use Rattle.matchit.specs.declared.params.Params.{Params}
 use Rattle.web.specs.Routes.{part_of, parts_on, resource_of, routes, taken}
 use Rattle.web.specs.declared.route.Resource.{Resource}
-use Rattle.web.specs.declared.route.Resource.TheVariants.{Commands, Field, Order, Sheet}
-use Rattle.web.proofs.FourRoutes.{IsRouted, commands_route, field_route, order_route, routed, sheet_route}
-use Rattle.web.proofs.TargetParts.{field_parts, order_parts, sheet_parts}
+use Rattle.web.proofs.RouteShapes.{Alone, Before, IsAsciiShape, IsAsciiText, IsTarget, OfField, Shape, ascii_shape, route_of, routed, shape}
+use Rattle.web.proofs.TargetParts.{before_parts, field_parts}
 
 at_slash : (front back : List ℕ) → get_or (front ++ slash ∷ back) (length front) 0 ≡ slash
 at_slash [] back = refl
@@ -29,7 +27,7 @@ beside_slash front back text =
     let behind = IsUtf8-drop (front ++ slash ∷ back) (length front + 1) text (IsCharBoundary-after_ascii (front ++ slash ∷ back) (length front) text (omega arith) (omega arith)) in
     (subst IsUtf8 (take_at front (slash ∷ back) (length front) refl) before, subst IsUtf8 (drop-append-add front (slash ∷ back) 1) behind)
 
-is_ascii : (text : List ℕ) → list_all (λ b. ltb b 128) text ≡ true → IsAscii text
+is_ascii : (text : List ℕ) → IsAsciiText text → IsAscii text
 is_ascii [] each i = omega arith
 is_ascii (b ∷ text) each i = elim (cases_Bool (ltb b 128)) [
   | inl e ↦ at i (ltb-true b 128 e) (is_ascii text (rw e at each))
@@ -40,25 +38,32 @@ is_ascii (b ∷ text) each i = elim (cases_Bool (ltb b 128)) [
     at zero small more = small
     at (suc i) small more = more i
 
-name_text : (name : List ℕ) → list_all (λ b. ltb b 128) name ≡ true → IsUtf8 name
+name_text : (name : List ℕ) → IsAsciiText name → IsUtf8 name
 name_text name each = IsUtf8-from_ascii name (is_ascii name each)
 
-pub all_text : (target : List ℕ) (route : RouteOf Resource) → IsUtf8 target → first routes target ≡ Some route → AllText (parts_on target route)
-all_text target route text e = by route.value (routed target route e)
-  where
-    parts_are : (one : RouteOf Resource) (same : List ℕ) (parts : List (List ℕ × List ℕ)) → route ≡ one → target ≡ same → parts_on same one ≡ parts → AllText parts → AllText (parts_on target route)
-    parts_are one same parts e f g h = subst AllText (sym (ap (λ (r : RouteOf Resource). parts_on target r) e ∙ ap (λ (t : List ℕ). parts_on t one) f ∙ g)) h
+-- what stands behind an ASCII text is text
+behind_ascii : (path rest : List ℕ) → IsAscii path → IsUtf8 (path ++ rest) → IsUtf8 rest
+behind_ascii [] rest ascii text = text
+behind_ascii (b ∷ path) rest ascii text =
+    let size = length-append path rest in
+    let small : b < 128 = ascii 0 in
+    let one = IsUtf8-drop (b ∷ (path ++ rest)) 1 text (IsCharBoundary-after_ascii (b ∷ (path ++ rest)) 0 text (omega arith) small) in
+    behind_ascii path rest (λ i. ascii (suc i)) one
 
-    by : (resource : Resource) → IsRouted resource target route → AllText (parts_on target route)
-    by Commands (one, is) = parts_are commands_route target [] one refl refl tt
-    by Field (one, part, rest, is, plain) =
-        let behind = (beside_slash (codes "/v1/fields") (part ++ slash ∷ rest) (subst IsUtf8 is text)).1 in
-        let both = beside_slash part rest behind in
-        parts_are field_route (codes "/v1/fields/" ++ (part ++ slash ∷ rest)) _ one is (field_parts part rest plain) (name_text (codes "branch") refl, both.0, (name_text (codes "article") refl, both.1, tt))
-    by Order (one, rest, is) =
-        parts_are order_route (codes "/v1/orders/" ++ rest) _ one is (order_parts rest) (name_text (codes "number") refl, (beside_slash (codes "/v1/orders") rest (subst IsUtf8 is text)).1, tt)
-    by Sheet (one, rest, is) =
-        parts_are sheet_route (codes "/v1/sheets/" ++ rest) _ one is (sheet_parts rest) (name_text (codes "branch") refl, (beside_slash (codes "/v1/sheets") rest (subst IsUtf8 is text)).1, tt)
+parts_text : (s : Shape) (value : Resource) (target : List ℕ) → IsAsciiShape s → IsTarget s target → IsUtf8 target → AllText (parts_on target (route_of s value))
+parts_text (Alone path) value target ascii is text = tt
+parts_text (Before path name) value target ascii (part, is) text =
+    subst AllText (sym (ap (λ (t : List ℕ). parts_on t (route_of (Before path name) value)) is ∙ before_parts path name part value ascii.0))
+    (name_text name ascii.1, behind_ascii path part (is_ascii path ascii.0) (subst IsUtf8 is text), tt)
+parts_text OfField value target ascii (part, rest, is, plain) text =
+    let both = beside_slash part rest (behind_ascii (codes "/v1/fields/") (part ++ slash ∷ rest) (is_ascii (codes "/v1/fields/") refl) (subst IsUtf8 is text)) in
+    subst AllText (sym (ap (λ (t : List ℕ). parts_on t (route_of OfField value)) is ∙ field_parts part rest value plain))
+    (name_text (codes "branch") refl, both.0, (name_text (codes "article") refl, both.1, tt))
+
+pub all_text : (target : List ℕ) (route : RouteOf Resource) → IsUtf8 target → first routes target ≡ Some route → AllText (parts_on target route)
+all_text target route text e =
+    let (one, is) = routed target route e in
+    subst (λ (r : RouteOf Resource). AllText (parts_on target r)) (sym one) (parts_text (shape route.value) route.value target (ascii_shape route.value) is text)
 
 -- what a match of the target took
 pub record IsMatch (target : List ℕ) (params : Params) (value : Resource) : Type 0 where

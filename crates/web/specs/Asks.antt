@@ -1,6 +1,6 @@
 -- What a message asks for.
 use Rattle.std.specs.Prelude.{◌≡◌, ℕ, List, ◌++◌, codes, decimal}
-use Rattle.escrow.specs.Codes.{IsArticle, IsBranch}
+use Rattle.escrow.specs.Codes.{IsArticle, IsBranch, IsKey}
 use Rattle.escrow.specs.Ranges.{IsOrderNo}
 use Rattle.words.specs.declared.command.Request.{Request}
 use Rattle.web.specs.Bodies.{IsBodyOf}
@@ -17,10 +17,14 @@ abbrev pub Says : Message → Ask → Type 0
 Says m (ask.Call request) = IsTo (codes "POST") (codes "/v1/commands") m × IsBodyOf request m.body
 Says m ask.BadCall =
     IsTo (codes "POST") (codes "/v1/commands") m × ((request : Request) → IsBodyOf request m.body → ⊥)
+Says m ask.Desk = IsTo (codes "GET") (codes "/v1/desk") m
+Says m ask.Branches = IsTo (codes "GET") (codes "/v1/branches") m
 Says m (ask.Field branch article) =
     IsTo (codes "GET") (codes "/v1/fields/" ++ branch ++ codes "/" ++ article) m × IsBranch branch × IsArticle article
 Says m (ask.Order number) = IsTo (codes "GET") (codes "/v1/orders/" ++ decimal number) m × IsOrderNo number
 Says m (ask.Sheet branch) = IsTo (codes "GET") (codes "/v1/sheets/" ++ branch) m × IsBranch branch
+Says m (ask.Article article) = IsTo (codes "GET") (codes "/v1/articles/" ++ article) m × IsArticle article
+Says m (ask.Kept key) = IsTo (codes "GET") (codes "/v1/keys/" ++ key) m × IsKey key
 Says m ask.Nothing = ⊥
 
 -- The message asks for what it says, and for nothing where it says nothing.

@@ -2,15 +2,17 @@
 use Rattle.std.specs.Prelude.{◌≡◌, ℕ, false, true, List, [], ◌∷◌, ◌++◌, codes}
 use Rattle.escrow.specs.declared.quantity.Way.{Way}
 use Rattle.escrow.specs.declared.quantity.Way.TheVariants.{Add, Take}
+use Rattle.words.specs.Spelling.{spelling}
+use Rattle.words.specs.declared.command.Command.TheVariants.{Firm}
 use Rattle.words.specs.declared.reply.Refusal.TheVariants.{TooLittle}
 use Rattle.words.specs.declared.reply.Reply.TheVariants.{Done, Refused}
-use Rattle.book.specs.Ledger.{Order}
+use Rattle.book.specs.Ledger.{Kept, Ledger, Order, name_of}
 use Rattle.book.specs.declared.book.views.FieldView.{FieldView}
 use Rattle.book.specs.declared.order.Kind.TheVariants.{Plain, Transfer}
 use Rattle.book.specs.declared.order.Line.{Line}
 use Rattle.book.specs.declared.order.State.TheVariants.{Aborted, Committed, Open}
 use Rattle.web.specs.Answers.{Answer, answer_bytes, bad_answer, head_line, json_answer, memory_answer, message_answer, none_answer, reply_answer, stopped_answer, text_answer}
-use Rattle.web.specs.Objects.{field_object, order_object}
+use Rattle.web.specs.Objects.{branches_object, desk_object, field_object, kept_object, order_object}
 
 -- the answer is this status line, its two header lines, an empty line and this body
 abbrev pub IsBytesOf : Answer → List ℕ → List ℕ → List ℕ → List ℕ → Type 0
@@ -60,6 +62,20 @@ moved = record {
 abbrev pub bare : Order
 bare = record { number = 9; kind = Plain; until = 0; state = Aborted; firm = false; lines = [] }
 
+-- what is kept of a command
+abbrev pub made_firm : Kept
+made_firm = record { key = codes "k-1"; place = 1; command = Firm 7 }
+
+-- one field, three orders of which one is open, and one command
+abbrev pub small : Ledger
+small = record {
+  clock = 5;
+  fields = record { name = name_of (codes "N1") (codes "A-1"); lo = 0; hi = 100; start = 40 } ∷ [];
+  moves = [];
+  orders = opened ∷ moved ∷ bare ∷ [];
+  kept = made_firm ∷ [];
+}
+
 pub record WorkedAnswers : Type 0 where
   pub none : IsBytes none_answer (codes "HTTP/1.1 404 Not Found") (codes "16") (codes "{\"error\":\"none\"}")
   pub message : IsBytes message_answer (codes "HTTP/1.1 400 Bad Request") (codes "19") (codes "{\"error\":\"message\"}")
@@ -82,5 +98,11 @@ pub record WorkedAnswers : Type 0 where
       (codes "{\"kind\":\"transfer\",\"lines\":[{\"article\":\"A-1\",\"branch\":\"N1\",\"held\":5,\"used\":5,\"way\":\"take\"},{\"article\":\"A-1\",\"branch\":\"N2\",\"held\":5,\"used\":5,\"way\":\"add\"}],\"number\":8,\"state\":\"committed\",\"until\":60}")
   pub bare : IsBytes (json_answer 200 (order_object bare)) (codes "HTTP/1.1 200 OK") (codes "66")
       (codes "{\"kind\":\"plain\",\"lines\":[],\"number\":9,\"state\":\"aborted\",\"until\":0}")
+  pub desk : IsBytes (json_answer 200 (desk_object small)) (codes "HTTP/1.1 200 OK") (codes "53")
+      (codes "{\"clock\":5,\"fields\":1,\"open\":1,\"orders\":3,\"places\":1}")
+  pub branches : IsBytes (json_answer 200 (branches_object (codes "N1" ∷ codes "N2" ∷ []))) (codes "HTTP/1.1 200 OK")
+      (codes "24") (codes "{\"branches\":[\"N1\",\"N2\"]}")
+  pub kept : IsBytes (json_answer 200 (kept_object (spelling made_firm.command) made_firm.place)) (codes "HTTP/1.1 200 OK")
+      (codes "30") (codes "{\"command\":\"firm 7\",\"place\":1}")
   pub text : IsBytesOf (text_answer (codes "total\n")) (codes "HTTP/1.1 200 OK") (codes "text/plain") (codes "6")
       (codes "total\n")

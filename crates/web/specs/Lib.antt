@@ -1,5 +1,6 @@
 pub mod Messages
 pub mod Routes
+pub mod Branches
 pub mod Objects
 pub mod Bodies
 pub mod Asks

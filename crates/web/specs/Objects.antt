@@ -1,11 +1,11 @@
 -- The JSON objects of bodies, their members in the order of their names.
-use Rattle.std.specs.Prelude.{ℕ, List, [], ◌∷◌, codes, map}
+use Rattle.std.specs.Prelude.{ℕ, List, [], ◌∷◌, codes, length, map}
 use Rattle.serde_json.specs.Data.{Data, Members, array, member, no_members, number, object, string, unsigned}
 use Rattle.serde_json.specs.View.{items_of}
 use Rattle.words.specs.OpenLines.{way_word}
 use Rattle.words.specs.Replies.{refusal_code, refusal_name}
 use Rattle.words.specs.declared.reply.Refusal.{Refusal}
-use Rattle.book.specs.Ledger.{Order, shown_state}
+use Rattle.book.specs.Ledger.{Ledger, Order, open_orders, places, shown_state}
 use Rattle.book.specs.declared.book.views.FieldView.{FieldView}
 use Rattle.book.specs.declared.book.views.OrderView.{OrderView}
 use Rattle.book.specs.declared.order.Kind.{Kind}
@@ -31,6 +31,10 @@ natural n = number (unsigned n)
 abbrev pub command_object : List ℕ → List ℕ → Data
 command_object key command = object_of ((codes "command", string command) ∷ (codes "key", string key) ∷ [])
 
+-- {"command":"COMMAND","place":N}
+abbrev pub kept_object : List ℕ → ℕ → Data
+kept_object command place = object_of ((codes "command", string command) ∷ (codes "place", natural place) ∷ [])
+
 -- {"error":"NAME"}
 abbrev pub error_object : List ℕ → Data
 error_object name = object_of ((codes "error", string name) ∷ [])
@@ -44,6 +48,21 @@ abbrev pub refused_object : Refusal → ℕ → Data
 refused_object refusal line =
     object_of ((codes "code", natural (refusal_code refusal)) ∷ (codes "line", natural line)
     ∷ (codes "refused", string (refusal_name refusal)) ∷ [])
+
+-- {"clock":C,"fields":F,"open":O,"orders":N,"places":P}
+abbrev pub desk_object : Ledger → Data
+desk_object A =
+    object_of ((codes "clock", natural A.clock) ∷ (codes "fields", natural (length A.fields))
+    ∷ (codes "open", natural (open_orders A)) ∷ (codes "orders", natural (length A.orders))
+    ∷ (codes "places", natural (places A)) ∷ [])
+
+-- ["B",..]
+abbrev pub texts : List (List ℕ) → Data
+texts branches = array (items_of (map string branches))
+
+-- {"branches":["B",..]}
+abbrev pub branches_object : List (List ℕ) → Data
+branches_object branches = object_of ((codes "branches", texts branches) ∷ [])
 
 -- {"article":"A","branch":"B","hi":HI,"inf":I,"lo":LO,"sup":S,"value":V}
 abbrev pub field_object : FieldView → Data

@@ -12,10 +12,7 @@ use Rattle.web.specs.declared.route.Resource.TheVariants.{Commands}
 abbrev pub IsCallOf : List ℕ → Ask → Type 0
 IsCallOf body (ask.Call request) = IsBodyOf request body
 IsCallOf body ask.BadCall = (request : Request) → IsBodyOf request body → ⊥
-IsCallOf body (ask.Field branch article) = ⊥
-IsCallOf body (ask.Order number) = ⊥
-IsCallOf body (ask.Sheet branch) = ⊥
-IsCallOf body ask.Nothing = ⊥
+IsCallOf body ask = ⊥
 
 -- what the message says, by its method, its route and its body
 abbrev pub IsRead : Message → Ask → Type 0

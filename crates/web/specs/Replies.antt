@@ -1,41 +1,55 @@
 -- What is answered to an ask.
 use Rattle.std.specs.Prelude.{◌≡◌, ℕ, List, MatchOption}
+use Rattle.words.specs.Spelling.{spelling}
 use Rattle.words.specs.declared.reply.Reply.{Reply}
 use Rattle.book.specs.Answers.{Answers}
-use Rattle.book.specs.Ledger.{Field, Ledger, field_named, name_of, order_numbered}
+use Rattle.book.specs.Ledger.{Field, Ledger, field_named, kept_under, name_of, order_numbered}
 use Rattle.book.specs.Views.{ShowsField}
 use Rattle.book.specs.declared.book.views.FieldView.{FieldView}
-use Rattle.files.specs.Sheets.{IsBranchSheet}
+use Rattle.files.specs.Sheets.{IsArticleSheet, IsBranchSheet}
 use Rattle.web.specs.Answers.{Answer, bad_answer, json_answer, none_answer, reply_answer, stopped_answer, text_answer}
+use Rattle.web.specs.Branches.{AreBranches}
 use Rattle.web.specs.declared.ask.Ask.{Ask}
 use Rattle.web.specs.declared.ask.Ask.TheVariants as ask
-use Rattle.web.specs.Objects.{field_object, order_object}
+use Rattle.web.specs.Objects.{branches_object, desk_object, field_object, kept_object, order_object}
 
 -- the field's object
 abbrev pub TellsField : Ledger → Field → Answer → Type 0
 TellsField A f answer = (view : FieldView) × ShowsField A f view × (answer ≡ json_answer 200 (field_object view))
 
--- the branch's sheet
-abbrev pub TellsSheet : Ledger → List ℕ → Answer → Type 0
-TellsSheet A branch answer = (text : List ℕ) × IsBranchSheet A branch text × (answer ≡ text_answer text)
+-- the branches that have a field, each once
+abbrev pub TellsBranches : Ledger → Answer → Type 0
+TellsBranches A answer =
+    (branches : List (List ℕ)) × AreBranches A.fields branches × (answer ≡ json_answer 200 (branches_object branches))
+
+-- a text that is one of these
+abbrev pub TellsText : (List ℕ → Type 0) → Answer → Type 0
+TellsText IsText answer = (text : List ℕ) × IsText text × (answer ≡ text_answer text)
+
+-- the answer to an ask that calls nothing: what the ledger tells
+abbrev pub AnswersView : Ledger → Ask → Answer → Type 0
+AnswersView A ask.Desk answer = answer ≡ json_answer 200 (desk_object A)
+AnswersView A ask.Branches answer = TellsBranches A answer
+AnswersView A (ask.Field branch article) answer =
+    MatchOption (field_named A (name_of branch article)) (answer ≡ none_answer) (λ f. TellsField A f answer)
+AnswersView A (ask.Order number) answer =
+    MatchOption (order_numbered A number) (answer ≡ none_answer) (λ o. answer ≡ json_answer 200 (order_object o))
+AnswersView A (ask.Sheet branch) answer = TellsText (IsBranchSheet A branch) answer
+AnswersView A (ask.Article article) answer = TellsText (IsArticleSheet A article) answer
+AnswersView A (ask.Kept key) answer =
+    MatchOption (kept_under A key) (answer ≡ none_answer)
+    (λ k. answer ≡ json_answer 200 (kept_object (spelling k.command) k.place))
+AnswersView A ask.BadCall answer = answer ≡ bad_answer
+AnswersView A ask.Nothing answer = answer ≡ none_answer
+AnswersView A (ask.Call request) answer = ⊥
 
 -- The answer to an ask at a ledger, of a desk that is not stopped, and the ledger after it.
 abbrev pub Replies : Ledger → Ask → Answer → Ledger → Type 0
 Replies A (ask.Call request) answer B = (reply : Reply) × Answers A request reply B × (answer ≡ reply_answer reply)
-Replies A ask.BadCall answer B = (answer ≡ bad_answer) × (B ≡ A)
-Replies A (ask.Field branch article) answer B =
-    MatchOption (field_named A (name_of branch article)) (answer ≡ none_answer) (λ f. TellsField A f answer) × (B ≡ A)
-Replies A (ask.Order number) answer B =
-    MatchOption (order_numbered A number) (answer ≡ none_answer) (λ o. answer ≡ json_answer 200 (order_object o))
-    × (B ≡ A)
-Replies A (ask.Sheet branch) answer B = TellsSheet A branch answer × (B ≡ A)
-Replies A ask.Nothing answer B = (answer ≡ none_answer) × (B ≡ A)
+Replies A ask answer B = AnswersView A ask answer × (B ≡ A)
 
 -- the answer of a desk that is stopped
 abbrev pub reply_of_stopped : Ask → Answer
-reply_of_stopped (ask.Call request) = stopped_answer
 reply_of_stopped ask.BadCall = bad_answer
-reply_of_stopped (ask.Field branch article) = stopped_answer
-reply_of_stopped (ask.Order number) = stopped_answer
-reply_of_stopped (ask.Sheet branch) = stopped_answer
 reply_of_stopped ask.Nothing = none_answer
+reply_of_stopped ask = stopped_answer

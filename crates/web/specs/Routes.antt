@@ -1,12 +1,12 @@
--- The four routes, as `matchit` reads and keeps them, the parts of a target, and the view under it (private: how a target
--- is read).
-use Rattle.std.specs.Prelude.{◌≡◌, ℕ, List, [], Option, Some, codes, decimal, option_and_then, option_map, Result, Ok, Err}
-use Rattle.escrow.specs.Codes.{IsArticle, IsBranch}
+-- The routes, as `matchit` reads and keeps them, the parts of a target, and the view under it (private: how a target is
+-- read).
+use Rattle.std.specs.Prelude.{◌≡◌, ℕ, List, [], ◌∷◌, Option, None, Some, codes, decimal, option_and_then, option_map, Result, Ok, Err}
+use Rattle.escrow.specs.Codes.{IsArticle, IsBranch, IsKey}
 use Rattle.escrow.specs.Ranges.{IsOrderNo}
 use Rattle.matchit.specs.Order.{placed}
 use Rattle.matchit.specs.Params.{named, walk}
 use Rattle.matchit.specs.Route.{Scan, parse_route}
-use Rattle.matchit.specs.Router.{RouteOf, route_from}
+use Rattle.matchit.specs.Router.{RouteOf, nearest, route_from}
 use Rattle.matchit.specs.Rows.{RowsOf}
 use Rattle.matchit.specs.Seek.{first}
 use Rattle.matchit.specs.declared.error.InsertError.{InsertError}
@@ -14,20 +14,48 @@ use Rattle.matchit.specs.declared.params.Params.{Params}
 use Rattle.web.specs.declared.ask.Ask.{Ask}
 use Rattle.web.specs.declared.ask.Ask.TheVariants as ask
 use Rattle.web.specs.declared.route.Resource.{Resource}
-use Rattle.web.specs.declared.route.Resource.TheVariants.{Commands, Field, Order, Sheet}
+use Rattle.web.specs.declared.route.Resource.TheVariants.{Article, Branches, Commands, Desk, Field, Key, Order, Sheet}
+
+-- ---- routes
+
+-- the texts of the routes, each with what it leads to
+abbrev pub route_texts : List (List ℕ × Resource)
+route_texts =
+    (codes "/v1/articles/{article}", Article)
+    ∷ (codes "/v1/branches", Branches)
+    ∷ (codes "/v1/commands", Commands)
+    ∷ (codes "/v1/desk", Desk)
+    ∷ (codes "/v1/fields/{branch}/{article}", Field)
+    ∷ (codes "/v1/keys/{key}", Key)
+    ∷ (codes "/v1/orders/{number}", Order)
+    ∷ (codes "/v1/sheets/{branch}", Sheet)
+    ∷ []
 
 -- the rows with one more route, where its text is one
 abbrev pub with_route : Result Scan InsertError → Resource → RowsOf (RouteOf Resource) → RowsOf (RouteOf Resource)
 with_route (Ok scan) value rows = placed (scan.pattern, route_from scan value) rows
 with_route (Err error) value rows = rows
 
--- the rows of a router into which the four routes were put
+-- the rows with these routes, one after another
+abbrev pub with_routes : List (List ℕ × Resource) → RowsOf (RouteOf Resource) → RowsOf (RouteOf Resource)
+with_routes [] rows = rows
+with_routes (r ∷ more) rows = with_routes more (with_route (parse_route r.0) r.1 rows)
+
+-- the rows of a router into which the routes were put
 abbrev pub routes : RowsOf (RouteOf Resource)
-routes =
-    with_route (parse_route (codes "/v1/sheets/{branch}")) Sheet
-    (with_route (parse_route (codes "/v1/orders/{number}")) Order
-    (with_route (parse_route (codes "/v1/fields/{branch}/{article}")) Field
-    (with_route (parse_route (codes "/v1/commands")) Commands [])))
+routes = with_routes route_texts []
+
+-- the text is a route's, with which none of the rows conflicts
+abbrev pub Fits : Result Scan InsertError → RowsOf (RouteOf Resource) → Type 0
+Fits (Ok scan) rows = nearest scan.pattern rows ≡ None
+Fits (Err error) rows = ⊥
+
+-- each of these fits the rows with those before it
+abbrev pub AllFit : List (List ℕ × Resource) → RowsOf (RouteOf Resource) → Type 0
+AllFit [] rows = Unit {0}
+AllFit (r ∷ more) rows = Fits (parse_route r.0) rows × AllFit more (with_route (parse_route r.0) r.1 rows)
+
+-- ---- the parts of a target
 
 -- what the target's route leads to, if it has one
 abbrev pub resource_of : List ℕ → Option Resource
@@ -45,12 +73,20 @@ part_of name target = option_and_then (λ route. named name (parts_on target rou
 abbrev pub taken : Params → List (List ℕ × List ℕ)
 taken params = walk params.pattern.now params.text.now params.path.now params.names.now 0 0
 
--- the view is that of the target: its route is the view's, and its parts are the view's codes or number
+-- ---- views
+
+-- the view is that of the target: its route is the view's, and its parts are the view's codes, number or key
 abbrev pub IsView : List ℕ → Ask → Type 0
+IsView target ask.Desk = resource_of target ≡ Some Desk
+IsView target ask.Branches = resource_of target ≡ Some Branches
 IsView target (ask.Field branch article) =
     (resource_of target ≡ Some Field) × (part_of (codes "branch") target ≡ Some branch)
     × (part_of (codes "article") target ≡ Some article)
     × IsBranch branch × IsArticle article
+IsView target (ask.Article article) =
+    (resource_of target ≡ Some Article) × (part_of (codes "article") target ≡ Some article) × IsArticle article
+IsView target (ask.Kept key) =
+    (resource_of target ≡ Some Key) × (part_of (codes "key") target ≡ Some key) × IsKey key
 IsView target (ask.Order number) =
     (resource_of target ≡ Some Order) × (part_of (codes "number") target ≡ Some (decimal number)) × IsOrderNo number
 IsView target (ask.Sheet branch) =

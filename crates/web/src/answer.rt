@@ -1,13 +1,17 @@
 //! Answers, as bytes.
 
 ghost use Rattle.std.specs.Prelude.{◌≡◌, ◌++◌, IfOk, OnOk};
+ghost use Rattle.std.specs.Str.{IsUtf8};
 ghost use Rattle.book.specs.Ledger.{Order};
 ghost use Rattle.book.specs.Views.{ShowsOrder};
 ghost use Rattle.web.specs.Answers.{Answer, answer_bytes, header_line, json_answer, json_of, reply_answer, status_line, text_answer};
-ghost use Rattle.web.specs.Objects.{field_object, order_object, place_object, refused_object};
+ghost use Rattle.web.specs.Objects.{branches_object, desk_object, field_object, kept_object, order_object, place_object, refused_object};
 
-use crate::objects::{field_json, order_json, place_json, refused_json};
-use book::{FieldView, OrderView};
+use crate::objects::{
+    branches_json, desk_json, field_json, kept_json, order_json, place_json, refused_json,
+};
+use book::{Book, FieldView, KeptView, OrderView};
+use escrow::Branch;
 use http::StatusCode;
 use itoa::Buffer;
 use std::alloc::{AllocError, Global};
@@ -74,6 +78,20 @@ pub fn text_answer(alloc: Global, text: &[u8]) -> Result<Vec<u8>, AllocError>
     answer_of(alloc, StatusCode::OK, b"text/plain", text)
 }
 
+/// The answer that tells how a desk stands.
+pub fn desk_answer(alloc: Global, book: &Book) -> Result<Vec<u8>, AllocError>
+    ensures { IfOk result (λ out. out.items ≡ answer_bytes (json_answer 200 (desk_object book.now.ledger))) }
+{
+    json_answer(alloc, StatusCode::OK, &desk_json(alloc, book)?)
+}
+
+/// The answer that tells branches.
+pub fn branches_answer(alloc: Global, branches: &[Branch]) -> Result<Vec<u8>, AllocError>
+    ensures { IfOk result (λ out. out.items ≡ answer_bytes (json_answer 200 (branches_object branches.now))) }
+{
+    json_answer(alloc, StatusCode::OK, &branches_json(alloc, branches)?)
+}
+
 /// The answer that tells a field.
 pub fn field_answer(alloc: Global, view: &FieldView) -> Result<Vec<u8>, AllocError>
     ensures { IfOk result (λ out. out.items ≡ answer_bytes (json_answer 200 (field_object view.now))) }
@@ -87,6 +105,15 @@ pub fn order_answer(alloc: Global, view: &OrderView) -> Result<Vec<u8>, AllocErr
         (λ out. out.items ≡ answer_bytes (json_answer 200 (order_object order))) }
 {
     json_answer(alloc, StatusCode::OK, &order_json(alloc, view)?)
+}
+
+/// The answer that tells what is kept under a key.
+pub fn kept_answer(alloc: Global, view: &KeptView) -> Result<Vec<u8>, AllocError>
+    requires { IsUtf8 view.now.words.now }
+    ensures { IfOk result (λ out. out.items ≡ answer_bytes
+        (json_answer 200 (kept_object view.now.words.now view.now.place))) }
+{
+    json_answer(alloc, StatusCode::OK, &kept_json(alloc, view)?)
 }
 
 /// The answer to a command that is done.

@@ -10,7 +10,7 @@ use crate::body::read_request;
 use crate::intake::Found;
 use crate::route::Routes;
 use crate::target::{takes_commands, view_of};
-use escrow::{Article, Branch, OrderNo};
+use escrow::{Article, Branch, Key, OrderNo};
 use std::alloc::{AllocError, Global};
 use std::str;
 use words::Request;
@@ -22,12 +22,20 @@ pub enum Ask {
     Call(Request),
     /// A body that is no request.
     BadCall,
+    /// The desk: its clock, and how much of each kind it has.
+    Desk,
+    /// The branches that have a field.
+    Branches,
     /// A field.
     Field(Branch, Article),
     /// An order.
     Order(OrderNo),
     /// The sheet of a branch.
     Sheet(Branch),
+    /// The sheet of an article.
+    Article(Article),
+    /// What is kept under a key.
+    Kept(Key),
     /// Nothing that is there.
     Nothing,
 }

@@ -8,7 +8,9 @@ ghost use Rattle.web.specs.declared.ask.Ask.TheVariants as ask;
 use crate::answer::reply_answer;
 use crate::ask::Ask;
 use crate::fixed::Fixed;
-use crate::views::{show_field, show_order, show_sheet};
+use crate::views::{
+    show_article, show_branches, show_desk, show_field, show_kept, show_order, show_sheet,
+};
 use desk::{Answer, CallFault, Desk, Teller};
 use escrow::Key;
 use keep::Keep;
@@ -58,9 +60,13 @@ fn answer_view<K: Keep>(alloc: Global, desk: &Desk<K>, ask: &Ask) -> Result<Answ
     match ask {
         Ask::Call(_) => unreachable!(),
         Ask::BadCall => Ok(Fixed::BadCommand.answer()),
+        Ask::Desk => show_desk(alloc, desk),
+        Ask::Branches => show_branches(alloc, desk),
         Ask::Field(branch, article) => show_field(alloc, desk, *branch, *article),
         Ask::Order(number) => show_order(alloc, desk, *number),
         Ask::Sheet(branch) => show_sheet(alloc, desk, *branch),
+        Ask::Article(article) => show_article(alloc, desk, *article),
+        Ask::Kept(key) => show_kept(alloc, desk, *key),
         Ask::Nothing => Ok(Fixed::Nothing.answer()),
     }
 }

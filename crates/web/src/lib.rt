@@ -5,6 +5,7 @@
 mod answer;
 mod ask;
 mod body;
+mod branches;
 mod calls;
 mod connection;
 mod examples;

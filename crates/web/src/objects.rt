@@ -1,17 +1,65 @@
 //! The texts of objects. The JSON is written by `serde_json`.
 
 ghost use Rattle.std.specs.Prelude.{◌≡◌, IfOk};
+ghost use Rattle.std.specs.Str.{IsUtf8};
 ghost use Rattle.serde_json.specs.View.{view as data_of};
 ghost use Rattle.serde_json.specs.Written.{compact_text};
 ghost use Rattle.book.specs.Ledger.{Order};
 ghost use Rattle.book.specs.Views.{ShowsOrder};
-ghost use Rattle.web.specs.Objects.{field_object, line_object, line_objects, order_object, view_object, place_object, refused_object};
+ghost use Rattle.web.specs.Objects.{branches_object, desk_object, field_object, kept_object, line_object, line_objects, order_object, view_object, place_object, refused_object, texts};
 
-use crate::word::{article_text, branch_text, kind_text, state_text, way_text};
-use book::{FieldView, Line, OrderView};
+use crate::word::{article_text, branch_text, kind_text, state_text, utf8_text, way_text};
+use book::{Book, FieldView, KeptView, Line, OrderView};
+use escrow::Branch;
 use serde_json::{Value, json};
 use std::alloc::{AllocError, Global};
 use words::Refusal;
+
+/// The object of a desk.
+fn desk_value(alloc: Global, book: &Book) -> Result<Value, AllocError>
+    ensures { IfOk result (λ value. data_of value ≡ desk_object book.now.ledger) }
+{
+    json!(in alloc; {
+        "clock": book.clock().get(),
+        "fields": book.field_count(),
+        "open": book.open_count(),
+        "orders": book.order_count(),
+        "places": book.places(),
+    })
+}
+
+/// The text of a desk's object.
+pub fn desk_json(alloc: Global, book: &Book) -> Result<Vec<u8>, AllocError>
+    ensures { IfOk result (λ text. text.items ≡ compact_text (desk_object book.now.ledger)) }
+{
+    desk_value(alloc, book)?.to_vec(alloc)
+}
+
+/// The list of the branches' codes.
+fn branch_texts(alloc: Global, branches: &[Branch]) -> Result<Value, AllocError>
+    ensures { IfOk result (λ value. data_of value ≡ texts branches.now) }
+{
+    let mut values = Vec::new(alloc);
+    for branch in branches {
+        values.push(json!(in alloc; branch_text(branch))?)?;
+    }
+    Ok(Value::Array(values))
+}
+
+/// The object of branches.
+fn branches_value(alloc: Global, branches: &[Branch]) -> Result<Value, AllocError>
+    ensures { IfOk result (λ value. data_of value ≡ branches_object branches.now) }
+{
+    let codes = branch_texts(alloc, branches)?;
+    json!(in alloc; {"branches": codes})
+}
+
+/// The text of the object of branches.
+pub fn branches_json(alloc: Global, branches: &[Branch]) -> Result<Vec<u8>, AllocError>
+    ensures { IfOk result (λ text. text.items ≡ compact_text (branches_object branches.now)) }
+{
+    branches_value(alloc, branches)?.to_vec(alloc)
+}
 
 /// The object of a field.
 fn field_value(alloc: Global, view: &FieldView) -> Result<Value, AllocError>
@@ -33,6 +81,22 @@ pub fn field_json(alloc: Global, view: &FieldView) -> Result<Vec<u8>, AllocError
     ensures { IfOk result (λ text. text.items ≡ compact_text (field_object view.now)) }
 {
     field_value(alloc, view)?.to_vec(alloc)
+}
+
+/// The object of what is kept under a key.
+fn kept_value(alloc: Global, view: &KeptView) -> Result<Value, AllocError>
+    requires { IsUtf8 view.now.words.now }
+    ensures { IfOk result (λ value. data_of value ≡ kept_object view.now.words.now view.now.place) }
+{
+    json!(in alloc; {"command": utf8_text(view.words), "place": view.place})
+}
+
+/// The text of the object of what is kept under a key.
+pub fn kept_json(alloc: Global, view: &KeptView) -> Result<Vec<u8>, AllocError>
+    requires { IsUtf8 view.now.words.now }
+    ensures { IfOk result (λ text. text.items ≡ compact_text (kept_object view.now.words.now view.now.place)) }
+{
+    kept_value(alloc, view)?.to_vec(alloc)
 }
 
 /// The object of a command that is done.

@@ -1,23 +1,39 @@
-//! The four routes.
+//! The routes.
 
-ghost use Rattle.std.specs.Prelude.{[], ◌≡◌, IfErr, IfOk, OnOk};
+ghost use Rattle.std.specs.Prelude.{◌≡◌, IfErr, IfOk, OnOk, map};
 ghost use Rattle.matchit.specs.declared.error.InsertError.TheVariants.{OutOfMemory};
-ghost use Rattle.web.specs.Routes.{routes};
+ghost use Rattle.web.specs.Routes.{AllFit, routes, with_routes};
 
 use matchit::{InsertError, Router};
 use std::alloc::Global;
 use std::marker::Model;
 
+/// The routes, each with what it leads to.
+const ROUTES: [(&str, Resource); 8] = [
+    ("/v1/articles/{article}", Resource::Article),
+    ("/v1/branches", Resource::Branches),
+    ("/v1/commands", Resource::Commands),
+    ("/v1/desk", Resource::Desk),
+    ("/v1/fields/{branch}/{article}", Resource::Field),
+    ("/v1/keys/{key}", Resource::Key),
+    ("/v1/orders/{number}", Resource::Order),
+    ("/v1/sheets/{branch}", Resource::Sheet),
+];
+
 /// What a route leads to.
 #[derive(Clone, Copy)]
 pub enum Resource {
+    Article,
+    Branches,
     Commands,
+    Desk,
     Field,
+    Key,
     Order,
     Sheet,
 }
 
-/// The four routes.
+/// The routes.
 #[derive(Drop)]
 pub struct Routes {
     router: Router<Resource>,
@@ -52,25 +68,28 @@ impl Routes {
     }
 }
 
-/// The router of the four routes, which fails for want of memory alone.
+/// The router of the routes, which fails for want of memory alone.
 fn router(alloc: Global) -> Result<Router<Resource>, InsertError>
     ensures made { IfOk result (λ made. made ≡ routes) }
     ensures memory { IfErr result (λ error. error ≡ OutOfMemory) }
 {
     let mut made = Router::new(alloc);
-    insert_routes(&mut made)?;
+    insert_routes(&mut made, &ROUTES)?;
     Ok(made)
 }
 
-/// Puts the four routes into a router that has none, which fails for want of memory alone.
-fn insert_routes(router: &mut Router<Resource>) -> Result<(), InsertError>
-    requires { router.old ≡ [] }
-    ensures made { OnOk result (router.new ≡ routes) }
+/// Puts these routes into the router, one after another. It fails for want of memory alone.
+fn insert_routes(
+    router: &mut Router<Resource>,
+    mut routes: &[(&str, Resource)],
+) -> Result<(), InsertError>
+    requires { AllFit (map (λ r. (r.0.now, r.1)) routes.now) router.old }
+    ensures made { OnOk result (router.new ≡ with_routes (map (λ r. (r.0.now, r.1)) routes.entry.now) router.old) }
     ensures memory { IfErr result (λ error. error ≡ OutOfMemory) }
 {
-    router.insert("/v1/commands", Resource::Commands)?;
-    router.insert("/v1/fields/{branch}/{article}", Resource::Field)?;
-    router.insert("/v1/orders/{number}", Resource::Order)?;
-    router.insert("/v1/sheets/{branch}", Resource::Sheet)?;
+    while let [first, rest @ ..] = routes {
+        router.insert(first.0, first.1)?;
+        routes = rest;
+    }
     Ok(())
 }

@@ -2,7 +2,7 @@
 //! in which it stands.
 
 ghost use Rattle.std.specs.Prelude.{◌≡◌, ◌≢◌, ◌↔◌, ℕ, IfNone, IfSome, IsTrue, List, MatchOption, Some, codes, decimal};
-ghost use Rattle.escrow.specs.Codes.{IsArticle, IsBranch};
+ghost use Rattle.escrow.specs.Codes.{IsArticle, IsBranch, IsKey};
 ghost use Rattle.escrow.specs.Ranges.{IsOrderNo};
 ghost use Rattle.matchit.specs.Params.{AllText, named};
 ghost use Rattle.web.specs.Routes.{IsView, resource_of, routes, taken};
@@ -10,7 +10,7 @@ ghost use Rattle.web.specs.declared.ask.Ask.{Ask as AskOf};
 
 use crate::ask::Ask;
 use crate::route::Resource;
-use escrow::{Article, Branch, OrderNo};
+use escrow::{Article, Branch, Key, OrderNo};
 use matchit::{Params, Router};
 use words::read_number;
 
@@ -25,6 +25,8 @@ pub fn view_of(router: &Router<Resource>, target: &str) -> Option<Ask>
     };
     match found.value {
         Resource::Commands => None,
+        Resource::Desk => Some(Ask::Desk),
+        Resource::Branches => Some(Ask::Branches),
         Resource::Field => {
             let branch = branch_of(&found.params)?;
             let article = article_of(&found.params)?;
@@ -32,6 +34,8 @@ pub fn view_of(router: &Router<Resource>, target: &str) -> Option<Ask>
         }
         Resource::Order => Some(Ask::Order(order_of(&found.params)?)),
         Resource::Sheet => Some(Ask::Sheet(branch_of(&found.params)?)),
+        Resource::Article => Some(Ask::Article(article_of(&found.params)?)),
+        Resource::Key => Some(Ask::Kept(key_of(&found.params)?)),
     }
 }
 
@@ -62,6 +66,15 @@ fn article_of(params: &Params) -> Option<Article>
         (λ code. (named (codes "article") (taken params.now) ≡ Some code) × IsArticle code) }
 {
     Article::read(params.get("article")?.as_bytes()).ok()
+}
+
+// The key that is named in a target.
+fn key_of(params: &Params) -> Option<Key>
+    ensures { AllText (taken params.now) → MatchOption result
+        ((key : List ℕ) → IsKey key → named (codes "key") (taken params.now) ≢ Some key)
+        (λ key. (named (codes "key") (taken params.now) ≡ Some key) × IsKey key) }
+{
+    Key::read(params.get("key")?.as_bytes()).ok()
 }
 
 // The order that is named in a target.

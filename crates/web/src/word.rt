@@ -1,7 +1,7 @@
 //! Words that stand in objects.
 
 ghost use Rattle.std.specs.Prelude.{◌≡◌};
-ghost use Rattle.std.specs.Str.{IsAscii};
+ghost use Rattle.std.specs.Str.{IsUtf8};
 ghost use Rattle.words.specs.OpenLines.{way_word};
 ghost use Rattle.desk.specs.Replies.{kind_word, state_word};
 
@@ -9,9 +9,9 @@ use book::{Kind, Standing};
 use escrow::{Article, Branch, Way};
 use std::str;
 
-/// The text that ASCII bytes are.
-fn ascii_text(bytes: &[u8]) -> &str
-    requires { IsAscii bytes.now }
+/// The text that UTF-8 bytes are.
+pub fn utf8_text(bytes: &[u8]) -> &str
+    requires { IsUtf8 bytes.now }
     ensures { result.now ≡ bytes.now }
 {
     match str::from_utf8(bytes) {
@@ -23,13 +23,13 @@ fn ascii_text(bytes: &[u8]) -> &str
 pub fn branch_text(branch: &Branch) -> &str
     ensures { result.now ≡ branch.now }
 {
-    ascii_text(branch.as_bytes())
+    utf8_text(branch.as_bytes())
 }
 
 pub fn article_text(article: &Article) -> &str
     ensures { result.now ≡ article.now }
 {
-    ascii_text(article.as_bytes())
+    utf8_text(article.as_bytes())
 }
 
 pub fn kind_text(kind: Kind) -> &'static str

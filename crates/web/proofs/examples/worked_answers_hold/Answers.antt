@@ -18,5 +18,8 @@ returns c = record {
   promised = refl;
   moved = refl;
   bare = refl;
+  desk = refl;
+  branches = refl;
+  kept = refl;
   text = refl;
 }

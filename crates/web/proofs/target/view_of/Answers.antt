@@ -1,5 +1,5 @@
 use Rattle.std.proofs.Common.{◌∙◌, Option, None, Some, IfNone, ap, codes, sym}
-use Rattle.web.specs.declared.route.Resource.TheVariants.{Field, Order, Sheet}
+use Rattle.web.specs.declared.route.Resource.TheVariants.{Article, Field, Key, Order, Sheet}
 use Rattle.web.proofs.OneView.{no_view}
 use Rattle.web.proofs.TargetText.{match_of}
 use Rattle.web.proofs.target.view_of.Goals as goal
@@ -50,3 +50,27 @@ returns-in_ok-branch_of-in-Sheet-clause-some c =
     let m = match_of _ _ c.in-Ok.found.params _ c.requires c.utf8.target c.in-Ok.ensures.found c.in-Ok.ensures.path in
     let branch = c.in_ok-branch_of-in-Sheet.ensures m.text in
     (m.resource ∙ ap Some c.in-Sheet.is, m.part (codes "branch") ∙ branch.0, branch.1)
+
+pub returns-in_err-article_of-in-Article-clause-none : goal.returns-in_err-article_of-in-Article-clause-none
+returns-in_err-article_of-in-Article-clause-none c =
+    let m = match_of _ _ c.in-Ok.found.params _ c.requires c.utf8.target c.in-Ok.ensures.found c.in-Ok.ensures.path in
+    let none = c.in_err-article_of-in-Article.ensures m.text in
+    if_none _ (no_view _ Article (m.resource ∙ ap Some c.in-Article.is) (λ (code, e, is). none code is (sym (m.part (codes "article")) ∙ e)))
+
+pub returns-in_ok-article_of-in-Article-clause-some : goal.returns-in_ok-article_of-in-Article-clause-some
+returns-in_ok-article_of-in-Article-clause-some c =
+    let m = match_of _ _ c.in-Ok.found.params _ c.requires c.utf8.target c.in-Ok.ensures.found c.in-Ok.ensures.path in
+    let part = c.in_ok-article_of-in-Article.ensures m.text in
+    (m.resource ∙ ap Some c.in-Article.is, m.part (codes "article") ∙ part.0, part.1)
+
+pub returns-in_err-key_of-in-Key-clause-none : goal.returns-in_err-key_of-in-Key-clause-none
+returns-in_err-key_of-in-Key-clause-none c =
+    let m = match_of _ _ c.in-Ok.found.params _ c.requires c.utf8.target c.in-Ok.ensures.found c.in-Ok.ensures.path in
+    let none = c.in_err-key_of-in-Key.ensures m.text in
+    if_none _ (no_view _ Key (m.resource ∙ ap Some c.in-Key.is) (λ (code, e, is). none code is (sym (m.part (codes "key")) ∙ e)))
+
+pub returns-in_ok-key_of-in-Key-clause-some : goal.returns-in_ok-key_of-in-Key-clause-some
+returns-in_ok-key_of-in-Key-clause-some c =
+    let m = match_of _ _ c.in-Ok.found.params _ c.requires c.utf8.target c.in-Ok.ensures.found c.in-Ok.ensures.path in
+    let part = c.in_ok-key_of-in-Key.ensures m.text in
+    (m.resource ∙ ap Some c.in-Key.is, m.part (codes "key") ∙ part.0, part.1)

@@ -1,7 +1,7 @@
 use Rattle.std.proofs.Common.{sym, subst}
-use Rattle.std.specs.Str.{IsAscii}
-use Rattle.web.proofs.Ascii.{article_ascii}
+use Rattle.std.specs.Str.{IsUtf8}
+use Rattle.book.proofs.Texts.{article_utf8}
 use Rattle.web.proofs.word.article_text.Goals as goal
 
-pub ascii_text-requires : goal.ascii_text-requires
-ascii_text-requires c = subst IsAscii (sym c.as_bytes.ensures.value) (article_ascii _ c.as_bytes.ensures.form)
+pub utf8_text-requires : goal.utf8_text-requires
+utf8_text-requires c = subst IsUtf8 (sym c.as_bytes.ensures.value) (article_utf8 _ c.as_bytes.ensures.form)

@@ -1,0 +1,23 @@
+-- Which branches have a field.
+use Rattle.std.specs.Prelude.{◌↔◌, ℕ, Bool, false, if◌then◌else◌, [], ◌∷◌, Contains, List, None, Option, Some, map}
+use Rattle.std.specs.Str.{bytes_eq}
+use Rattle.std.specs.Cmp.Lexicographic.{slice_cmp}
+use Rattle.std.specs.List.Sorted.{IsStrictlySortedBy}
+use Rattle.std.specs.Ordering.{nat_cmp}
+use Rattle.book.specs.Ledger.{Field}
+
+-- each branch at which one of the fields is, once, in the order of their bytes
+pub record AreBranches (fields : List Field) (branches : List (List ℕ)) : Type 0 where
+  pub in_order : IsStrictlySortedBy (slice_cmp nat_cmp) branches
+  pub same : (branch : List ℕ) → Contains branches branch ↔ Contains (map (λ f. f.name.branch) fields) branch
+
+-- ---- how they are listed (private)
+
+-- the branch is the one that stood just before
+abbrev pub is_again : Option (List ℕ) → List ℕ → Bool
+is_again None branch = false
+is_again (Some before) branch = bytes_eq before branch
+
+-- what is listed of it
+abbrev pub listed : Option (List ℕ) → List ℕ → List (List ℕ)
+listed before branch = if is_again before branch then [] else branch ∷ []
