@@ -134,7 +134,8 @@ Stays target pattern path found = (Fits pattern path → Fits found.pattern targ
 
 route_fits : (target : List ℕ) (route : RouteOf Resource) → first routes target ≡ Some route → Fits route.pattern target × (route ≡ route_to route.value)
 route_fits target route e =
-    let left = found_fits (Stays target) byte part all 0 _ target route (each in_order) (ap (λ (rows : RowsOf (RouteOf Resource)). first rows target) (sym routes_are) ∙ e) in
+    let here = ap (λ (rows : RowsOf (RouteOf Resource)). first rows target) (sym routes_are) ∙ e in
+    let left = found_fits (Stays target) byte part all 0 _ target route (each in_order) here in
     (left.0 refl, left.1)
   where
     each : (values : List Resource) → Each (λ pattern found. Stays target pattern target found) (map row values)
@@ -144,7 +145,8 @@ route_fits target route e =
     byte : (b : ℕ) (pattern path : List ℕ) (found : RouteOf Resource) → Stays target (b ∷ pattern) (b ∷ path) found → Stays target pattern path found
     byte b pattern path found h = (λ f. h.0 (fits_byte b pattern path f), h.1)
 
-    part : (b n : ℕ) (pattern path : List ℕ) (found : RouteOf Resource) → Stays target (param_token ∷ pattern) (b ∷ path) found → Stays target pattern (drop n path) found
+    part : (b n : ℕ) (pattern path : List ℕ) (found : RouteOf Resource) → Stays target (param_token ∷ pattern) (b ∷ path) found
+        → Stays target pattern (drop n path) found
     part b n pattern path found h = (λ f. h.0 (suc n, f), h.1)
 
     all : (pattern path : List ℕ) (found : RouteOf Resource) → Stays target (catch_all_token ∷ pattern) path found → Stays target pattern [] found
@@ -184,7 +186,9 @@ fits_target OfField value target ascii h =
     (split.0, split.1, text.1 ∙ ap (λ (rest : List ℕ). codes "/v1/fields/" ++ rest) (rest ∙ split.2), split.3)
 
 -- the route that is found is its resource's, and the target is one of it
-pub routed : (target : List ℕ) (route : RouteOf Resource) → first routes target ≡ Some route → (route ≡ route_to route.value) × IsTarget (shape route.value) target
+pub routed : (target : List ℕ) (route : RouteOf Resource) → first routes target ≡ Some route
+    → (route ≡ route_to route.value) × IsTarget (shape route.value) target
 routed target route e =
     let (fits, one) = route_fits target route e in
-    (one, fits_target (shape route.value) route.value target (ascii_shape route.value) (subst (λ (r : RouteOf Resource). Fits r.pattern target) one fits))
+    let same = subst (λ (r : RouteOf Resource). Fits r.pattern target) one fits in
+    (one, fits_target (shape route.value) route.value target (ascii_shape route.value) same)
