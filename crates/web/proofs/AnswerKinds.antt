@@ -3,10 +3,9 @@ use Rattle.std.proofs.Common.{◌≡◌, ◌≢◌, ◌∙◌, Bool, true, false
 use Rattle.std.specs.List.{AllByRecursion as Each}
 use Rattle.serde_json.proofs.OnLiterals.{serde_json_on_literals}
 use Rattle.serde_json.specs.Data.{Data}
-use Rattle.words.specs.Spelling.{spelling}
 use Rattle.words.specs.declared.reply.Reply.{Reply}
 use Rattle.words.specs.declared.reply.Reply.TheVariants.{Done, Refused}
-use Rattle.book.specs.Ledger.{Field, Kept, Ledger, Order, field_named, kept_under, name_of, order_numbered}
+use Rattle.book.specs.Ledger.{Field, Ledger, field_named, kept_under, name_of, order_numbered}
 use Rattle.files.specs.Sheets.{IsArticleSheet, IsBranchSheet}
 use Rattle.desk.specs.Desk.{Snapshot}
 use Rattle.desk.specs.Dialogue.{AnswerKind, AreAnswers, no_memory, ordinary, stopping}
@@ -16,7 +15,7 @@ use Rattle.web.specs.declared.ask.Ask.{Ask}
 use Rattle.web.specs.declared.ask.Ask.TheVariants as ask
 use Rattle.web.specs.Messages.{Part, unreadable, whole}
 use Rattle.web.specs.Objects.{branches_object, desk_object, kept_object, order_object}
-use Rattle.web.specs.Replies.{AnswersView, Replies, TellsField, TellsText, reply_of_stopped}
+use Rattle.web.specs.Replies.{AnswersView, Replies, TellsField, TellsFound, TellsText, reply_of_stopped}
 
 status_of : (x : Answer) (n : ℕ) (y : Answer) → x ≡ y → y.status ≡ n → x.status ≡ n
 status_of x n y e s = ap (λ (a : Answer). a.status) e ∙ s
@@ -46,10 +45,6 @@ field_other : (A : Ledger) (found : Option Field) (x : Answer) → MatchOption f
 field_other A None x h e = let s = status_of x 404 none_answer h refl in absurd (omega (arith, s, e))
 field_other A (Some f) x (view, shows, h) e = let s = ap (λ (a : Answer). a.status) h in absurd (omega (arith, s, e))
 
-order_other : (found : Option Order) (x : Answer) → MatchOption found (x ≡ none_answer) (λ o. x ≡ json_answer 200 (order_object o)) → x.status ≢ 503
-order_other None x h e = let s = status_of x 404 none_answer h refl in absurd (omega (arith, s, e))
-order_other (Some o) x h e = let s = ap (λ (a : Answer). a.status) h in absurd (omega (arith, s, e))
-
 call_other : (reply : Reply) (x : Answer) → x ≡ reply_answer reply → x.status ≢ 503
 call_other (Done place) x h e = let s = ap (λ (a : Answer). a.status) h in absurd (omega (arith, s, e))
 call_other (Refused refusal line) x h e = let s = ap (λ (a : Answer). a.status) h in absurd (omega (arith, s, e))
@@ -60,18 +55,18 @@ made_other x d h e = let s = status_of x 200 (json_answer 200 d) h refl in absur
 text_other : (IsText : List ℕ → Type 0) (x : Answer) → TellsText IsText x → x.status ≢ 503
 text_other IsText x (text, is, h) e = let s = status_of x 200 (text_answer text) h refl in absurd (omega (arith, s, e))
 
-kept_other : (found : Option Kept) (x : Answer) → MatchOption found (x ≡ none_answer) (λ k. x ≡ json_answer 200 (kept_object (spelling k.command) k.place)) → x.status ≢ 503
-kept_other None x h e = let s = status_of x 404 none_answer h refl in absurd (omega (arith, s, e))
-kept_other (Some k) x h e = made_other x (kept_object (spelling k.command) k.place) h e
+found_other : {X : Type 0} (object : X → Data) (found : Option X) (x : Answer) → TellsFound object found x → x.status ≢ 503
+found_other object None x h e = let s = status_of x 404 none_answer h refl in absurd (omega (arith, s, e))
+found_other object (Some y) x h e = made_other x (object y) h e
 
 view_other : (A : Ledger) (ask : Ask) (x : Answer) → AnswersView A ask x → x.status ≢ 503
 view_other A ask.Desk x h = made_other x (desk_object A) h
 view_other A ask.Branches x (branches, are, h) = made_other x (branches_object branches) h
 view_other A (ask.Field b a) x h = field_other A (field_named A (name_of b a)) x h
-view_other A (ask.Order n) x h = order_other (order_numbered A n) x h
+view_other A (ask.Order n) x h = found_other order_object (order_numbered A n) x h
 view_other A (ask.Sheet b) x h = text_other (IsBranchSheet A b) x h
 view_other A (ask.Article a) x h = text_other (IsArticleSheet A a) x h
-view_other A (ask.Kept key) x h = kept_other (kept_under A key) x h
+view_other A (ask.Kept key) x h = found_other kept_object (kept_under A key) x h
 view_other A ask.BadCall x h = λ e. let s = ap (λ (a : Answer). a.status) h in absurd (omega (arith, s, e))
 view_other A ask.Nothing x h = λ e. let s = ap (λ (a : Answer). a.status) h in absurd (omega (arith, s, e))
 view_other A (ask.Call r) x h = absurd h

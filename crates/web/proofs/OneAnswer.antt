@@ -1,9 +1,9 @@
 -- A part has one answer under its kind.
 use Rattle.std.proofs.Common.{◌≡◌, ◌∙◌, Bool, true, false, ℕ, List, [], ◌∷◌, Option, Some, None, MatchOption, MatchBool, ap, refl, subst, sym}
 use Rattle.std.specs.Str.{bytes_eq}
-use Rattle.words.specs.Spelling.{spelling}
+use Rattle.serde_json.specs.Data.{Data}
 use Rattle.book.proofs.Runs.{answered_once}
-use Rattle.book.specs.Ledger.{Field, Kept, Ledger, Name, Order, field_named, kept_under, name_of, order_numbered}
+use Rattle.book.specs.Ledger.{Field, Ledger, Name, field_named, kept_under, name_of, order_numbered}
 use Rattle.book.specs.declared.book.views.FieldView.{FieldView}
 use Rattle.desk.specs.Desk.{Snapshot}
 use Rattle.desk.specs.Dialogue.{AnswerKind, AreAnswers, IsTranscript, no_memory, ordinary, stopping, text_of}
@@ -13,7 +13,7 @@ use Rattle.web.specs.declared.ask.Ask.{Ask}
 use Rattle.web.specs.declared.ask.Ask.TheVariants as ask
 use Rattle.web.specs.Messages.{Part, unreadable, whole}
 use Rattle.web.specs.Objects.{branches_object, field_object, kept_object, order_object}
-use Rattle.web.specs.Replies.{AnswersView, Replies, TellsField, TellsText, reply_of_stopped}
+use Rattle.web.specs.Replies.{AnswersView, Replies, TellsBranches, TellsField, TellsFound, TellsText, reply_of_stopped}
 use Rattle.files.specs.Sheets.{IsSheet}
 use Rattle.files.proofs.OneSheet.{one_sheet, view_one}
 use Rattle.web.proofs.FieldBranches.{one_list}
@@ -24,25 +24,25 @@ field_one : (A : Ledger) (found : Option Field) (x y : Answer) → MatchOption f
 field_one A None x y h k = h ∙ sym k
 field_one A (Some f) x y (v, shows, e) (w, also, g) = e ∙ ap (λ (view : FieldView). json_answer 200 (field_object view)) (view_one A f v w shows also) ∙ sym g
 
-order_one : (found : Option Order) (x y : Answer) → MatchOption found (x ≡ none_answer) (λ o. x ≡ json_answer 200 (order_object o)) → MatchOption found (y ≡ none_answer) (λ o. y ≡ json_answer 200 (order_object o)) → x ≡ y
-order_one None x y h k = h ∙ sym k
-order_one (Some o) x y h k = h ∙ sym k
+found_one : {X : Type 0} (object : X → Data) (found : Option X) (x y : Answer) → TellsFound object found x → TellsFound object found y → x ≡ y
+found_one object None x y h k = h ∙ sym k
+found_one object (Some z) x y h k = h ∙ sym k
 
-sheet_one : (is_shown : Name → Bool) (title : FieldView → List ℕ) (A : Ledger) (x y : Answer) → TellsText (IsSheet is_shown title A) x → TellsText (IsSheet is_shown title A) y → x ≡ y
+branches_one : (A : Ledger) (x y : Answer) → TellsBranches A x → TellsBranches A y → x ≡ y
+branches_one A x y (branches, are, e) (others, also, f) =
+    e ∙ ap (λ (bs : List (List ℕ)). json_answer 200 (branches_object bs)) (one_list A.fields branches others are also) ∙ sym f
+
+sheet_one : (is_shown : Name → Bool) (title : FieldView → List ℕ) (A : Ledger) (x y : Answer)
+    → TellsText (IsSheet is_shown title A) x → TellsText (IsSheet is_shown title A) y → x ≡ y
 sheet_one is_shown title A x y (text, sheet, e) (other, also, f) = e ∙ ap text_answer (one_sheet is_shown title A text other sheet also) ∙ sym f
 
-kept_one : (found : Option Kept) (x y : Answer) → MatchOption found (x ≡ none_answer) (λ k. x ≡ json_answer 200 (kept_object (spelling k.command) k.place))
-    → MatchOption found (y ≡ none_answer) (λ k. y ≡ json_answer 200 (kept_object (spelling k.command) k.place)) → x ≡ y
-kept_one None x y h k = h ∙ sym k
-kept_one (Some kept) x y h k = h ∙ sym k
-
 view_answered_once : (A : Ledger) (ask : Ask) (x y : Answer) → AnswersView A ask x → AnswersView A ask y → x ≡ y
-view_answered_once A ask.Branches x y (branches, are, e) (others, also, f) = e ∙ ap (λ (bs : List (List ℕ)). json_answer 200 (branches_object bs)) (one_list A.fields branches others are also) ∙ sym f
+view_answered_once A ask.Branches x y h k = branches_one A x y h k
 view_answered_once A (ask.Field b a) x y h k = field_one A (field_named A (name_of b a)) x y h k
-view_answered_once A (ask.Order n) x y h k = order_one (order_numbered A n) x y h k
+view_answered_once A (ask.Order n) x y h k = found_one order_object (order_numbered A n) x y h k
 view_answered_once A (ask.Sheet b) x y h k = sheet_one (λ f. bytes_eq f.branch b) (λ v. v.article) A x y h k
 view_answered_once A (ask.Article a) x y h k = sheet_one (λ f. bytes_eq f.article a) (λ v. v.branch) A x y h k
-view_answered_once A (ask.Kept key) x y h k = kept_one (kept_under A key) x y h k
+view_answered_once A (ask.Kept key) x y h k = found_one kept_object (kept_under A key) x y h k
 view_answered_once A (ask.Call r) x y h k = absurd h
 view_answered_once A ask x y h k = h ∙ sym k
 

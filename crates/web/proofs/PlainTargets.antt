@@ -39,8 +39,13 @@ same_bytes (b ∷ text) = let e : (b == b) ≡ true = grind (arith, nat_tests) i
 named_first : (name part : List ℕ) → named name ((name, part) ∷ []) ≡ Some part
 named_first name part = rw (same_bytes name) refl
 
+-- the target has the route of that shape
+abbrev IsRouteOf : List ℕ → Shape → Resource → Type 0
+IsRouteOf target s value = first routes target ≡ Some (route_of s value)
+
 -- the part behind the path
-before_part : (path name part target : List ℕ) (value : Resource) → IsAsciiText path → target ≡ path ++ part → first routes target ≡ Some (route_of (Before path name) value) → part_of name target ≡ Some part
+before_part : (path name part target : List ℕ) (value : Resource) → IsAsciiText path → target ≡ path ++ part
+    → IsRouteOf target (Before path name) value → part_of name target ≡ Some part
 before_part path name part target value ascii is e =
     part_is name target (route_of (Before path name) value) e
     ∙ ap (λ (t : List ℕ). named name (parts_on t (route_of (Before path name) value))) is
@@ -51,15 +56,19 @@ abbrev IsPlain : Shape → List ℕ → Type 0
 IsPlain (Alone path) target = target ≡ path
 IsPlain (Before path name) target = (part : List ℕ) × (target ≡ path ++ part) × (part_of name target ≡ Some part)
 IsPlain OfField target =
-    (part : List ℕ) × (rest : List ℕ) × (target ≡ codes "/v1/fields/" ++ (part ++ slash ∷ rest)) × (part_of (codes "branch") target ≡ Some part) × (part_of (codes "article") target ≡ Some rest)
+    (part : List ℕ) × (rest : List ℕ) × (target ≡ codes "/v1/fields/" ++ (part ++ slash ∷ rest))
+    × (part_of (codes "branch") target ≡ Some part) × (part_of (codes "article") target ≡ Some rest)
 
-plain_target : (s : Shape) (value : Resource) (target : List ℕ) → IsAsciiShape s → first routes target ≡ Some (route_of s value) → IsTarget s target → IsPlain s target
+plain_target : (s : Shape) (value : Resource) (target : List ℕ) → IsAsciiShape s → IsRouteOf target s value → IsTarget s target → IsPlain s target
 plain_target (Alone path) value target ascii e is = is
 plain_target (Before path name) value target ascii e (part, is) = (part, is, before_part path name part target value ascii.0 is e)
 plain_target OfField value target ascii e (part, rest, is, plain) =
-    let parts : parts_on target (route_of OfField value) ≡ (codes "branch", part) ∷ ((codes "article", rest) ∷ []) =
-    ap (λ (t : List ℕ). parts_on t (route_of OfField value)) is ∙ field_parts part rest value plain in
-    (part, rest, is, part_is (codes "branch") target (route_of OfField value) e ∙ ap (named (codes "branch")) parts, part_is (codes "article") target (route_of OfField value) e ∙ ap (named (codes "article")) parts)
+    let route = route_of OfField value in
+    let parts : parts_on target route ≡ (codes "branch", part) ∷ ((codes "article", rest) ∷ []) =
+    ap (λ (t : List ℕ). parts_on t route) is ∙ field_parts part rest value plain in
+    let branch = part_is (codes "branch") target route e ∙ ap (named (codes "branch")) parts in
+    let article = part_is (codes "article") target route e ∙ ap (named (codes "article")) parts in
+    (part, rest, is, branch, article)
 
 -- a target with a resource is one of the resource's route
 plain_of : (target : List ℕ) (value : Resource) → resource_of target ≡ Some value → IsPlain (shape value) target
@@ -70,7 +79,8 @@ plain_of target value h = by (first routes target) refl
     by (Some route) e =
         let is : route.value ≡ value = let found = rw e at h in cc found in
         let (one, fits) = routed target route e in
-        subst (λ (r : Resource). IsPlain (shape r) target) is (plain_target (shape route.value) route.value target (ascii_shape route.value) (e ∙ ap Some one) fits)
+        let plain = plain_target (shape route.value) route.value target (ascii_shape route.value) (e ∙ ap Some one) fits in
+        subst (λ (r : Resource). IsPlain (shape r) target) is plain
 
 -- ---- codes and numbers are parts
 
@@ -134,10 +144,14 @@ view_said m (ask.Field branch article) get h =
     let a : plain.0 ≡ branch = same plain.3 h.1 in
     let b : plain.1 ≡ article = same plain.4 h.2 in
     ((get, plain.2 ∙ cc (a, b) ∙ sym (field_text branch article)), h.3, h.4)
-view_said m (ask.Order n) get h = ((get, text_of (codes "/v1/orders/") (codes "number") m.head.target (decimal n) (plain_of m.head.target Order h.0) h.1), h.2)
-view_said m (ask.Sheet branch) get h = ((get, text_of (codes "/v1/sheets/") (codes "branch") m.head.target branch (plain_of m.head.target Sheet h.0) h.1), h.2)
-view_said m (ask.Article article) get h = ((get, text_of (codes "/v1/articles/") (codes "article") m.head.target article (plain_of m.head.target Article h.0) h.1), h.2)
-view_said m (ask.Kept key) get h = ((get, text_of (codes "/v1/keys/") (codes "key") m.head.target key (plain_of m.head.target Key h.0) h.1), h.2)
+view_said m (ask.Order n) get h =
+    ((get, text_of (codes "/v1/orders/") (codes "number") m.head.target (decimal n) (plain_of m.head.target Order h.0) h.1), h.2)
+view_said m (ask.Sheet branch) get h =
+    ((get, text_of (codes "/v1/sheets/") (codes "branch") m.head.target branch (plain_of m.head.target Sheet h.0) h.1), h.2)
+view_said m (ask.Article article) get h =
+    ((get, text_of (codes "/v1/articles/") (codes "article") m.head.target article (plain_of m.head.target Article h.0) h.1), h.2)
+view_said m (ask.Kept key) get h =
+    ((get, text_of (codes "/v1/keys/") (codes "key") m.head.target key (plain_of m.head.target Key h.0) h.1), h.2)
 view_said m (ask.Call r) get h = absurd h
 view_said m ask.BadCall get h = absurd h
 view_said m ask.Nothing get h = absurd h
@@ -150,14 +164,15 @@ said m a (inl (post, h, none)) = absurd none
 said m a (inr (get, h)) = view_said m a get h
 
 -- a path alone leads to its resource
-alone_read : (path target : List ℕ) (value : Resource) → first routes path ≡ Some (route_of (Alone path) value) → target ≡ path → resource_of target ≡ Some value
-alone_read path target value found is = subst (λ (t : List ℕ). resource_of t ≡ Some value) (sym is) (resource_is path (route_of (Alone path) value) found)
+alone_read : (path target : List ℕ) (value : Resource) → IsRouteOf path (Alone path) value → target ≡ path → resource_of target ≡ Some value
+alone_read path target value found is =
+    subst (λ (t : List ℕ). resource_of t ≡ Some value) (sym is) (resource_is path (route_of (Alone path) value) found)
 
 -- a path and a part behind it lead to the path's resource, with the part
-before_read : (path name target part : List ℕ) (value : Resource) → IsAsciiText path → first routes (path ++ part) ≡ Some (route_of (Before path name) value) → target ≡ path ++ part
-    → (resource_of target ≡ Some value) × (part_of name target ≡ Some part)
+before_read : (path name target part : List ℕ) (value : Resource) → IsAsciiText path → IsRouteOf (path ++ part) (Before path name) value
+    → target ≡ path ++ part → (resource_of target ≡ Some value) × (part_of name target ≡ Some part)
 before_read path name target part value ascii found is =
-    let e : first routes target ≡ Some (route_of (Before path name) value) = ap (first routes) is ∙ found in
+    let e : IsRouteOf target (Before path name) value = ap (first routes) is ∙ found in
     (resource_is target (route_of (Before path name) value) e, before_part path name part target value ascii is e)
 
 -- what is said is read
@@ -174,15 +189,19 @@ is_read m (ask.Field branch article) ((get, e), is_branch, is_article) =
     let view : IsView target (ask.Field branch article) = (resource_is target (route_to Field) found, plain.3, plain.4, is_branch, is_article) in
     inr (get, subst (λ (t : List ℕ). IsView t (ask.Field branch article)) (sym (e ∙ field_text branch article)) view)
 is_read m (ask.Order n) ((get, e), h) =
-    let (to, part) = before_read (codes "/v1/orders/") (codes "number") m.head.target (decimal n) Order refl (is_found Order (decimal n) (number_part n h)) e in
+    let found = is_found Order (decimal n) (number_part n h) in
+    let (to, part) = before_read (codes "/v1/orders/") (codes "number") m.head.target (decimal n) Order refl found e in
     inr (get, (to, part, h))
 is_read m (ask.Sheet branch) ((get, e), h) =
-    let (to, part) = before_read (codes "/v1/sheets/") (codes "branch") m.head.target branch Sheet refl (is_found Sheet branch (branch_part branch h)) e in
+    let found = is_found Sheet branch (branch_part branch h) in
+    let (to, part) = before_read (codes "/v1/sheets/") (codes "branch") m.head.target branch Sheet refl found e in
     inr (get, (to, part, h))
 is_read m (ask.Article article) ((get, e), h) =
-    let (to, part) = before_read (codes "/v1/articles/") (codes "article") m.head.target article Article refl (is_found Article article (article_part article h)) e in
+    let found = is_found Article article (article_part article h) in
+    let (to, part) = before_read (codes "/v1/articles/") (codes "article") m.head.target article Article refl found e in
     inr (get, (to, part, h))
 is_read m (ask.Kept key) ((get, e), h) =
-    let (to, part) = before_read (codes "/v1/keys/") (codes "key") m.head.target key Key refl (is_found Key key (key_part key h)) e in
+    let found = is_found Key key (key_part key h) in
+    let (to, part) = before_read (codes "/v1/keys/") (codes "key") m.head.target key Key refl found e in
     inr (get, (to, part, h))
 is_read m ask.Nothing h = absurd h

@@ -1,5 +1,5 @@
 -- The routes as they stand, and the targets that each is found for.
-use Rattle.std.proofs.Common.{◌≡◌, ◌∙◌, ◌+◌, ℕ, suc, List, [], ◌∷◌, ◌++◌, drop, length, Some, true, false, cond, ap, append-nil, arith, codes, inl, inr, ltb, refl, subst, sym, ◌==◌}
+use Rattle.std.proofs.Common.{◌≡◌, ◌∙◌, ◌+◌, ℕ, suc, List, [], ◌∷◌, ◌++◌, drop, length, map, Some, true, false, cond, ap, append-nil, arith, codes, inl, inr, ltb, refl, subst, sym, ◌==◌}
 use Rattle.std.proofs.lemmas.Bool.{cases_Bool}
 use Rattle.std.proofs.lemmas.Bool.Decides.{nat_tests}
 use Rattle.std.proofs.lemmas.List.{take-append-drop}
@@ -58,8 +58,12 @@ route_to value = route_of (shape value) value
 abbrev row : Resource → List ℕ × RouteOf Resource
 row value = ((route_to value).pattern, route_to value)
 
+-- in the order of their rows
+abbrev in_order : List Resource
+in_order = Article ∷ Branches ∷ Commands ∷ Desk ∷ Field ∷ Key ∷ Order ∷ Sheet ∷ []
+
 abbrev pub table : RowsOf (RouteOf Resource)
-table = row Article ∷ row Branches ∷ row Commands ∷ row Desk ∷ row Field ∷ row Key ∷ row Order ∷ row Sheet ∷ []
+table = map row in_order
 
 pub routes_are : routes ≡ table
 unfolding matchit_on_literals
@@ -130,19 +134,19 @@ Stays target pattern path found = (Fits pattern path → Fits found.pattern targ
 
 route_fits : (target : List ℕ) (route : RouteOf Resource) → first routes target ≡ Some route → Fits route.pattern target × (route ≡ route_to route.value)
 route_fits target route e =
-    let left = found_fits (Stays target) byte part all 0 _ target route each (ap (λ (rows : RowsOf (RouteOf Resource)). first rows target) (sym routes_are) ∙ e) in
+    let here = ap (λ (rows : RowsOf (RouteOf Resource)). first rows target) (sym routes_are) ∙ e in
+    let left = found_fits (Stays target) byte part all 0 _ target route (each in_order) here in
     (left.0 refl, left.1)
   where
-    one : (value : Resource) → Stays target (route_to value).pattern target (route_to value)
-    one value = (λ h. h, refl)
-
-    each : Each (λ pattern found. Stays target pattern target found) table
-    each = (one Article, (one Branches, (one Commands, (one Desk, (one Field, (one Key, (one Order, (one Sheet, tt))))))))
+    each : (values : List Resource) → Each (λ pattern found. Stays target pattern target found) (map row values)
+    each [] = tt
+    each (value ∷ values) = ((λ h. h, refl), each values)
 
     byte : (b : ℕ) (pattern path : List ℕ) (found : RouteOf Resource) → Stays target (b ∷ pattern) (b ∷ path) found → Stays target pattern path found
     byte b pattern path found h = (λ f. h.0 (fits_byte b pattern path f), h.1)
 
-    part : (b n : ℕ) (pattern path : List ℕ) (found : RouteOf Resource) → Stays target (param_token ∷ pattern) (b ∷ path) found → Stays target pattern (drop n path) found
+    part : (b n : ℕ) (pattern path : List ℕ) (found : RouteOf Resource) → Stays target (param_token ∷ pattern) (b ∷ path) found
+        → Stays target pattern (drop n path) found
     part b n pattern path found h = (λ f. h.0 (suc n, f), h.1)
 
     all : (pattern path : List ℕ) (found : RouteOf Resource) → Stays target (catch_all_token ∷ pattern) path found → Stays target pattern [] found
@@ -182,7 +186,9 @@ fits_target OfField value target ascii h =
     (split.0, split.1, text.1 ∙ ap (λ (rest : List ℕ). codes "/v1/fields/" ++ rest) (rest ∙ split.2), split.3)
 
 -- the route that is found is its resource's, and the target is one of it
-pub routed : (target : List ℕ) (route : RouteOf Resource) → first routes target ≡ Some route → (route ≡ route_to route.value) × IsTarget (shape route.value) target
+pub routed : (target : List ℕ) (route : RouteOf Resource) → first routes target ≡ Some route
+    → (route ≡ route_to route.value) × IsTarget (shape route.value) target
 routed target route e =
     let (fits, one) = route_fits target route e in
-    (one, fits_target (shape route.value) route.value target (ascii_shape route.value) (subst (λ (r : RouteOf Resource). Fits r.pattern target) one fits))
+    let same = subst (λ (r : RouteOf Resource). Fits r.pattern target) one fits in
+    (one, fits_target (shape route.value) route.value target (ascii_shape route.value) same)

@@ -2,12 +2,12 @@
 use Rattle.std.proofs.Common.{◌≡◌, Bool, true, false, ℕ, List, [], ◌∷◌, Option, Some, None, MatchOption, refl, subst, sym}
 use Rattle.std.specs.List.{AllByRecursion as Each}
 use Rattle.std.specs.Str.{bytes_eq}
-use Rattle.words.specs.Spelling.{spelling}
+use Rattle.serde_json.specs.Data.{Data}
 use Rattle.book.proofs.Goodness.{good_answer}
 use Rattle.book.proofs.Runs.{answered_if_good}
 use Rattle.book.proofs.ShownNumbers.{Contains-of_find}
 use Rattle.book.specs.Good.{Good}
-use Rattle.book.specs.Ledger.{Field, Kept, Ledger, Order, field_named, kept_under, name_of, order_numbered, same_name}
+use Rattle.book.specs.Ledger.{Field, Ledger, Name, field_named, kept_under, name_of, order_numbered, same_name}
 use Rattle.desk.specs.Desk.{DeskState, Snapshot, snapshot}
 use Rattle.desk.specs.Dialogue.{AnswerKind, AreAnswers, BeginsTranscript, EndsCut, IsTranscript, ordinary, text_of}
 use Rattle.desk.specs.Streams.{Streams}
@@ -20,7 +20,9 @@ use Rattle.web.specs.declared.ask.Ask.{Ask}
 use Rattle.web.specs.declared.ask.Ask.TheVariants as ask
 use Rattle.web.specs.Messages.{Message, Part, unreadable, whole}
 use Rattle.web.specs.Objects.{field_object, kept_object, order_object}
-use Rattle.web.specs.Replies.{Replies, TellsField, reply_of_stopped}
+use Rattle.web.specs.Replies.{Replies, TellsField, TellsFound, TellsText, reply_of_stopped}
+use Rattle.files.specs.Sheets.{IsSheet}
+use Rattle.book.specs.declared.book.views.FieldView.{FieldView}
 use Rattle.files.proofs.OneSheet.{some_sheet, view_of}
 use Rattle.web.proofs.FieldBranches.{are_branches, branches_at, once}
 use Rattle.web.proofs.SomeAsk.{some_ask}
@@ -34,22 +36,21 @@ field_told A b a g (Some f) e =
     let shown = view_of A f g (Contains-of_find (λ k. same_name (name_of b a) k.name) A.fields f e) in
     (json_answer 200 (field_object shown.0), (shown.0, shown.1, refl))
 
-order_told : (found : Option Order) → (answer : Answer) × MatchOption found (answer ≡ none_answer) (λ o. answer ≡ json_answer 200 (order_object o))
-order_told None = (none_answer, refl)
-order_told (Some o) = (json_answer 200 (order_object o), refl)
+found_told : {X : Type 0} (object : X → Data) (found : Option X) → (answer : Answer) × TellsFound object found answer
+found_told object None = (none_answer, refl)
+found_told object (Some x) = (json_answer 200 (object x), refl)
 
-kept_told : (found : Option Kept) → (answer : Answer) × MatchOption found (answer ≡ none_answer) (λ k. answer ≡ json_answer 200 (kept_object (spelling k.command) k.place))
-kept_told None = (none_answer, refl)
-kept_told (Some k) = (json_answer 200 (kept_object (spelling k.command) k.place), refl)
+sheet_told : (is_shown : Name → Bool) (title : FieldView → List ℕ) (A : Ledger) → Good A → (answer : Answer) × TellsText (IsSheet is_shown title A) answer
+sheet_told is_shown title A g = let (text, sheet) = some_sheet is_shown title A g in (text_answer text, (text, sheet, refl))
 
 some_reply : (A : Ledger) (ask : Ask) → Good A → (answer : Answer) × (B : Ledger) × Replies A ask answer B
 some_reply A (ask.Call r) g = let answer = answered_if_good A r g in (reply_answer answer.0, answer.1, (answer.0, answer.2, refl))
 some_reply A ask.Branches g = (_, A, ((once None (branches_at A.fields), are_branches A.fields g.fields_in_order, refl), refl))
 some_reply A (ask.Field b a) g = let told = field_told A b a g (field_named A (name_of b a)) refl in (told.0, A, (told.1, refl))
-some_reply A (ask.Order n) g = let told = order_told (order_numbered A n) in (told.0, A, (told.1, refl))
-some_reply A (ask.Sheet b) g = let text = some_sheet (λ f. bytes_eq f.branch b) (λ v. v.article) A g in (text_answer text.0, A, ((text.0, text.1, refl), refl))
-some_reply A (ask.Article a) g = let text = some_sheet (λ f. bytes_eq f.article a) (λ v. v.branch) A g in (text_answer text.0, A, ((text.0, text.1, refl), refl))
-some_reply A (ask.Kept key) g = let told = kept_told (kept_under A key) in (told.0, A, (told.1, refl))
+some_reply A (ask.Order n) g = let told = found_told order_object (order_numbered A n) in (told.0, A, (told.1, refl))
+some_reply A (ask.Sheet b) g = let told = sheet_told (λ f. bytes_eq f.branch b) (λ v. v.article) A g in (told.0, A, (told.1, refl))
+some_reply A (ask.Article a) g = let told = sheet_told (λ f. bytes_eq f.article a) (λ v. v.branch) A g in (told.0, A, (told.1, refl))
+some_reply A (ask.Kept key) g = let told = found_told kept_object (kept_under A key) in (told.0, A, (told.1, refl))
 some_reply A ask g = (_, A, (refl, refl))
 
 -- a good ledger stays good

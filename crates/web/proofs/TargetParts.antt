@@ -6,6 +6,7 @@ use Rattle.std.proofs.lemmas.List.{drop_at, length-drop, take_at}
 use Rattle.std.proofs.Math.Seq.{drop-append-add, take-length}
 use Rattle.matchit.specs.Params.{after_token, part_of, walk, wild_from, wild_stop}
 use Rattle.matchit.specs.Route.{close_brace, open_brace}
+use Rattle.matchit.specs.Router.{RouteOf}
 use Rattle.matchit.specs.Rows.{param_token}
 use Rattle.matchit.specs.Seek.{has_slash, segment, slash}
 use Rattle.web.specs.Routes.{parts_on}
@@ -65,8 +66,22 @@ no_third false b x y = refl
 wild_last : (pattern path : List ℕ) (token at : ℕ) → ltb (token + 1) (length pattern) ≡ false → wild_stop pattern token path at ≡ length path
 wild_last pattern path token at last = rw last (no_third (ltb token (length pattern)) (get_or pattern token 0 == param_token) _ (length path))
 
-pub before_parts : (path name part : List ℕ) (value : Resource) → IsAsciiText path → parts_on (path ++ part) (route_of (Before path name) value) ≡ (name, part) ∷ []
-before_parts path name part value ascii = step ∙ ap (λ (n : List ℕ). (n, part) ∷ []) named
+-- the parameter's name in the text
+name_is : (path name : List ℕ) → part_of (path ++ open_brace ∷ (name ++ close_brace ∷ [])) (length path + 1) (length path + 1 + length name) ≡ name
+name_is path name =
+    let behind = open_brace ∷ (name ++ close_brace ∷ []) in
+    let long = length-append path behind in
+    let more = length-append name (close_brace ∷ []) in
+    part_is (path ++ behind) name (close_brace ∷ []) (length path + 1) (length path + 1 + length name) (drop-append-add path behind 1) refl (omega arith)
+
+pub before_parts : (path name part : List ℕ) (value : Resource) → IsAsciiText path
+    → parts_on (path ++ part) (route_of (Before path name) value) ≡ (name, part) ∷ []
+before_parts path name part value ascii =
+    let route = route_of (Before path name) value in
+    let place : ℕ × ℕ = (length path + 1, length path + 1 + length name) in
+    step_is route.pattern route.text (path ++ part) place [] 0 0 (length path) (length path) (length (path ++ part)) (after_token (length path)) part
+    found ends refl (rest_is (path ++ part) part (length path) (drop_at path part (length path) refl) (omega (arith, size)))
+    ∙ ap (λ (n : List ℕ). (n, part) ∷ []) (name_is path name)
   where
     size : length (path ++ part) ≡ length path + length part
     size = length-append path part
@@ -81,42 +96,45 @@ before_parts path name part value ascii = step ∙ ap (λ (n : List ℕ). (n, pa
         let long = length-append path (param_token ∷ []) in
         wild_last (path ++ param_token ∷ []) (path ++ part) (length path) (length path) (grind (arith, nat_tests))
 
-    named : part_of (path ++ open_brace ∷ (name ++ close_brace ∷ [])) (length path + 1) (length path + 1 + length name) ≡ name
-    named =
-        let long = length-append path (open_brace ∷ (name ++ close_brace ∷ [])) in
-        let more = length-append name (close_brace ∷ []) in
-        part_is (path ++ open_brace ∷ (name ++ close_brace ∷ [])) name (close_brace ∷ []) (length path + 1) (length path + 1 + length name)
-        (drop-append-add path (open_brace ∷ (name ++ close_brace ∷ [])) 1) refl (omega arith)
-
-    step : parts_on (path ++ part) (route_of (Before path name) value) ≡ (part_of (path ++ open_brace ∷ (name ++ close_brace ∷ [])) (length path + 1) (length path + 1 + length name), part) ∷ []
-    step = step_is (path ++ param_token ∷ []) (path ++ open_brace ∷ (name ++ close_brace ∷ [])) (path ++ part) (length path + 1, length path + 1 + length name) [] 0 0
-        (length path) (length path) (length (path ++ part)) (after_token (length path)) part found ends refl
-        (rest_is (path ++ part) part (length path) (drop_at path part (length path) refl) (omega (arith, size)))
-
 -- ---- the parts of a field
 
+abbrev fields_route : Resource → RouteOf Resource
+fields_route value = route_of OfField value
+
+abbrev field_target : List ℕ → List ℕ → List ℕ
+field_target part rest = codes "/v1/fields/" ++ (part ++ slash ∷ rest)
+
 pub field_parts : (part rest : List ℕ) (value : Resource) → has_slash part ≡ false
-    → parts_on (codes "/v1/fields/" ++ (part ++ slash ∷ rest)) (route_of OfField value) ≡ (codes "branch", part) ∷ ((codes "article", rest) ∷ [])
+    → parts_on (field_target part rest) (fields_route value) ≡ (codes "branch", part) ∷ ((codes "article", rest) ∷ [])
 field_parts part rest value plain = first ∙ ap (λ (parts : List (List ℕ × List ℕ)). (codes "branch", part) ∷ parts) second
   where
-    size : length (codes "/v1/fields/" ++ (part ++ slash ∷ rest)) ≡ 12 + length part + length rest
+    size : length (field_target part rest) ≡ 12 + length part + length rest
     size = omega (arith, length-append (codes "/v1/fields/") (part ++ slash ∷ rest), length-append part (slash ∷ rest))
 
-    behind : drop (11 + length part + 1) (codes "/v1/fields/" ++ (part ++ slash ∷ rest)) ≡ rest
-    behind = ap (λ (bytes : List ℕ). drop (11 + length part + 1) (codes "/v1/fields/" ++ bytes)) (sym (append_assoc part (slash ∷ []) rest))
-        ∙ drop_at (codes "/v1/fields/" ++ (part ++ slash ∷ [])) rest (11 + length part + 1) (omega (arith, length-append (codes "/v1/fields/") (part ++ slash ∷ []), length-append part (slash ∷ [])))
+    behind : drop (11 + length part + 1) (field_target part rest) ≡ rest
+    behind =
+        let front = length-append (codes "/v1/fields/") (part ++ slash ∷ []) in
+        let long = length-append part (slash ∷ []) in
+        ap (λ (bytes : List ℕ). drop (11 + length part + 1) (codes "/v1/fields/" ++ bytes)) (sym (append_assoc part (slash ∷ []) rest))
+        ∙ drop_at (codes "/v1/fields/" ++ (part ++ slash ∷ [])) rest (11 + length part + 1) (omega (arith, front, long))
 
-    ends : wild_stop (route_of OfField value).pattern 11 (codes "/v1/fields/" ++ (part ++ slash ∷ rest)) 11 ≡ 11 + length part
+    ends : wild_stop (fields_route value).pattern 11 (field_target part rest) 11 ≡ 11 + length part
     ends = let long = ap length (segment_is part rest plain) ∙ length-append part (slash ∷ []) in omega (arith, long)
 
-    first : parts_on (codes "/v1/fields/" ++ (part ++ slash ∷ rest)) (route_of OfField value)
-        ≡ (codes "branch", part) ∷ walk (route_of OfField value).pattern (route_of OfField value).text (codes "/v1/fields/" ++ (part ++ slash ∷ rest)) ((21, 28) ∷ []) 12 (11 + length part)
-    first = step_is (route_of OfField value).pattern (route_of OfField value).text (codes "/v1/fields/" ++ (part ++ slash ∷ rest)) (12, 18) ((21, 28) ∷ []) 0 0 11 11 (11 + length part) 12 part
-        (wild_behind (codes "/v1/fields/") (slash ∷ (param_token ∷ [])) (length (codes "/v1/fields/" ++ (part ++ slash ∷ rest))) 0 0 refl (omega (arith, size))) ends refl
-        (part_is (codes "/v1/fields/" ++ (part ++ slash ∷ rest)) part (slash ∷ rest) 11 (11 + length part) refl refl (omega (arith, size)))
+    first : parts_on (field_target part rest) (fields_route value)
+        ≡ (codes "branch", part) ∷ walk (fields_route value).pattern (fields_route value).text (field_target part rest) ((21, 28) ∷ []) 12 (11 + length part)
+    first =
+        let target = field_target part rest in
+        let route = fields_route value in
+        step_is route.pattern route.text target (12, 18) ((21, 28) ∷ []) 0 0 11 11 (11 + length part) 12 part
+        (wild_behind (codes "/v1/fields/") (slash ∷ (param_token ∷ [])) (length target) 0 0 refl (omega (arith, size))) ends refl
+        (part_is target part (slash ∷ rest) 11 (11 + length part) refl refl (omega (arith, size)))
 
-    second : walk (route_of OfField value).pattern (route_of OfField value).text (codes "/v1/fields/" ++ (part ++ slash ∷ rest)) ((21, 28) ∷ []) 12 (11 + length part) ≡ (codes "article", rest) ∷ []
-    second = step_is (route_of OfField value).pattern (route_of OfField value).text (codes "/v1/fields/" ++ (part ++ slash ∷ rest)) (21, 28) [] 12 (11 + length part) 13 (11 + length part + 1)
-        (length (codes "/v1/fields/" ++ (part ++ slash ∷ rest))) 14 rest
-        (wild_behind (slash ∷ []) [] (length (codes "/v1/fields/" ++ (part ++ slash ∷ rest))) 12 (11 + length part) refl (omega (arith, size))) refl refl
-        (rest_is (codes "/v1/fields/" ++ (part ++ slash ∷ rest)) rest (11 + length part + 1) behind (omega (arith, size)))
+    second : walk (fields_route value).pattern (fields_route value).text (field_target part rest) ((21, 28) ∷ []) 12 (11 + length part)
+        ≡ (codes "article", rest) ∷ []
+    second =
+        let target = field_target part rest in
+        let route = fields_route value in
+        step_is route.pattern route.text target (21, 28) [] 12 (11 + length part) 13 (11 + length part + 1) (length target) 14 rest
+        (wild_behind (slash ∷ []) [] (length target) 12 (11 + length part) refl (omega (arith, size))) refl refl
+        (rest_is target rest (11 + length part + 1) behind (omega (arith, size)))

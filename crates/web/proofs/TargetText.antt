@@ -1,5 +1,5 @@
 -- The parts of a target that is text are text.
-use Rattle.std.proofs.Common.{◌≡◌, ◌∙◌, ◌<◌, ◌+◌, ℕ, zero, suc, List, [], ◌∷◌, ◌++◌, Some, true, ap, arith, codes, get_or, inl, inr, length, length-append, ltb, refl, subst, sym}
+use Rattle.std.proofs.Common.{◌≡◌, ◌∙◌, ◌<◌, ◌+◌, ℕ, zero, suc, List, [], ◌∷◌, ◌++◌, Some, ap, arith, codes, get_or, inl, inr, length, length-append, ltb, refl, subst, sym}
 use Rattle.std.proofs.lemmas.Bool.{cases_Bool, ltb-true}
 use Rattle.std.proofs.lemmas.List.{take_at}
 use Rattle.std.proofs.Math.Seq.{drop-append-add}
@@ -50,20 +50,23 @@ behind_ascii (b ∷ path) rest ascii text =
     let one = IsUtf8-drop (b ∷ (path ++ rest)) 1 text (IsCharBoundary-after_ascii (b ∷ (path ++ rest)) 0 text (omega arith) small) in
     behind_ascii path rest (λ i. ascii (suc i)) one
 
-parts_text : (s : Shape) (value : Resource) (target : List ℕ) → IsAsciiShape s → IsTarget s target → IsUtf8 target → AllText (parts_on target (route_of s value))
+parts_text : (s : Shape) (value : Resource) (target : List ℕ) → IsAsciiShape s → IsTarget s target → IsUtf8 target
+    → AllText (parts_on target (route_of s value))
 parts_text (Alone path) value target ascii is text = tt
 parts_text (Before path name) value target ascii (part, is) text =
     subst AllText (sym (ap (λ (t : List ℕ). parts_on t (route_of (Before path name) value)) is ∙ before_parts path name part value ascii.0))
     (name_text name ascii.1, behind_ascii path part (is_ascii path ascii.0) (subst IsUtf8 is text), tt)
 parts_text OfField value target ascii (part, rest, is, plain) text =
-    let both = beside_slash part rest (behind_ascii (codes "/v1/fields/") (part ++ slash ∷ rest) (is_ascii (codes "/v1/fields/") refl) (subst IsUtf8 is text)) in
+    let behind = behind_ascii (codes "/v1/fields/") (part ++ slash ∷ rest) (is_ascii (codes "/v1/fields/") refl) (subst IsUtf8 is text) in
+    let both = beside_slash part rest behind in
     subst AllText (sym (ap (λ (t : List ℕ). parts_on t (route_of OfField value)) is ∙ field_parts part rest value plain))
     (name_text (codes "branch") refl, both.0, (name_text (codes "article") refl, both.1, tt))
 
 pub all_text : (target : List ℕ) (route : RouteOf Resource) → IsUtf8 target → first routes target ≡ Some route → AllText (parts_on target route)
 all_text target route text e =
     let (one, is) = routed target route e in
-    subst (λ (r : RouteOf Resource). AllText (parts_on target r)) (sym one) (parts_text (shape route.value) route.value target (ascii_shape route.value) is text)
+    let parts = parts_text (shape route.value) route.value target (ascii_shape route.value) is text in
+    subst (λ (r : RouteOf Resource). AllText (parts_on target r)) (sym one) parts
 
 -- what a match of the target took
 pub record IsMatch (target : List ℕ) (params : Params) (value : Resource) : Type 0 where

@@ -2,7 +2,6 @@
 use Rattle.std.specs.Prelude.{◌≡◌, ℕ, false, true, List, [], ◌∷◌, ◌++◌, codes}
 use Rattle.escrow.specs.declared.quantity.Way.{Way}
 use Rattle.escrow.specs.declared.quantity.Way.TheVariants.{Add, Take}
-use Rattle.words.specs.Spelling.{spelling}
 use Rattle.words.specs.declared.command.Command.TheVariants.{Firm}
 use Rattle.words.specs.declared.reply.Refusal.TheVariants.{TooLittle}
 use Rattle.words.specs.declared.reply.Reply.TheVariants.{Done, Refused}
@@ -102,7 +101,7 @@ pub record WorkedAnswers : Type 0 where
       (codes "{\"clock\":5,\"fields\":1,\"open\":1,\"orders\":3,\"places\":1}")
   pub branches : IsBytes (json_answer 200 (branches_object (codes "N1" ∷ codes "N2" ∷ []))) (codes "HTTP/1.1 200 OK")
       (codes "24") (codes "{\"branches\":[\"N1\",\"N2\"]}")
-  pub kept : IsBytes (json_answer 200 (kept_object (spelling made_firm.command) made_firm.place)) (codes "HTTP/1.1 200 OK")
+  pub kept : IsBytes (json_answer 200 (kept_object made_firm)) (codes "HTTP/1.1 200 OK")
       (codes "30") (codes "{\"command\":\"firm 7\",\"place\":1}")
   pub text : IsBytesOf (text_answer (codes "total\n")) (codes "HTTP/1.1 200 OK") (codes "text/plain") (codes "6")
       (codes "total\n")

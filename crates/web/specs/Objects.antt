@@ -3,9 +3,10 @@ use Rattle.std.specs.Prelude.{ℕ, List, [], ◌∷◌, codes, length, map}
 use Rattle.serde_json.specs.Data.{Data, Members, array, member, no_members, number, object, string, unsigned}
 use Rattle.serde_json.specs.View.{items_of}
 use Rattle.words.specs.OpenLines.{way_word}
+use Rattle.words.specs.Spelling.{spelling}
 use Rattle.words.specs.Replies.{refusal_code, refusal_name}
 use Rattle.words.specs.declared.reply.Refusal.{Refusal}
-use Rattle.book.specs.Ledger.{Ledger, Order, open_orders, places, shown_state}
+use Rattle.book.specs.Ledger.{Kept, Ledger, Order, open_orders, places, shown_state}
 use Rattle.book.specs.declared.book.views.FieldView.{FieldView}
 use Rattle.book.specs.declared.book.views.OrderView.{OrderView}
 use Rattle.book.specs.declared.order.Kind.{Kind}
@@ -32,8 +33,11 @@ abbrev pub command_object : List ℕ → List ℕ → Data
 command_object key command = object_of ((codes "command", string command) ∷ (codes "key", string key) ∷ [])
 
 -- {"command":"COMMAND","place":N}
-abbrev pub kept_object : List ℕ → ℕ → Data
-kept_object command place = object_of ((codes "command", string command) ∷ (codes "place", natural place) ∷ [])
+abbrev pub placed_object : List ℕ → ℕ → Data
+placed_object command place = object_of ((codes "command", string command) ∷ (codes "place", natural place) ∷ [])
+
+abbrev pub kept_object : Kept → Data
+kept_object k = placed_object (spelling k.command) k.place
 
 -- {"error":"NAME"}
 abbrev pub error_object : List ℕ → Data

@@ -1,6 +1,6 @@
 -- What is answered to an ask.
-use Rattle.std.specs.Prelude.{◌≡◌, ℕ, List, MatchOption}
-use Rattle.words.specs.Spelling.{spelling}
+use Rattle.std.specs.Prelude.{◌≡◌, ℕ, List, MatchOption, Option}
+use Rattle.serde_json.specs.Data.{Data}
 use Rattle.words.specs.declared.reply.Reply.{Reply}
 use Rattle.book.specs.Answers.{Answers}
 use Rattle.book.specs.Ledger.{Field, Ledger, field_named, kept_under, name_of, order_numbered}
@@ -12,6 +12,10 @@ use Rattle.web.specs.Branches.{AreBranches}
 use Rattle.web.specs.declared.ask.Ask.{Ask}
 use Rattle.web.specs.declared.ask.Ask.TheVariants as ask
 use Rattle.web.specs.Objects.{branches_object, desk_object, field_object, kept_object, order_object}
+
+-- the object of what is found, or that nothing is there
+abbrev pub TellsFound : {X : Type 0} → (X → Data) → Option X → Answer → Type 0
+TellsFound object found answer = MatchOption found (answer ≡ none_answer) (λ x. answer ≡ json_answer 200 (object x))
 
 -- the field's object
 abbrev pub TellsField : Ledger → Field → Answer → Type 0
@@ -32,13 +36,10 @@ AnswersView A ask.Desk answer = answer ≡ json_answer 200 (desk_object A)
 AnswersView A ask.Branches answer = TellsBranches A answer
 AnswersView A (ask.Field branch article) answer =
     MatchOption (field_named A (name_of branch article)) (answer ≡ none_answer) (λ f. TellsField A f answer)
-AnswersView A (ask.Order number) answer =
-    MatchOption (order_numbered A number) (answer ≡ none_answer) (λ o. answer ≡ json_answer 200 (order_object o))
+AnswersView A (ask.Order number) answer = TellsFound order_object (order_numbered A number) answer
 AnswersView A (ask.Sheet branch) answer = TellsText (IsBranchSheet A branch) answer
 AnswersView A (ask.Article article) answer = TellsText (IsArticleSheet A article) answer
-AnswersView A (ask.Kept key) answer =
-    MatchOption (kept_under A key) (answer ≡ none_answer)
-    (λ k. answer ≡ json_answer 200 (kept_object (spelling k.command) k.place))
+AnswersView A (ask.Kept key) answer = TellsFound kept_object (kept_under A key) answer
 AnswersView A ask.BadCall answer = answer ≡ bad_answer
 AnswersView A ask.Nothing answer = answer ≡ none_answer
 AnswersView A (ask.Call request) answer = ⊥

@@ -1,12 +1,14 @@
 -- How a part of a stream is found and answered (private: how a connection is served).
 use Rattle.std.specs.Prelude.{◌≡◌, Bool, false, true, ℕ, List, [], ◌∷◌, ◌++◌, length, suc}
 use Rattle.words.specs.declared.command.Request.{Request}
+use Rattle.book.specs.Ledger.{Ledger}
 use Rattle.desk.specs.Desk.{DeskState, Snapshot}
 use Rattle.desk.specs.Dialogue.{AnswersOne, Begins, bytes_of}
 use Rattle.desk.specs.declared.answer.Answer.{Answer as Text}
 use Rattle.web.specs.Answers.{Answer, answer_bytes}
 use Rattle.web.specs.Asks.{AsksFor}
 use Rattle.web.specs.Messages.{BeginsWith, IsUnreadable, Message, Part, unreadable, whole}
+use Rattle.web.specs.Replies.{AnswersView}
 use Rattle.web.specs.Web.{RepliesAt, http}
 use Rattle.web.specs.declared.ask.Ask.{Ask}
 use Rattle.web.specs.declared.ask.Ask.TheVariants as ask
@@ -17,7 +19,11 @@ use Rattle.web.specs.declared.connection.Asked.TheVariants as asked
 
 -- ---- answers
 
--- what is to be written for an ask that changes nothing
+-- what is to be written for an ask that calls nothing, by the ledger
+abbrev pub ShowsView : Ledger → Ask → Text → Type 0
+ShowsView A a text = (answer : Answer) × AnswersView A a answer × (bytes_of text ≡ answer_bytes answer)
+
+-- and by how the desk stands
 abbrev pub Shows : Snapshot → Ask → Text → Type 0
 Shows at a text = (answer : Answer) × RepliesAt at a answer at × (bytes_of text ≡ answer_bytes answer)
 

@@ -5,7 +5,7 @@ ghost use Rattle.std.specs.Str.{IsUtf8};
 ghost use Rattle.book.specs.Ledger.{Order};
 ghost use Rattle.book.specs.Views.{ShowsOrder};
 ghost use Rattle.web.specs.Answers.{Answer, answer_bytes, header_line, json_answer, json_of, reply_answer, status_line, text_answer};
-ghost use Rattle.web.specs.Objects.{branches_object, desk_object, field_object, kept_object, order_object, place_object, refused_object};
+ghost use Rattle.web.specs.Objects.{branches_object, desk_object, field_object, order_object, place_object, placed_object, refused_object};
 
 use crate::objects::{
     branches_json, desk_json, field_json, kept_json, order_json, place_json, refused_json,
@@ -111,7 +111,7 @@ pub fn order_answer(alloc: Global, view: &OrderView) -> Result<Vec<u8>, AllocErr
 pub fn kept_answer(alloc: Global, view: &KeptView) -> Result<Vec<u8>, AllocError>
     requires { IsUtf8 view.now.words.now }
     ensures { IfOk result (λ out. out.items ≡ answer_bytes
-        (json_answer 200 (kept_object view.now.words.now view.now.place))) }
+        (json_answer 200 (placed_object view.now.words.now view.now.place))) }
 {
     json_answer(alloc, StatusCode::OK, &kept_json(alloc, view)?)
 }

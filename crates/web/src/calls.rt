@@ -1,16 +1,17 @@
 //! What is answered to an ask.
 
-ghost use Rattle.std.specs.Prelude.{IfOk};
+ghost use Rattle.std.specs.Prelude.{◌≡◌, IfOk};
 ghost use Rattle.desk.specs.Desk.{Goes, StaysSet, desk_state, snapshot};
+ghost use Rattle.desk.specs.Dialogue.{bytes_of};
+ghost use Rattle.web.specs.Answers.{answer_bytes};
+ghost use Rattle.web.specs.Replies.{reply_of_stopped};
 ghost use Rattle.web.specs.Turns.{IsAnswered, IsNoCall, Shows};
 ghost use Rattle.web.specs.declared.ask.Ask.TheVariants as ask;
 
 use crate::answer::reply_answer;
 use crate::ask::Ask;
 use crate::fixed::Fixed;
-use crate::views::{
-    show_article, show_branches, show_desk, show_field, show_kept, show_order, show_sheet,
-};
+use crate::views::show_view;
 use desk::{Answer, CallFault, Desk, Teller};
 use escrow::Key;
 use keep::Keep;
@@ -52,23 +53,26 @@ fn answer_call<K: Keep>(alloc: Global, desk: &mut Desk<K>, request: &Request) ->
     }
 }
 
+/// The answer of a desk that is stopped.
+fn answer_of_stopped(ask: &Ask) -> Answer
+    ensures { bytes_of result ≡ answer_bytes (reply_of_stopped ask.now) }
+{
+    match ask {
+        Ask::BadCall => Fixed::BadCommand.answer(),
+        Ask::Nothing => Fixed::Nothing.answer(),
+        _ => Fixed::Stopped.answer(),
+    }
+}
+
 /// The answer to an ask that calls nothing.
 fn answer_view<K: Keep>(alloc: Global, desk: &Desk<K>, ask: &Ask) -> Result<Answer, AllocError>
     requires { IsNoCall ask.now }
     ensures { IfOk result (λ answer. Shows (snapshot (desk_state K.Keep desk.now)) ask.now answer) }
 {
-    match ask {
-        Ask::Call(_) => unreachable!(),
-        Ask::BadCall => Ok(Fixed::BadCommand.answer()),
-        Ask::Desk => show_desk(alloc, desk),
-        Ask::Branches => show_branches(alloc, desk),
-        Ask::Field(branch, article) => show_field(alloc, desk, *branch, *article),
-        Ask::Order(number) => show_order(alloc, desk, *number),
-        Ask::Sheet(branch) => show_sheet(alloc, desk, *branch),
-        Ask::Article(article) => show_article(alloc, desk, *article),
-        Ask::Kept(key) => show_kept(alloc, desk, *key),
-        Ask::Nothing => Ok(Fixed::Nothing.answer()),
+    if desk.is_stopped() {
+        return Ok(answer_of_stopped(ask));
     }
+    show_view(alloc, desk.book(), ask)
 }
 
 /// The answer to an ask. Where memory is refused for it, nothing is done.

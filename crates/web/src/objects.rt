@@ -6,7 +6,7 @@ ghost use Rattle.serde_json.specs.View.{view as data_of};
 ghost use Rattle.serde_json.specs.Written.{compact_text};
 ghost use Rattle.book.specs.Ledger.{Order};
 ghost use Rattle.book.specs.Views.{ShowsOrder};
-ghost use Rattle.web.specs.Objects.{branches_object, desk_object, field_object, kept_object, line_object, line_objects, order_object, view_object, place_object, refused_object, texts};
+ghost use Rattle.web.specs.Objects.{branches_object, desk_object, field_object, line_object, line_objects, order_object, view_object, place_object, placed_object, refused_object, texts};
 
 use crate::word::{article_text, branch_text, kind_text, state_text, utf8_text, way_text};
 use book::{Book, FieldView, KeptView, Line, OrderView};
@@ -86,7 +86,7 @@ pub fn field_json(alloc: Global, view: &FieldView) -> Result<Vec<u8>, AllocError
 /// The object of what is kept under a key.
 fn kept_value(alloc: Global, view: &KeptView) -> Result<Value, AllocError>
     requires { IsUtf8 view.now.words.now }
-    ensures { IfOk result (λ value. data_of value ≡ kept_object view.now.words.now view.now.place) }
+    ensures { IfOk result (λ value. data_of value ≡ placed_object view.now.words.now view.now.place) }
 {
     json!(in alloc; {"command": utf8_text(view.words), "place": view.place})
 }
@@ -94,7 +94,7 @@ fn kept_value(alloc: Global, view: &KeptView) -> Result<Value, AllocError>
 /// The text of the object of what is kept under a key.
 pub fn kept_json(alloc: Global, view: &KeptView) -> Result<Vec<u8>, AllocError>
     requires { IsUtf8 view.now.words.now }
-    ensures { IfOk result (λ text. text.items ≡ compact_text (kept_object view.now.words.now view.now.place)) }
+    ensures { IfOk result (λ text. text.items ≡ compact_text (placed_object view.now.words.now view.now.place)) }
 {
     kept_value(alloc, view)?.to_vec(alloc)
 }

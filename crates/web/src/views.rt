@@ -1,122 +1,104 @@
-//! What is answered to a view.
+//! What is shown of a book where a view is asked for.
 
 ghost use Rattle.std.specs.Prelude.{IfOk};
-ghost use Rattle.desk.specs.Desk.{desk_state, snapshot};
-ghost use Rattle.web.specs.Turns.{Shows};
+ghost use Rattle.book.specs.Good.{Good};
+ghost use Rattle.web.specs.Turns.{IsNoCall, ShowsView};
 ghost use Rattle.web.specs.declared.ask.Ask.TheVariants as ask;
 
 use crate::answer::{
     branches_answer, desk_answer, field_answer, kept_answer, order_answer, text_answer,
 };
+use crate::ask::Ask;
 use crate::branches::branches_of;
 use crate::fixed::Fixed;
-use desk::{Answer, Desk};
+use book::Book;
+use desk::Answer;
 use escrow::{Article, Branch, Key, OrderNo};
 use files::{article_sheet, branch_sheet};
-use keep::Keep;
 use std::alloc::{AllocError, Global};
 
-/// The answer to a view of the desk.
-pub fn show_desk<K: Keep>(alloc: Global, desk: &Desk<K>) -> Result<Answer, AllocError>
-    ensures { IfOk result (λ answer. Shows (snapshot (desk_state K.Keep desk.now)) ask.Desk answer) }
+fn show_desk(alloc: Global, book: &Book) -> Result<Answer, AllocError>
+    ensures { IfOk result (λ shown. ShowsView book.now.ledger ask.Desk shown) }
 {
-    if desk.is_stopped() {
-        return Ok(Fixed::Stopped.answer());
-    }
-    Ok(Answer::Made(desk_answer(alloc, desk.book())?))
+    Ok(Answer::Made(desk_answer(alloc, book)?))
 }
 
-/// The answer to a view of the branches.
-pub fn show_branches<K: Keep>(alloc: Global, desk: &Desk<K>) -> Result<Answer, AllocError>
-    ensures { IfOk result (λ answer. Shows (snapshot (desk_state K.Keep desk.now)) ask.Branches answer) }
+fn show_branches(alloc: Global, book: &Book) -> Result<Answer, AllocError>
+    ensures { IfOk result (λ shown. ShowsView book.now.ledger ask.Branches shown) }
 {
-    if desk.is_stopped() {
-        return Ok(Fixed::Stopped.answer());
-    }
-    let branches = branches_of(alloc, desk.book())?;
+    let branches = branches_of(alloc, book)?;
     Ok(Answer::Made(branches_answer(alloc, &branches)?))
 }
 
-/// The answer to a view of a field.
-pub fn show_field<K: Keep>(
+fn show_field(
     alloc: Global,
-    desk: &Desk<K>,
+    book: &Book,
     branch: Branch,
     article: Article,
 ) -> Result<Answer, AllocError>
-    ensures { IfOk result (λ answer. Shows (snapshot (desk_state K.Keep desk.now)) (ask.Field branch article) answer) }
+    ensures { IfOk result (λ shown. ShowsView book.now.ledger (ask.Field branch article) shown) }
 {
-    if desk.is_stopped() {
-        return Ok(Fixed::Stopped.answer());
-    }
-    match desk.field(branch, article) {
+    match book.field(branch, article) {
         Some(view) => Ok(Answer::Made(field_answer(alloc, &view)?)),
         None => Ok(Fixed::Nothing.answer()),
     }
 }
 
-/// The answer to a view of an order.
-pub fn show_order<K: Keep>(
-    alloc: Global,
-    desk: &Desk<K>,
-    number: OrderNo,
-) -> Result<Answer, AllocError>
-    ensures { IfOk result (λ answer. Shows (snapshot (desk_state K.Keep desk.now)) (ask.Order number) answer) }
+fn show_order(alloc: Global, book: &Book, number: OrderNo) -> Result<Answer, AllocError>
+    ensures { IfOk result (λ shown. ShowsView book.now.ledger (ask.Order number) shown) }
 {
-    if desk.is_stopped() {
-        return Ok(Fixed::Stopped.answer());
-    }
-    match desk.order(number) {
+    match book.order(number) {
         Some(view) => Ok(Answer::Made(order_answer(alloc, &view)?)),
         None => Ok(Fixed::Nothing.answer()),
     }
 }
 
-/// The answer to a view of a branch's sheet.
-pub fn show_sheet<K: Keep>(
-    alloc: Global,
-    desk: &Desk<K>,
-    branch: Branch,
-) -> Result<Answer, AllocError>
-    ensures { IfOk result (λ answer. Shows (snapshot (desk_state K.Keep desk.now)) (ask.Sheet branch) answer) }
+fn show_sheet(alloc: Global, book: &Book, branch: Branch) -> Result<Answer, AllocError>
+    ensures { IfOk result (λ shown. ShowsView book.now.ledger (ask.Sheet branch) shown) }
 {
-    if desk.is_stopped() {
-        return Ok(Fixed::Stopped.answer());
-    }
     let mut text = Vec::new(alloc);
-    match branch_sheet(alloc, desk.book(), branch, &mut text) {
+    match branch_sheet(alloc, book, branch, &mut text) {
         Ok(()) => Ok(Answer::Made(text_answer(alloc, &text)?)),
         Err(_) => Err(AllocError),
     }
 }
 
-/// The answer to a view of an article's sheet.
-pub fn show_article<K: Keep>(
-    alloc: Global,
-    desk: &Desk<K>,
-    article: Article,
-) -> Result<Answer, AllocError>
-    ensures { IfOk result (λ answer. Shows (snapshot (desk_state K.Keep desk.now)) (ask.Article article) answer) }
+fn show_article(alloc: Global, book: &Book, article: Article) -> Result<Answer, AllocError>
+    ensures { IfOk result (λ shown. ShowsView book.now.ledger (ask.Article article) shown) }
 {
-    if desk.is_stopped() {
-        return Ok(Fixed::Stopped.answer());
-    }
     let mut text = Vec::new(alloc);
-    match article_sheet(alloc, desk.book(), article, &mut text) {
+    match article_sheet(alloc, book, article, &mut text) {
         Ok(()) => Ok(Answer::Made(text_answer(alloc, &text)?)),
         Err(_) => Err(AllocError),
     }
 }
 
-/// The answer to a view of what is kept under a key.
-pub fn show_kept<K: Keep>(alloc: Global, desk: &Desk<K>, key: Key) -> Result<Answer, AllocError>
-    ensures { IfOk result (λ answer. Shows (snapshot (desk_state K.Keep desk.now)) (ask.Kept key) answer) }
+fn show_kept(alloc: Global, book: &Book, key: Key) -> Result<Answer, AllocError>
+    requires { Good book.now.ledger }
+    ensures { IfOk result (λ shown. ShowsView book.now.ledger (ask.Kept key) shown) }
 {
-    if desk.is_stopped() {
-        return Ok(Fixed::Stopped.answer());
-    }
-    match desk.book().kept(key) {
+    match book.kept(key) {
         Some(view) => Ok(Answer::Made(kept_answer(alloc, &view)?)),
         None => Ok(Fixed::Nothing.answer()),
+    }
+}
+
+/// What is shown where nothing is called.
+pub fn show_view(alloc: Global, book: &Book, ask: &Ask) -> Result<Answer, AllocError>
+    requires good { Good book.now.ledger }
+    requires view { IsNoCall ask.now }
+    ensures { IfOk result (λ shown. ShowsView book.now.ledger ask.now shown) }
+{
+    match ask {
+        Ask::Call(_) => unreachable!(),
+        Ask::BadCall => Ok(Fixed::BadCommand.answer()),
+        Ask::Desk => show_desk(alloc, book),
+        Ask::Branches => show_branches(alloc, book),
+        Ask::Field(branch, article) => show_field(alloc, book, *branch, *article),
+        Ask::Order(number) => show_order(alloc, book, *number),
+        Ask::Sheet(branch) => show_sheet(alloc, book, *branch),
+        Ask::Article(article) => show_article(alloc, book, *article),
+        Ask::Kept(key) => show_kept(alloc, book, *key),
+        Ask::Nothing => Ok(Fixed::Nothing.answer()),
     }
 }

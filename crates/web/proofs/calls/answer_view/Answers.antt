@@ -1,18 +1,25 @@
-use Rattle.std.proofs.Common.{refl, subst, sym}
+use Rattle.std.proofs.Common.{◌∙◌, refl, subst, sym}
+use Rattle.std.proofs.lemmas.Result.{IfOk-weaker}
+use Rattle.book.specs.Good.{Good}
 use Rattle.desk.specs.Desk.{desk_state, snapshot}
-use Rattle.web.specs.Answers.{bad_answer, none_answer}
-use Rattle.web.specs.Turns.{Shows}
-use Rattle.web.specs.declared.ask.Ask.{Ask}
-use Rattle.web.specs.declared.ask.Ask.TheVariants as ask
-use Rattle.web.proofs.ViewAnswers.{always_given}
+use Rattle.web.specs.Replies.{reply_of_stopped}
+use Rattle.web.proofs.CommandAnswers.{replies_stopped}
+use Rattle.web.proofs.ViewAnswers.{going_shown}
 use Rattle.web.proofs.calls.answer_view.Goals as goal
 
-pub returns-in-BadCall : goal.returns-in-BadCall
-returns-in-BadCall g c =
-    subst (λ (a : Ask). Shows (snapshot (desk_state g.K.Keep c.args.desk.now)) a c.answer.result) (sym c.in-BadCall.is)
-    (always_given (snapshot (desk_state g.K.Keep c.args.desk.now)) ask.BadCall bad_answer _ refl (refl, refl) c.answer.ensures)
+pub returns-then-is_stopped : goal.returns-then-is_stopped
+returns-then-is_stopped g c =
+    let at = snapshot (desk_state g.K.Keep c.args.desk.now) in
+    let reply = reply_of_stopped c.args.ask.now in
+    (reply, replies_stopped at c.args.ask.now reply (sym c.is_stopped.ensures.stopped ∙ c.if-is_stopped.true) refl, c.answer_of_stopped.ensures)
 
-pub returns-in-Nothing : goal.returns-in-Nothing
-returns-in-Nothing g c =
-    subst (λ (a : Ask). Shows (snapshot (desk_state g.K.Keep c.args.desk.now)) a c.answer-in-Nothing.result) (sym c.in-Nothing.is)
-    (always_given (snapshot (desk_state g.K.Keep c.args.desk.now)) ask.Nothing none_answer _ refl (refl, refl) c.answer-in-Nothing.ensures)
+pub show_view-requires-clause-good : goal.show_view-requires-clause-good
+show_view-requires-clause-good g c = subst Good (sym c.book.ensures.ledger) c.book.ensures.good
+
+pub returns : goal.returns
+returns g c =
+    let at = snapshot (desk_state g.K.Keep c.args.desk.now) in
+    let going = sym c.is_stopped.ensures.stopped ∙ c.if-is_stopped.false in
+    IfOk-weaker c.show_view.result _ _
+    (λ text shown. going_shown at c.book.result.now.ledger c.args.ask.now text going c.book.ensures.ledger shown)
+    c.show_view.ensures
