@@ -60,6 +60,9 @@ KINDS = {
 }
 KILLED: End = (-signal.SIGKILL, b"", b"")
 
+# so long a service takes to end on a slow machine, in seconds
+ENDING = 10
+
 PLACE = re.compile(rb'{"place":([0-9]+)}')
 
 
@@ -181,7 +184,7 @@ def end_of(service: Service) -> tuple[End, bool]:
     """How a service ends, and whether it does when all have left; or one more comes, or it is killed."""
     for counts_all in (True, False):
         try:
-            service.process.wait(0.5)
+            service.process.wait(ENDING)
             return service.end(), counts_all
         except subprocess.TimeoutExpired:
             with contextlib.suppress(OSError):
