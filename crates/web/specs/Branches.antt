@@ -6,9 +6,11 @@ use Rattle.std.specs.List.Sorted.{IsStrictlySortedBy}
 use Rattle.std.specs.Ordering.{nat_cmp}
 use Rattle.book.specs.Ledger.{Field}
 
--- each branch at which one of the fields is, once, in the order of their bytes
+-- the branches of the fields: fields in the order of their names have exactly one such list
 pub record AreBranches (fields : List Field) (branches : List (List ℕ)) : Type 0 where
+  -- they rise by their bytes, so that each is there once
   pub in_order : IsStrictlySortedBy (slice_cmp nat_cmp) branches
+  -- a branch is among them exactly where a field is at it
   pub same : (branch : List ℕ) → Contains branches branch ↔ Contains (map (λ f. f.name.branch) fields) branch
 
 -- ---- how they are listed (private)

@@ -22,7 +22,7 @@ pub enum Ask {
     Call(Request),
     /// A body that is no request.
     BadCall,
-    /// The desk: its clock, and how much of each kind it has.
+    /// How the desk stands: its clock, and how many fields, orders and places it has.
     Desk,
     /// The branches that have a field.
     Branches,
