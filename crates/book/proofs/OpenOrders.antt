@@ -239,7 +239,7 @@ pub fits_marked : (n : ℕ) (v : OrderEntry) (es : List (ℕ × OrderEntry)) (ms
     → (lookup (is_at (nat_cmp n)) es ≡ None → 1 ≤ room_for room capacity (length es)) → length (marked b n ms) ≤ capacity
 fits_marked n v es ms b room capacity sorted are is within has_room =
     let same : length (marked b n ms) ≡ length (open_numbers (insert_entry nat_cmp es n v)) =
-        (λ i. length (marked (is i) n (are i))) ∙ ap length (sym (open_put n v es sorted)) in
+    (λ i. length (marked (is i) n (are i))) ∙ ap length (sym (open_put n v es sorted)) in
     omega (arith, same, few_open (insert_entry nat_cmp es n v), fits_put n v es room capacity sorted within has_room)
 
 pub no_more_room : (n : ℕ) (v : OrderEntry) (es : List (ℕ × OrderEntry)) (room new capacity : ℕ) → IsStrictlySortedBy nat_cmp (keys_of es) → new ≤ room

@@ -12,7 +12,7 @@ returns-then-len-place c =
     let n = c.args.number in
     let first = subst (λ ms. IsFirstFrom n ms c.first_from-place.result) c.self.invariant.0 c.first_from-place.ensures in
     let past : length (open_numbers c.self.inside.all.entries) ≤ c.first_from-place.result =
-        omega (arith, c.if-len-place.true, c.len-2.ensures.value, ap length c.self.invariant.0) in
+    omega (arith, c.if-len-place.true, c.len-2.ensures.value, ap length c.self.invariant.0) in
     subst (λ (v : OrderEntries). find (is_open_from n) v.entries ≡ None) c.self.view_is
     (none_open n c.self.inside.all.entries c.first_from-place.result first past)
 

@@ -164,7 +164,6 @@ invariant_of-self g c =
     subst (λ xs. (c.self.inside.unused ≤ length xs) × AreBefore c.self.inside.unused xs) (sym (whole_back len c.show_all.new.lines (drop (length c.show_all.new.lines) mid) size_last))
     (taken_each c.self.inside.unused items c.show_all.new.lines all c.self.invariant)
 
-
 pub forget_all-requires-clause-before : goal.forget_all-requires-clause-before
 forget_all-requires-clause-before g c =
     let items = c.self.inside.lines.items in
