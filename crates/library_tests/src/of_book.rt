@@ -193,7 +193,11 @@ fn due(alloc: Global, book: &Book, minutes: u64) -> Result<(usize, Option<u64>),
 
 #[test]
 fn orders_are_due_at_their_moment(rt: HostRuntime) -> Result<(), Fail> {
-    let book = book_after(&rt, &steps::each_kind()[..18])?;
+    let steps = steps::each_kind();
+    if steps.len() < 18 {
+        return Err("too few steps")?;
+    }
+    let book = book_after(&rt, &steps[..18])?;
     assert!(rt; due(rt.alloc(), &book, 49)? == (0, None));
     assert!(rt; due(rt.alloc(), &book, 50)? == (1, Some(9)));
     assert!(rt; due(rt.alloc(), &book, 999)? == (2, Some(4)));
