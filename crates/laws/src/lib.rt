@@ -1,0 +1,6 @@
+//! Laws of desks that share their requests: several that carry out one log.
+#![tactic(auto)]
+
+mod walk;
+
+pub use walk::stopped_desks_find_where_to_go_on;
