@@ -12,10 +12,10 @@ use Rattle.laws.specs.Walks.{AreInRange, AreKeptBehind, GoesOnBehind, KeepsAt, S
 -- ---- one request
 
 -- a request is accepted, or the ledger stays
-abbrev Steps : Ledger → Request → Ledger → Type 0
+abbrev pub Steps : Ledger → Request → Ledger → Type 0
 Steps A r M = (IsAccepted A r × (M ≡ accept A r)) ⊎ ((IsAccepted A r → ⊥) × (M ≡ A))
 
-steps : (A : Ledger) (r : Request) (p : Reply) (M : Ledger) → Answers A r p M → Steps A r M
+pub steps : (A : Ledger) (r : Request) (p : Reply) (M : Ledger) → Answers A r p M → Steps A r M
 steps A r p M answer = by (kept_under A r.key) refl answer
   where
     refused : (e : Refusal × ℕ) → p ≡ Refused e.0 e.1 → IsAccepted A r → ⊥
@@ -38,7 +38,7 @@ goes_good A M r p good (key, range) answer = good_answer A r p M good key range 
 
 -- ---- places
 
-find-beside : {X : Type 0} (t : X → Bool) (p : X → X → Bool) (x : X) (xs : List X) → t x ≡ false
+pub find-beside : {X : Type 0} (t : X → Bool) (p : X → X → Bool) (x : X) (xs : List X) → t x ≡ false
     → find t (insert_in_order p x xs) ≡ find t xs
 find-beside t p x [] e = grind arith
 find-beside t p x (y ∷ ys) e = let more = find-beside t p x ys e in grind arith
@@ -74,7 +74,7 @@ same_request : (B : Ledger) (n : ℕ) (r s : Request) → KeepsAt B n r → Keep
 same_request B n r s h k =
     let e = some_is _ _ (sym h ∙ k) in λ i. record { key = (e i).key; command = (e i).command }
 
-abbrev by_key : Kept → Kept → Bool
+abbrev pub by_key : Kept → Kept → Bool
 by_key k l = is_lt (slice_cmp nat_cmp k.key l.key)
 
 -- an accepted request takes the next place, and leaves what is at the others
