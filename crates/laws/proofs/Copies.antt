@@ -1,10 +1,13 @@
--- Of a log's entries, which are carried out: late ones leave no trace.
-use Rattle.book.proofs.Prelude.{[], ◌&&◌, ◌++◌, ◌<◌, ◌∙◌, ◌∷◌, ◌≡◌, ◌≤◌, ◌⊎◌, Answers, Bool, Contains, Each, IsAccepted, IsInRange, IsKey, Ledger, List, Reply, Request, Runs, accept, ap, append-nil, append_assoc, arith, bytes_decides, bytes_eq, cond, false, if◌then◌else◌, inl, inr, is_lt, kept_under, list_any, map, map-append, nat_cmp, nat_lt, new_key, refl, slice_cmp, subst, sym, true, ℕ}
+-- Which of a log's entries are carried out: late ones leave no trace.
+use Rattle.book.proofs.Prelude.{[], ◌++◌, ◌<◌, ◌∙◌, ◌∷◌, ◌≡◌, ◌≤◌, Bool, Contains, Each, IsInRange, IsKey, Ledger, List}
+use Rattle.book.proofs.Prelude.{Reply, Request, Runs, ap, append-nil, append_assoc, arith, bytes_decides, bytes_eq}
+use Rattle.book.proofs.Prelude.{false, if◌then◌else◌, inl, inr, kept_under, map-append, new_key, refl, subst, sym, true}
+use Rattle.book.proofs.Prelude.{ℕ}
 use Rattle.book.proofs.Lists.{any_none, each-unmap}
 use Rattle.book.proofs.Sums.{each-both, each-map}
 use Rattle.book.proofs.Runs.{runs_once}
 use Rattle.std.proofs.lemmas.List.Elements.{All-contains, All-from_recursion, Contains-append_left}
-use Rattle.laws.specs.Late.{Entry, carried, carried_on, is_late, requests}
+use Rattle.laws.specs.Late.{Entry, carried, carried_on, is_late, overtakes, requests}
 use Rattle.laws.specs.Walks.{AreInRange}
 use Rattle.laws.proofs.Places.{Steps, by_key, find-beside, steps}
 
@@ -14,14 +17,13 @@ use Rattle.laws.proofs.Places.{Steps, by_key, find-beside, steps}
 asked_behind : (before : List Entry) (e x : Entry) → is_late before x ≡ false → Contains before e
     → x.request.key ≡ e.request.key → e.position ≤ x.base
 asked_behind before e x fresh there same =
-    older (bytes_eq e.request.key x.request.key) ((bytes_decides e.request.key x.request.key).1 (sym same))
-      (All-contains Apart before e (All-from_recursion Apart before (any_none _ before fresh)) there)
+    let apart : overtakes e x ≡ false =
+    All-contains Apart before e (All-from_recursion Apart before (any_none (λ b. overtakes b x) before fresh)) there in
+    let key = (bytes_decides e.request.key x.request.key).1 (sym same) in
+    grind arith
   where
     Apart : Entry → Type 0
-    Apart b = (bytes_eq b.request.key x.request.key && nat_lt x.base b.position) ≡ false
-
-    older : (b : Bool) → b ≡ true → (b && nat_lt x.base e.position) ≡ false → e.position ≤ x.base
-    older b is h = grind arith
+    Apart b = overtakes b x ≡ false
 
 is_so : (before : List Entry) (e x : Entry) → Contains before e → x.request.key ≡ e.request.key → x.base < e.position
     → is_late before x ≡ true
@@ -58,7 +60,7 @@ added before (x ∷ more) = by (is_late before x) refl (added before more) (adde
       rest = x ∷ fresh.rest;
       same = fresh.same ∙ append_assoc before (x ∷ []) fresh.rest;
       fresh = λ e there.
-        (asked_behind before e x is there, fresh.fresh e (Contains-append_left before (x ∷ []) e there));
+          (asked_behind before e x is there, fresh.fresh e (Contains-append_left before (x ∷ []) e there));
       among = λ P all. (all.0, fresh.among P all.1);
     }
 
@@ -77,8 +79,8 @@ pub range : (log : List Entry) → AreInRange (requests log) → AreInRange (req
 range log all =
     let a = added [] log in
     subst (λ es. AreInRange (requests es)) (sym a.same)
-      (each-map InRange (λ e. e.request) a.rest
-        (a.among (λ e. InRange e.request) (each-unmap InRange (λ e. e.request) log all)))
+    (each-map InRange (λ e. e.request) a.rest
+    (a.among (λ e. InRange e.request) (each-unmap InRange (λ e. e.request) log all)))
   where
     InRange : Request → Type 0
     InRange r = IsKey r.key × IsInRange r.command
@@ -120,7 +122,7 @@ kept_stays A B C log more e ps qs there older before whole =
     let (M, first, last, begun, ended) = runs_split A C (requests (carried log)) (requests a.rest) qs parts in
     let same = (runs_once A (requests (carried log)) first ps M B begun before).1 in
     others B C e.request.key (requests a.rest) last (each-map (λ r. r.key ≡ e.request.key → ⊥) (λ x. x.request) a.rest apart)
-      (subst (λ L. Runs L (requests a.rest) last C) same ended)
+    (subst (λ L. Runs L (requests a.rest) last C) same ended)
   where
     a : Added (carried log) more (carried (log ++ more))
     a = grown log more
@@ -130,4 +132,4 @@ kept_stays A B C log more e ps qs there older before whole =
 
     apart : Each (λ x. x.request.key ≡ e.request.key → ⊥) a.rest
     apart = each-both (λ x least most same. let l = least same in let m = most same in omega arith) a.rest (a.fresh e there)
-      (a.among (λ x. x.request.key ≡ e.request.key → x.base < e.position) older)
+        (a.among (λ x. x.request.key ≡ e.request.key → x.base < e.position) older)

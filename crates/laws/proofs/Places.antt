@@ -1,6 +1,11 @@
--- Where a desk goes on: what is kept stays at its place, and the request that took the next place would have been accepted
--- wherever it stood since the place before.
-use Rattle.book.proofs.Prelude.{[], ◌+◌, ◌<◌, ◌==◌, ◌∙◌, ◌∷◌, ◌≡◌, ◌≤◌, ◌⊎◌, Answers, AnswersNew, Bool, Each, FirstFailure, Good, IsAccepted, IsInRange, IsKey, IsNone, Kept, KeyReused, Ledger, List, MatchOption, None, Option, Refusal, Refused, Reply, Request, Runs, Some, Done, accept, ap, arith, checks, drop, find, false, if◌then◌else◌, inl, inr, insert_in_order, is_lt, is_some, kept_under, length, nat_cmp, new_key, places, refl, same_command, slice_cmp, subst, suc, sym, take, true, true≢false, zero, ℕ}
+-- Where a desk goes on: what is kept stays at its place, and the request that took the next place would have been
+-- accepted wherever it stood behind the request that took the place before.
+use Rattle.book.proofs.Prelude.{[], ◌+◌, ◌<◌, ◌==◌, ◌∙◌, ◌∷◌, ◌≡◌, ◌≤◌, ◌⊎◌, Answers, AnswersNew, Bool, Each}
+use Rattle.book.proofs.Prelude.{FirstFailure, Good, IsAccepted, IsInRange, IsKey, Kept, KeyReused, Ledger, List}
+use Rattle.book.proofs.Prelude.{MatchOption, None, Option, Refusal, Refused, Reply, Request, Runs, Some, Done, accept}
+use Rattle.book.proofs.Prelude.{ap, arith, checks, drop, find, false, if◌then◌else◌, inl, inr, insert_in_order, is_lt}
+use Rattle.book.proofs.Prelude.{is_some, kept_under, nat_cmp, new_key, places, refl, same_command, slice_cmp, subst}
+use Rattle.book.proofs.Prelude.{suc, sym, take, true≢false, zero, ℕ}
 use Rattle.book.specs.Answers.{After}
 use Rattle.book.proofs.Goodness.{good_answer}
 use Rattle.book.proofs.Lists.{find-new, length-insert, same_number, some_is}
@@ -28,7 +33,7 @@ steps A r p M answer = by (kept_under A r.key) refl answer
 
     by : (o : Option Kept) → kept_under A r.key ≡ o
         → MatchOption o (AnswersNew A r p M)
-          (λ k. (p ≡ (if same_command k.command r.command then Done k.place else Refused KeyReused 0)) × (M ≡ A))
+        (λ k. (p ≡ (if same_command k.command r.command then Done k.place else Refused KeyReused 0)) × (M ≡ A))
         → Steps A r M
     by None none (o, first, h) = found o none first h
     by (Some k) there h = inr ((λ accepted. true≢false (sym (ap is_some there) ∙ accepted.0)), h.1)
@@ -84,7 +89,7 @@ one_more A r = length-insert by_key (new_key A r) A.kept
 new_there : (A : Ledger) (r : Request) → Good A → KeepsAt (accept A r) (places A + 1) r
 new_there A r good =
     find-new (λ k. k.place == (places A + 1)) by_key (new_key A r) A.kept (same_number (places A + 1))
-      (free A (places A + 1) good (omega arith))
+    (free A (places A + 1) good (omega arith))
 
 still_there : (A : Ledger) (r : Request) (n : ℕ) → n ≤ places A → kept_at (accept A r) n ≡ kept_at A n
 still_there A r n there =
@@ -214,7 +219,7 @@ fewer n (m ∷ ns) (r ∷ log) (inl (is, rest)) = inr rest
 fewer n (m ∷ ns) (r ∷ log) (inr later) = inr (fewer n (m ∷ ns) log later)
 
 -- the first of them is the log's first request
-at_first : (n r : Request) (ns log : List Request) (j : ℕ) → r ≡ n → GoesOnBehind ns log j
+pub at_first : (n r : Request) (ns log : List Request) (j : ℕ) → r ≡ n → GoesOnBehind ns log j
     → GoesOnBehind (n ∷ ns) (r ∷ log) (suc j)
 at_first n r ns log j is h = record { stand = inl (is, h.stand); least = least }
   where
@@ -223,7 +228,7 @@ at_first n r ns log j is h = record { stand = inl (is, h.stand); least = least }
     least (suc k) (inl (same, rest)) = let le = h.least k rest in omega arith
     least (suc k) (inr later) = let le = h.least k (fewer n ns (take k log) later) in omega arith
 
-at_later : (n r : Request) (ns log : List Request) (j : ℕ) → (r ≡ n → ⊥) → GoesOnBehind (n ∷ ns) log j
+pub at_later : (n r : Request) (ns log : List Request) (j : ℕ) → (r ≡ n → ⊥) → GoesOnBehind (n ∷ ns) log j
     → GoesOnBehind (n ∷ ns) (r ∷ log) (suc j)
 at_later n r ns log j apart h = record { stand = inr h.stand; least = least }
   where
@@ -231,6 +236,13 @@ at_later n r ns log j apart h = record { stand = inr h.stand; least = least }
     least zero stand = absurd stand
     least (suc k) (inl (same, rest)) = absurd (apart same)
     least (suc k) (inr later) = let le = h.least k later in omega arith
+
+pub at_end : (log : List Request) → GoesOnBehind [] log 0
+at_end log = record { stand = tt; least = λ k h. omega arith }
+
+pub nowhere : (n : Request) (ns : List Request) (j : ℕ) → GoesOnBehind (n ∷ ns) [] j → ⊥
+nowhere n ns zero h = h.stand
+nowhere n ns (suc j) h = h.stand
 
 -- with one request more in front
 behind_one : (A M B : Ledger) (r : Request) (p : Reply) (log : List Request) (i : ℕ) (some kept : List Request)
@@ -252,7 +264,7 @@ pub place : (A B : Ledger) (log : List Request) (i : ℕ) (kept : List Request) 
     → AreKeptBehind B (places A) kept → Place A B log i kept
 place A B log i [] good range after all = record {
   j = 0;
-  behind = record { stand = tt; least = λ k h. omega arith };
+  behind = at_end log;
   most = omega arith;
   stands = λ k le most. unchanged A B log i k most all after;
 }
@@ -265,18 +277,20 @@ place A B (r ∷ log) (suc i) (n ∷ ns) good range (p ∷ ps, (M, answer, run))
     by (steps A r p M answer) (λ kept. place M B log i kept (goes_good A M r p good range.0 answer) range.1 (ps, run))
   where
     would : IsAccepted A n
-    would = would_be_accepted A B (take (suc i) (r ∷ log)) (p ∷ ps) n good (range_take (suc i) (r ∷ log) range) (M, answer, run) there
+    would =
+        let few = range_take (suc i) (r ∷ log) range in
+        would_be_accepted A B (take (suc i) (r ∷ log)) (p ∷ ps) n good few (M, answer, run) there
 
     by : Steps A r M → ((kept : List Request) → AreKeptBehind B (places M) kept → Place M B log i kept)
         → Place A B (r ∷ log) (suc i) (n ∷ ns)
     by (inl (accepted, is)) more =
         let same = same_request B (places A + 1) r n (first_kept A M B r (take i log) ps good is run) there in
         behind_one A M B r p log i ns (n ∷ ns) answer (λ j. at_first n r ns log j same)
-          (more ns (subst (λ k. AreKeptBehind B k ns) (sym (ap places is ∙ one_more A r)) rest))
+        (more ns (subst (λ k. AreKeptBehind B k ns) (sym (ap places is ∙ one_more A r)) rest))
     by (inr (not, is)) more =
         let apart = λ (e : r ≡ n). not (subst (IsAccepted A) (sym e) would) in
         behind_one A M B r p log i (n ∷ ns) (n ∷ ns) answer (λ j. at_later n r ns log j apart)
-          (more (n ∷ ns) (subst (λ k. AreKeptBehind B k (n ∷ ns)) (sym (ap places is)) (there, rest)))
+        (more (n ∷ ns) (subst (λ k. AreKeptBehind B k (n ∷ ns)) (sym (ap places is)) (there, rest)))
 
 -- there is one such place
 pub standing : (A B : Ledger) (log : List Request) (i j : ℕ) (kept : List Request) → Place A B log i kept

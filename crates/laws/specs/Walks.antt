@@ -1,5 +1,5 @@
--- A log of requests, which several desks carry out in its order, and where in it a desk goes on that has stopped. Of the
--- requests that it carried out such a desk keeps the accepted ones alone, and not how far in the log it came.
+-- A log of requests, which several desks carry out in its order, and where in it a desk goes on that has stopped. Of
+-- the requests that it carried out such a desk keeps the accepted ones alone, and not how far in the log it came.
 use Rattle.std.specs.Prelude.{ℕ, ◌+◌, ◌≤◌, ◌≡◌, ◌⊎◌, ◌==◌, List, [], ◌∷◌, take, Option, Some, find}
 use Rattle.std.specs.List.{AllByRecursion as Each}
 use Rattle.escrow.specs.Codes.{IsKey}
@@ -30,7 +30,7 @@ StandIn [] log = Unit {0}
 StandIn (n ∷ ns) [] = ⊥
 StandIn (n ∷ ns) (r ∷ log) = ((r ≡ n) × StandIn ns log) ⊎ StandIn (n ∷ ns) log
 
--- the log's first j requests have all of those, and no fewer do: behind them a desk goes on that keeps those of the log
+-- The kept requests stand in the first j of the log, and in no fewer: a desk that keeps them goes on behind those j.
 pub record GoesOnBehind (kept log : List Request) (j : ℕ) : Type 0 where
   pub stand : StandIn kept (take j log)
   pub least : (k : ℕ) → StandIn kept (take k log) → j ≤ k

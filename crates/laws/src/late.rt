@@ -8,9 +8,10 @@ ghost use Rattle.std.specs.List.{AllByRecursion as Each, Contains};
 ghost use Rattle.std.specs.Prelude.{◌≡◌, ◌<◌, ◌≤◌, ◌∷◌, ◌++◌, List};
 ghost use Rattle.words.specs.declared.reply.Reply.{Reply};
 
-/// What is carried out of a log stays so as the log grows. Behind an entry that was carried out, others with its key are
-/// carried out only where that one had been read when they were asked for; an older one might as well not stand there.
-/// So where all that come with that key are older, what is kept under it stays as it was: nothing, if it was refused.
+/// As a log grows, what was carried out of it stays carried out. Behind an entry that is carried out, another with its
+/// key is carried out only if the first had been read when the other was asked for; an older one might as well not stand
+/// in the log. So where all that come with that key are older, what is kept under it stays as it was: nothing, where it
+/// was refused.
 pub fn late_copies_change_nothing()
     ensures fresh { (log more : List Entry) → (rest : List Entry) × (carried (log ++ more) ≡ carried log ++ rest)
         × ((e : Entry) → Contains (carried log) e

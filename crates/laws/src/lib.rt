@@ -5,4 +5,4 @@ mod late;
 mod walk;
 
 pub use late::late_copies_change_nothing;
-pub use walk::stopped_desks_find_where_to_go_on;
+pub use walk::{one_walk_finds_the_place, stopped_desks_find_where_to_go_on};
