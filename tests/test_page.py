@@ -37,6 +37,9 @@ INPUTS = {
     "start": (LEVEL, ["0", "1000000000", "1000000001"]),
 }
 
+# a moment far from now
+UNTIL = 50_000_000
+
 # the inputs of a moment, and the minutes about the edge of what they take
 MOMENTS = {name: {-1: False, 0: True, FOREVER: True, FOREVER + 1: False} for name in ["until", "now"]}
 
@@ -330,7 +333,7 @@ class Pages(PageCase):
             keys.tab_to("#open [name=number]")
             keys.press("8501")
             keys.tab_to("#open [name=until]")
-            keys.press(str(FOREVER))
+            keys.write_moment(UNTIL)
             keys.tab_to("#open [name=way]")
             keys.press(keys.names.ARROW_DOWN)
             keys.tab_to("#open [name=article]")
@@ -343,7 +346,7 @@ class Pages(PageCase):
             keys.tab_to("#open fieldset:nth-child(2) > button")
             keys.press(keys.names.ENTER)
             keys.tab_to("#open .sends")
-            expect(page.text("#open .spelled code") == f"open 8501 {FOREVER} add K1 A-1 30", page.text("#open .spelled code"))
+            expect(page.text("#open .spelled code") == f"open 8501 {UNTIL} add K1 A-1 30", page.text("#open .spelled code"))
             keys.press(keys.names.ENTER)
             page.wait_said("Done")
             page.wait_rows("stock", {"A-1": row(0, 100, 50, 50, 80)})

@@ -1,9 +1,10 @@
 // How the page begins, and the way of a command to the desk: it is asked for under its key until there is an answer.
 import { BARRED, REFUSALS } from "./words.js";
-import { at, count, fetched, laterWait, look, make, meaningOf, parsed, pause, recall, restore, save, state, user, zone } from
-  "./tools.js";
+import { at, count, fetched, laterWait, look, meaningOf, parsed, pause, recall, restore, save, state, user, zone }
+  from "./tools.js";
 import { drawStock, dueName, nextOrders, show, showAgain, showBranches } from "./views.js";
-import { empty, listenToForms, noteOpened, offer, partOf, propose, putUser, redrawOffers, sending, wordOf } from "./forms.js";
+import { empty, listenToForms, noteOpened, offer, partOf, propose, putUser, redrawOffers, sending, wordOf }
+  from "./forms.js";
 
 const LONGEST_ANSWER = 60000;
 let asking = null, source = null, isLost = true;
@@ -44,7 +45,8 @@ function outcomeOf(status, text, command) {
 async function ask() {
   const { key, command } = state.pending, stopper = asking = new AbortController();
   const headers = { "content-type": "application/json" }, body = JSON.stringify({ key, command });
-  for (const [id, text] of [["line", command], ["key", key], ["meaning", meaningOf(command)]]) at(id).textContent = text;
+  const told = { line: command, key, meaning: meaningOf(command) };
+  for (const [id, text] of Object.entries(told)) at(id).textContent = text;
   at("sent").hidden = false;
   say("waiting", "Asking the desk …");
   for (let turn = 1, wait = laterWait(0); !stopper.signal.aborted; turn += 1, wait = laterWait(wait)) {
@@ -61,8 +63,10 @@ async function ask() {
   }
   return hold("Stopped asking.");
 }
-const hold = words =>
-  say("unknown", `${words} The command may be done or not. “Ask again” tells: under its key it is done once at most.`);
+function hold(words) {
+  const fate = "The command may be done or not. “Ask again” tells: under its key it is done once at most.";
+  say("unknown", `${words} ${fate}`);
+}
 function settle(kind, words, refused = "") {
   const [verb, number] = state.pending.command.split(" "), isNew = verb === "open" || verb === "transfer";
   const isOpened = kind === "done" && isNew;

@@ -1,7 +1,7 @@
-// The forms of the commands: each spells the line that it sends, and tells what is there and which order number is free.
+// The forms of the commands: each spells the line that it sends, and tells what is there and which number is free.
 import { ENDS, FORMS, PARTS, VERBS, numberAs } from "./words.js";
-import { NO_END, at, buttonOf, count, fetched, inputOf, keep, kept, look, make, meaningOf, minuteNow, minuteOf, parsed, state,
-  user } from "./tools.js";
+import { NO_END, at, buttonOf, count, fetched, inputOf, keep, kept, look, make, meaningOf, minuteNow, minuteOf, parsed,
+  state, user } from "./tools.js";
 import { behind, isOpen, seen } from "./views.js";
 
 const MOST_LINES = 64, FIRST_OF_OFFICE = 900000000;
@@ -29,7 +29,8 @@ export function partOf(name, { label, word, hint, limits, beside } = PARTS[name]
   const given = { id, name, required: "", autocomplete: "off", "data-word": word, "aria-describedby": `${id}-hint` };
   const input = make("input", { ...given, ...limits });
   const row = beside ? make("div", { class: "beside" }, input, besideOf(beside, input)) : input;
-  return make("div", { class: "part" }, make("label", { for: id }, label), row, make("small", { id: `${id}-hint` }, hint));
+  const told = make("small", { id: `${id}-hint` }, hint);
+  return make("div", { class: "part" }, make("label", { for: id }, label), row, told);
 }
 function choiceOf(name, label, options) {
   const id = `${name}-${++made}`, choices = options.map(([value, text]) => make("option", { value }, text));
@@ -39,8 +40,8 @@ function choiceOf(name, label, options) {
 function ownNumber() {
   if (user.group === "office") return partOf("number");
   const isNone = user.last < user.first, { first, last } = user;
-  const part = partOf("number", numberAs(PARTS.number.label, PARTS.number.word, first, last, ": your orders"));
-  if (isNone) part.querySelector("small").textContent = "No orders are yours: whoever runs the front gives you a range.";
+  const { label, word } = PARTS.number, part = partOf("number", numberAs(label, word, first, last, ": your orders"));
+  if (isNone) part.querySelector("small").textContent = "No orders are yours: whoever runs the front gives you some.";
   return part;
 }
 const lineParts = () => [choiceOf("way", "Way", [["take", "take"], ["add", "add"]]), "branch", "article", "quantity"];
@@ -134,7 +135,8 @@ const folded = (title, isUnfolded, form) =>
   make("details", isUnfolded ? { open: "" } : {}, make("summary", {}, title), form);
 function formOf(id, begins, parts, button, ...between) {
   const form = make("form", { id, "data-begins": begins }, partsOf(parts), ...between, stockNote(),
-    make("p", { class: "spelled" }, make("small", {}, "The line that is sent"), make("code"), make("small", { class: "meaning" })),
+    make("p", { class: "spelled" }, make("small", {}, "The line that is sent"), make("code"),
+      make("small", { class: "meaning" })),
     make("button", { class: "sends strong" }, button));
   form.addEventListener("submit", event => { event.preventDefault(); sending.send(lineOf(form), form); });
   form.addEventListener("input", () => { form.dataset.written = "yes"; spell(form); });
@@ -199,9 +201,11 @@ function endButtons({ number, state: stands }) {
   const verbs = Object.keys(ends).filter(may);
   const buttons = verbs.map(verb => {
     const line = `${verb} ${number}`, strong = verb === "commit" ? " strong" : "";
-    return buttonOf({ id: verb, class: `sends${strong}` }, () => sending.send(line), ends[verb], make("code", {}, line));
+    const attributes = { id: verb, class: `sends${strong}` };
+    return buttonOf(attributes, () => sending.send(line), ends[verb], make("code", {}, line));
   });
-  return [make("div", { class: "row" }, ...buttons), make("p", { class: "soft" }, verbs.map(verb => ENDS[verb]).join(" "))];
+  const words = verbs.map(verb => ENDS[verb]).join(" ");
+  return [make("div", { class: "row" }, ...buttons), make("p", { class: "soft" }, words)];
 }
 function useForm({ number, lines }) {
   const places = lines.filter(line => line.held > line.used).map(({ way, branch, article, held, used }) =>

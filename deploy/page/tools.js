@@ -10,9 +10,12 @@ export const user = { name: "", group: "none", first: 1, last: 0, branches: [] }
 export const kept = { branch: "", number: 0 };
 // where the browser keeps nothing the page still works
 export function save() { try { sessionStorage.setItem("desk", JSON.stringify(state)); } catch { return; } }
-export function restore() { try { Object.assign(state, JSON.parse(sessionStorage.getItem("desk"))); } catch { return; } }
+export function restore() {
+  try { Object.assign(state, JSON.parse(sessionStorage.getItem("desk"))); } catch { return; }
+}
 export function keep(changes) {
   Object.assign(kept, changes);
+  if (!user.name) return;
   try { localStorage.setItem(`desk ${user.name}`, JSON.stringify(kept)); } catch { return; }
 }
 export function recall() {

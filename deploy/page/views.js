@@ -1,7 +1,7 @@
 // What the desk shows: branches, stock, an article at all branches, open orders, an order, how full the desk is.
 import { BARRED, STATES } from "./words.js";
-import { DAY, NO_END, at, buttonOf, clockWords, count, isPassing, kept, keep, look, make, minuteNow, momentWords, parsed,
-  save, state, user } from "./tools.js";
+import { DAY, NO_END, at, buttonOf, clockWords, count, isPassing, keep, kept, look, make, minuteNow, momentWords,
+  parsed, save, state, user } from "./tools.js";
 
 const MOST_ROWS = 200, MOST_ORDERS = 50, MOST_SUMMED = 3;
 // How much a desk holds at most.
@@ -24,6 +24,14 @@ export function tableOf(caption, heads, rows) {
     make("tbody", {}, ...rows.map(row => make("tr", {}, ...row.map(cellOf)))));
 }
 const linkOf = (name, onclick, says) => buttonOf({ class: "plain", title: says }, onclick, name);
+// What is drawn anew does not lose the focus that was in it.
+function redraw(part, ...children) {
+  const focused = part.contains(document.activeElement) ? document.activeElement.textContent : null;
+  part.replaceChildren(...children);
+  if (focused === null) return;
+  const same = [...part.querySelectorAll("button")].find(button => button.textContent === focused);
+  (same ?? part.closest("section")).focus();
+}
 
 // ---- a branch, and an article at all branches
 
@@ -46,18 +54,20 @@ function pictureOf({ lo, hi, value, inf, sup }) {
     bar("span", inf, sup, 5, 18), make("line", { class: "value", x1: x, x2: x, y1: 1, y2: 27 }));
 }
 function sheetOf(caption, first, fields, onclick, says) {
-  const rows = fields.map(field => [linkOf(field.label, () => onclick(field.label), says),
-    make("strong", {}, count(field.inf - field.lo)), count(field.value), count(field.inf), count(field.sup), count(field.lo),
-    count(field.hi), pictureOf(field)]);
+  const rows = fields.map(field => {
+    const { label, lo, hi, value, inf, sup } = field, link = linkOf(label, () => onclick(label), says);
+    return [link, make("strong", {}, count(inf - lo)), ...[value, inf, sup, lo, hi].map(count), pictureOf(field)];
+  });
   const heads = `${first},Free to promise,Value,Infimum,Supremum,Lower bound,Upper bound,Picture`.split(",");
   return tableOf(caption, heads, rows);
 }
 const shares = (shown, all) => (shown < all ? `${count(shown)} of ` : "") + count(all);
 export function drawStock({ name, fields, total } = seen.stock) {
-  const chosen = fields.filter(field => field.label.includes(at("filter").value.toUpperCase())), shown = chosen.slice(0, MOST_ROWS);
+  const sought = at("filter").value.toUpperCase(), chosen = fields.filter(field => field.label.includes(sought));
+  const shown = chosen.slice(0, MOST_ROWS);
   const caption = `Stock of ${name}. Articles: ${shares(shown.length, fields.length)}. Pieces in all: ${count(total)}.`;
   const onclick = article => show("article", article, "article-part");
-  at("stock-table").replaceChildren(sheetOf(caption, "Article", shown, onclick, "Show it at all branches"));
+  redraw(at("stock-table"), sheetOf(caption, "Article", shown, onclick, "Show it at all branches"));
   at("filter").parentElement.hidden = false;
   at("articles").replaceChildren(...shown.map(field => make("option", { value: field.label })));
   markBranch(name);
@@ -69,69 +79,79 @@ function drawArticle({ name, fields, total }) {
   const caption = isThere ? `${name} at all branches. Branches: ${shares(shown.length, fields.length)}. `
     + `Pieces in all: ${count(total)}.` : `No branch has ${name}.`;
   const onclick = branch => show("stock", branch, "stock-part");
-  at("article-table").replaceChildren(sheetOf(caption, "Branch", shown, onclick, "Show the stock of this branch"));
+  redraw(at("article-table"), sheetOf(caption, "Branch", shown, onclick, "Show the stock of this branch"));
   at("article-table").querySelector("thead").hidden = !isThere;
 }
 function markBranch(name) {
   for (const button of at("branch-list").children) button.setAttribute("aria-pressed", button.textContent === name);
 }
 // The branch that is shown first: the last one, or else the user's own, or any.
-const firstBranch = branches => [state.stock, kept.branch, ...user.branches, branches[0]].find(name => branches.includes(name));
+const firstBranch = branches => [kept.branch, ...user.branches, ...branches].find(name => branches.includes(name));
 export async function showBranches() {
-  const { status, text } = await look("/v1/branches", words => { at("stock-told").textContent = words; });
-  const { branches = [] } = status === 200 ? parsed(text) : {};
-  const buttons = branches.slice(0, MOST_ROWS).map(name => buttonOf({ class: "chip" }, () => show("stock", name), name));
-  at("branch-list").replaceChildren(...buttons);
+  const say = words => { at("stock-told").textContent = words; };
+  const { status, text } = await look("/v1/branches", say);
+  if (status !== 200) return say(`The branches: ${lookWords(status)}`);
+  const { branches } = parsed(text);
+  const chipOf = name => buttonOf({ class: "chip" }, () => show("stock", name), name);
+  redraw(at("branch-list"), ...branches.slice(0, MOST_ROWS).map(chipOf));
   at("branches").replaceChildren(...branches.map(name => make("option", { value: name })));
   markBranch(state.stock);
-  if (status !== 200) at("stock-told").textContent = `The branches: ${lookWords(status)}`;
-  else if (!branches.length) at("stock-told").textContent = "No branch has an article yet: the office adds the first one.";
-  else if (!state.stock) show("stock", firstBranch(branches));
+  if (!branches.length) return say("No branch has an article yet: the office adds the first one.");
+  return state.stock || show("stock", firstBranch(branches));
 }
 
 // ---- orders
 
-// Which of an order's moments is near: by the browser's clock, since the desk's one may lag behind.
+// Whether the clock soon ends an order: by the browser's clock, behind which the desk's may lag.
 function markOf({ until, state: stands }) {
   const left = until - minuteNow();
-  if (until === NO_END || left > DAY || !isOpen({ state: stands })) return [];
+  if (left > DAY || stands !== "open") return [];
   return [make("span", { class: "mark" }, left > 0 ? "within a day" : "its time is over")];
 }
 const endWords = until => until === NO_END ? "with no end" : `until ${momentWords(until)}`;
 function holdWords({ kind, lines }) {
   const [{ held, article, branch }, second] = lines;
   if (kind === "transfer") return `move ${count(held)} of ${article} from ${branch} to ${second.branch}`;
-  const words = lines.slice(0, MOST_SUMMED).map(line => `${line.way} ${count(line.held)} of ${line.article} at ${line.branch}`);
-  return [...words, ...(lines.length > MOST_SUMMED ? [`and ${lines.length - MOST_SUMMED} lines more`] : [])].join(", ");
+  const first = lines.slice(0, MOST_SUMMED), others = lines.length - first.length;
+  const words = first.map(line => `${line.way} ${count(line.held)} of ${line.article} at ${line.branch}`);
+  return (others ? [...words, `and ${others} lines more`] : words).join(", ");
 }
 function listWords(name, found) {
   const [kind, from] = name.split("/"), all = seen.desk ? ` of ${count(seen.desk.open)}` : "";
   const first = found === MOST_ORDERS ? "the first " : "";
-  if (kind === "due") return `Due within a day, or over it: ${first}${found}. Firm orders are not among them.`;
-  return from === "0" ? `Open orders: ${shares(found, seen.desk?.open ?? found)}.` : `Open orders above ${from}: ${found}${all}.`;
+  if (kind === "due") return `Aborted when the desk's clock comes to this time tomorrow: ${first}${found}.`;
+  if (from === "0") return `Open orders: ${shares(found, seen.desk?.open ?? found)}.`;
+  return `Open orders above ${from}: ${found}${all}.`;
+}
+function rowOf(order) {
+  const number = String(order.number), isFirm = order.state === "firm";
+  return [linkOf(number, () => show("order", number, "order-part"), "Show this order"),
+    make("span", {}, momentWords(order.until), " ", ...markOf(order)),
+    make("span", {}, holdWords(order), ...(isFirm ? [" ", make("span", { class: "state" }, "firm")] : []))];
 }
 function drawOrders({ name, orders }) {
-  const rows = orders.map(order => [
-    linkOf(String(order.number), () => show("order", String(order.number), "order-part"), "Show this order"),
-    make("span", {}, momentWords(order.until), " ", ...markOf(order)),
-    make("span", {}, holdWords(order), ...(order.state === "firm" ? [" ", make("span", { class: "state" }, "firm")] : []))]);
-  at("orders-table").replaceChildren(tableOf(listWords(name, orders.length), ["Order", "Until", "Holds"], rows));
-  at("orders-table").scrollTop = 0;
+  const heads = ["Order", "Until", "Holds"];
+  redraw(at("orders-table"), tableOf(listWords(name, orders.length), heads, orders.map(rowOf)));
   at("orders-next").hidden = orders.length < MOST_ORDERS || name.startsWith("due");
   at("orders-all").setAttribute("aria-pressed", name.startsWith("open"));
   at("orders-due").setAttribute("aria-pressed", name.startsWith("due"));
 }
-export function nextOrders() { return show("orders", `open/${seen.orders.orders.at(-1).number}`); }
+export function nextOrders() {
+  at("orders-table").scrollTop = 0;
+  return show("orders", `open/${seen.orders.orders.at(-1).number}`, "orders-part");
+}
 export const dueName = () => `due/${Math.max(minuteNow(), seen.desk?.clock ?? 0) + DAY}`;
 function drawOrder(order) {
   const shown = at("order"), hadFocus = shown.contains(document.activeElement);
   const { number, kind, until, lines, state: stands } = order;
   const name = make("h3", { tabindex: "-1" }, `Order ${number} `, make("span", { class: "state" }, stands));
-  const about = make("p", {}, `${kind === "plain" ? "A plain order" : "A transfer"} ${endWords(until)}`, " ", ...markOf(order));
+  const sort = kind === "plain" ? "A plain order" : "A transfer";
+  const about = make("p", {}, `${sort} ${endWords(until)} `, ...markOf(order));
   const rows = lines.map(({ way, branch, article, held, used }, index) => [`Line ${index + 1}`, way, branch, article,
     count(held), count(used), isOpen(order) ? count(held - used) : "–"]);
   const heads = ["Line", "Way", "Branch", "Article", "Held", "Used", "Left"];
-  shown.replaceChildren(name, about, make("p", {}, STATES[stands]), tableOf(`The lines of order ${number}`, heads, rows));
+  const table = tableOf(`The lines of order ${number}`, heads, rows);
+  shown.replaceChildren(name, about, make("p", {}, STATES[stands]), table);
   behind.order(order);
   if (hadFocus) name.focus();
 }
@@ -140,7 +160,8 @@ function drawOrder(order) {
 
 function barOf({ title, taken, aside, most }) {
   const share = number => `${Math.min(100, 100 * number / most)}%`;
-  const words = `${count(taken)} of ${count(most)}` + (aside ? `, and ${count(aside)} set aside for the ends of open orders` : "");
+  const also = aside ? `, and ${count(aside)} set aside for the ends of open orders` : "";
+  const words = `${count(taken)} of ${count(most)}${also}`;
   const picture = make("svg", { role: "img", "aria-label": `${title}: ${words}` },
     make("rect", { class: "bounds", width: "100%", y: 9, height: 10 }),
     make("rect", { class: "span", width: share(taken), y: 5, height: 18 }),
@@ -161,9 +182,9 @@ function drawDesk({ clock, fields, open, orders, places }) {
     { title: "Orders", taken: orders, aside: 0, most: MOST.orders, stops: "no new order" },
   ];
   const words = parts.flatMap(fullWords);
+  const advice = "A desk never forgets: whoever runs it rolls over to a new one in time.";
   at("desk-bars").replaceChildren(...parts.map(barOf));
-  at("fullness").replaceChildren(...words.map(each => make("p", {}, each)),
-    ...(words.length ? [make("p", {}, "Nothing is ever removed: a new desk has to be begun, which operators call rolling over.")] : []));
+  at("fullness").replaceChildren(...[...words, advice].map(each => make("p", {}, each)));
   at("fullness").hidden = !words.length;
   for (const note of document.querySelectorAll(".clock")) note.textContent = `The desk's clock: ${clockWords(clock)}.`;
 }

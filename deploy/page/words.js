@@ -41,20 +41,21 @@ export const ENDS = { commit: "Commit settles what was used and gives the rest b
 const codeAs = (label, word, pattern, maxlength, hint, list) =>
   ({ label, word, hint, limits: { pattern, maxlength, title: hint, list, autocapitalize: "characters" } });
 const branchAs = (label, word) => codeAs(label, word, "[A-Z0-9]{1,8}", 8, "1 to 8 of A–Z, 0–9", "branches");
-export const numberAs = (label, word, min, max, more = "") => ({ label, word, hint: `${count(min)} to ${count(max)}${more}`,
-  limits: { type: "number", min, max, step: 1, inputmode: "numeric" } });
+export const numberAs = (label, word, min, max, more = "") => ({ label, word,
+  hint: `${count(min)} to ${count(max)}${more}`, limits: { type: "number", min, max, step: 1, inputmode: "numeric" } });
 const levelAs = (label, word) => numberAs(label, word, 0, 1000000000);
 const momentAs = (label, word, beside, hint) =>
   ({ label, word, hint, beside, limits: { type: "datetime-local", min: inputOf(0), max: inputOf(NO_END) } });
 export const PARTS = {
   branch: branchAs("Branch", "BRANCH"), from: branchAs("From branch", "FROM"), to: branchAs("To branch", "TO"),
-  article: codeAs("Article", "ARTICLE", "[A-Z0-9][A-Z0-9\\-]{0,15}", 16, "1 to 16 of A–Z, 0–9, - (not in front)", "articles"),
+  article: codeAs("Article", "ARTICLE", "[A-Z0-9][A-Z0-9\\-]{0,15}", 16, "1 to 16 of A–Z, 0–9, - (not in front)",
+    "articles"),
   number: numberAs("Order number", "NUMBER", 1, 999999999), quantity: numberAs("Quantity", "QUANTITY", 1, 1000000),
   lower: levelAs("Lower bound", "LO"), upper: levelAs("Upper bound", "HI"), start: levelAs("Start", "START"),
-  until: momentAs("Until", "UNTIL", "No end", "When the desk's clock comes there the order is aborted, unless it is firm by"
-    + " then. The office moves that clock."),
-  now: momentAs("Now", "NOW", "This minute", "Every open order whose moment has come then is aborted, unless it is firm. The"
-    + " clock never goes back."),
+  until: momentAs("Until", "UNTIL", "No end",
+    "When the desk's clock comes there the order is aborted, unless it is firm by then. The office moves that clock."),
+  now: momentAs("Now", "NOW", "This minute",
+    "Every open order whose moment has come by then is aborted, unless it is firm. The clock never goes back."),
 };
 export const FORMS = {
   open: ["Promise: open an order", ["number", "until"], "Promise"],

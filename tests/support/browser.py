@@ -10,7 +10,7 @@ import shutil
 import tempfile
 import time
 import unittest
-from collections.abc import Callable, Iterator
+from collections.abc import Callable, Iterator, Sequence
 from typing import Any
 
 from support.fronts import Front, FrontCase
@@ -209,21 +209,28 @@ class Page:
     def wait_rows(self, kind: str, want: dict[str, list[str]]) -> None:
         self.wait(lambda: self.rows(kind) == want, f"{kind}: {want} is not shown")
 
+    def come_again(self) -> None:
+        """The user leaves, and opens the page anew on another day, in the same browser."""
+        self.run("sessionStorage.clear()")
+        self.browser.refresh()
+        self.run(WATCH)
+
     def sent(self) -> list[dict[str, str]]:
         return self.run("return sent")
 
 
 @unittest.skipUnless(is_there(), "chromium, its driver or Selenium is not here")
 class PageCase(FrontCase):
-    """Tests of the page, all of them through one front."""
+    """Tests of the page, all of them through one front, which has these users of the shops too."""
 
     front: Front
+    shops: Sequence[str] = ()
 
     @classmethod
     def setUpClass(cls) -> None:
         super().setUpClass()
         folder = cls.enterClassContext(tempfile.TemporaryDirectory())
-        cls.front = cls.enterClassContext(Front(cls.program, folder))
+        cls.front = cls.enterClassContext(Front(cls.program, folder, shops=cls.shops))
 
 
 @contextlib.contextmanager
@@ -267,6 +274,12 @@ class Keys:
 
     def press(self, *keys: str) -> None:
         self.page.browser.switch_to.active_element.send_keys(*keys)
+
+    def write_moment(self, minute: int) -> None:
+        """Writes a date and a time where the focus is, as one does in American English."""
+        from selenium.webdriver.common.action_chains import ActionChains
+
+        ActionChains(self.page.browser).send_keys(f"{local(minute):%m%d%Y%I%M%p}").perform()
 
     def tab_to(self, selector: str, is_back: bool = False) -> None:
         for _ in range(MOST_STOPS):
