@@ -196,8 +196,8 @@ class OpenOrders(PageCase):
                     keys.press(keys.names.ENTER)
                     page.wait(lambda: page.texts("#article-table tbody th") == ["N2"], "the article is not shown")
                     expect(page.run("return document.activeElement.id") == "article-part", "the focus is elsewhere")
-                    keys.tab_to("#orders-table tbody button")
-                    number = numbers(page)[0]
+                    keys.tab_to("#orders-table tbody button", is_back=True)
+                    number = page.run("return Number(document.activeElement.textContent)")
                     keys.press(keys.names.ENTER)
                     page.wait(lambda: f"Order {number}" in page.text("#order h3"), "it is not shown")
                     keys.tab_to("#commit")

@@ -114,7 +114,7 @@ function holdWords({ kind, lines }) {
   if (kind === "transfer") return `move ${count(held)} of ${article} from ${branch} to ${second.branch}`;
   const first = lines.slice(0, MOST_SUMMED), others = lines.length - first.length;
   const words = first.map(line => `${line.way} ${count(line.held)} of ${line.article} at ${line.branch}`);
-  return (others ? [...words, `and ${others} lines more`] : words).join(", ");
+  return (others ? [...words, `and ${others} more lines`] : words).join(", ");
 }
 function listWords(name, found) {
   const [kind, from] = name.split("/"), all = seen.desk ? ` of ${count(seen.desk.open)}` : "";
@@ -198,6 +198,10 @@ const VIEWS = {
   orders: { titleOf: () => "Open orders", path: "/v1/", read: parsed, drawn: drawOrders },
   desk: { titleOf: () => "The desk", path: "/v1/", read: parsed, drawn: drawDesk },
 };
+function bringTo(part) {
+  part.scrollIntoView();
+  part.focus({ preventScroll: true });
+}
 // Shows it; where a part of the page is named, the user is brought there.
 export async function show(kind, name, part = null) {
   const { titleOf, path, read, drawn } = VIEWS[kind], say = text => { at(`${kind}-told`).textContent = text; };
@@ -206,7 +210,7 @@ export async function show(kind, name, part = null) {
   if (input && state[kind] !== name) input.value = name;
   state[kind] = name;
   save();
-  if (part) at(part).focus();
+  if (part) bringTo(at(part));
   const { status, text } = await look(path + name, say);
   if (state[kind] !== name) return;
   if (status === 200) {

@@ -308,17 +308,21 @@ def shot(page: Page) -> str:
 
 
 def screenshots(front: Front, path: str) -> None:
-    """Writes a picture of the page with a branch and an order, 1,000 pixels wide in light and beside it 390 wide in dark."""
-    tell_all(front, ["field N1 A-1 0 100 40", "field N1 BOOT-42 10 200 120", "field N1 CUP 0 50 50", "field N1 TEA 5 60 15"])
-    tell_all(front, ["open 7 600 take N1 A-1 25 add N1 BOOT-42 60", "open 8 600 take N1 BOOT-42 40 take N1 CUP 30"])
-    height = 1020
-    with Page(front, "n1", (1000, height)) as page:
+    """Writes a picture of the page with a branch, the open orders and an order, 1,000 pixels wide in light and beside it 390 wide
+    in dark."""
+    now = int(time.time() // 60)
+    tell_all(front, ["field N2 A-1 0 100 40", "field N2 BOOT-42 10 200 120", "field N2 CUP 0 50 50", "field N2 TEA 5 60 15"])
+    tell_all(front, ["field N3 BOOT-42 0 90 35", "field N3 CUP 0 50 12", f"open 7 {now + 2 * DAY} take N2 A-1 25 add N2 BOOT-42 60"])
+    tell_all(front, [f"open 8 {now + 5 * 60} take N2 BOOT-42 40 take N2 CUP 30", f"open 9 {FOREVER} take N3 CUP 6", "firm 9"])
+    tell_all(front, [f"transfer 900000000 {now + 9 * DAY} BOOT-42 N3 N2 20", f"expire {now}"])
+    height = 1230
+    with Page(front, "n1", (1000, height), "Europe/Berlin") as page:
         page.browser.execute_cdp_cmd("Emulation.setScrollbarsHidden", {"hidden": True})
-        page.show("stock", "N1")
+        page.show("stock", "N2")
         page.show("order", "7")
         page.tell("#use", verb="use", quantity=12)
         images = shot(page)
-        page.tell("#open", "Not enough stock", number=9, until=600, article="CUP", quantity=21)
+        page.tell("#open", "Not enough stock", number=10, until=now + DAY, article="CUP", quantity=21)
         page.resize((390, height), is_dark=True)
         images += shot(page)
         page.resize((1406, height))
