@@ -1,5 +1,5 @@
-"""Tests of what the page opens with, in Chromium through a front that runs: branches, the open orders, an article at all branches,
-how full the desk is; of moments as dates and times; and of the order number that it proposes."""
+"""Tests of what the page opens with, in Chromium through a front that runs: branches, the open orders, an article at all
+branches, how full the desk is; of moments as dates and times; and of the order number that it proposes."""
 
 import json
 import re
@@ -233,7 +233,9 @@ class Moments(PageCase):
     def test_the_clock_is_a_moment(self):
         """Before the first expire no moment has come; the form says where the clock stands, and which moment it is to be."""
         with Front(self.program, self.folder) as front, Page(front, "ho") as page:
-            page.wait(lambda: page.texts(".clock") == 2 * ["The desk's clock: no moment has come yet."], f"{page.texts('.clock')}")
+            page.wait(
+                lambda: page.texts(".clock") == 2 * ["The desk's clock: no moment has come yet."], f"{page.texts('.clock')}"
+            )
             moment = now() - 100
             page.fill("#expire", now=moment)
             expect(page.text("#expire .spelled code") == f"expire {moment}", page.text("#expire .spelled code"))
@@ -275,8 +277,8 @@ class Numbers(PageCase):
             expect(proposed(page) == "7000500", "what was written is written over")
 
     def test_where_the_range_is_used_up_or_there_is_none(self):
-        """Behind the last of the range a free one is looked for from its first on; without a range there is none, and the page says
-        so; the office has those that no shop has."""
+        """Behind the last of the range a free one is looked for from its first on; without a range there is none, and the page
+        says so; the office has those that no shop has."""
         tell_all(self.front, ["field P2 A 0 1000 500", f"open 8999999 {FOREVER} take P2 A 1"])
         with Page(self.front, "n3") as page:
             page.wait(lambda: proposed(page) == "8000000", f"proposed: {proposed(page)}")
@@ -289,6 +291,7 @@ class Numbers(PageCase):
             page.wait(lambda: "No orders are yours" in page.text("#open"), page.text("#open"))
             expect(proposed(page) == "", f"proposed: {proposed(page)}")
             page.show("order", "8999999")
+            expect("a shop with range 8." in page.text("#order"), page.text("#order"))
             expect("not one of your orders" in page.text("#order") and not page.all("#commit"), "it may be ended")
         with Page(self.front, "ho") as page:
             page.wait(lambda: proposed(page) == "900000000", f"proposed: {proposed(page)}")

@@ -2,9 +2,8 @@
 import { BARRED, REFUSALS } from "./words.js";
 import { at, count, fetched, laterWait, look, meaningOf, parsed, pause, recall, restore, save, state, user, zone }
   from "./tools.js";
-import { drawStock, dueName, nextOrders, show, showAgain, showBranches } from "./views.js";
-import { empty, listenToForms, noteOpened, offer, partOf, propose, putUser, redrawOffers, sending, wordOf }
-  from "./forms.js";
+import { drawOrder, drawStock, dueName, nextOrders, seen, show, showAgain, showBranches } from "./views.js";
+import { empty, listenToForms, noteOpened, offer, partOf, propose, putUser, sending, wordOf } from "./forms.js";
 
 const LONGEST_ANSWER = 60000;
 let asking = null, source = null, isLost = true;
@@ -100,7 +99,7 @@ async function learnUser() {
   recall();
   at("user").textContent = `${user.name}, group: ${user.group}`;
   offer();
-  redrawOffers();
+  if (seen.order) drawOrder(seen.order);
 }
 function listen() {
   listenToForms();

@@ -1,14 +1,13 @@
 // The forms of the commands: each spells the line that it sends, and tells what is there and which number is free.
 import { ENDS, FORMS, PARTS, VERBS, numberAs } from "./words.js";
-import { NO_END, at, buttonOf, count, fetched, inputOf, keep, kept, look, make, meaningOf, minuteNow, minuteOf, parsed,
-  state, user } from "./tools.js";
-import { behind, isOpen, seen } from "./views.js";
+import { FIRST_OF_OFFICE, NO_END, RANGE, at, buttonOf, count, fetched, inputOf, isOwn, keep, kept, look, make,
+  meaningOf, minuteNow, minuteOf, parsed, state, user } from "./tools.js";
+import { behind, isOpen } from "./views.js";
 
-const MOST_LINES = 64, FIRST_OF_OFFICE = 900000000;
+const MOST_LINES = 64;
 // What sends a line, of a form or of none; the way to the desk puts it here.
 export const sending = { send() {}, mark() {} };
 export const may = verb => VERBS[user.group].includes(verb);
-const isOwn = number => user.group === "office" || (user.first <= number && number <= user.last);
 let made = 0, proposed = null;
 
 // ---- the parts of a form
@@ -218,7 +217,7 @@ function moreForm({ number, kind, state: stands }) {
   if (stands !== "open" || kind === "transfer") return [];
   return [folded("Hold more", false, formOf("more", `more ${number}`, lineParts(), "Hold more"))];
 }
-export function offerFor(order) {
+function offerFor(order) {
   if (!isOpen(order) || !may("commit")) return;
   if (isOwn(order.number)) at("order").append(...endButtons(order), ...useForm(order), ...moreForm(order));
   else at("order").append(make("p", { class: "soft" }, "It is not one of your orders: you see it, and others end it."));
@@ -240,9 +239,8 @@ export function listenToForms() {
   });
 }
 export function putUser({ user: name, group, shop = "" }) {
-  const [range, ...branches] = shop.split(/\s+/).filter(Boolean), first = 1000000 * range;
+  const [range, ...branches] = shop.split(/\s+/).filter(Boolean), first = RANGE * range;
   const isOffice = group === "office", isKnown = Object.hasOwn(VERBS, group);
   Object.assign(user, { name, group: isKnown ? group : "none", branches, first: first || 1,
-    last: isOffice ? 999999999 : range ? first + 999999 : 0 });
+    last: isOffice ? 999999999 : range ? first + RANGE - 1 : 0 });
 }
-export function redrawOffers() { if (seen.order && !at("order").hidden) offerFor(seen.order); }

@@ -1,11 +1,12 @@
 // What all parts of the page share: elements, moments, what is kept in the browser, and asking the desk.
-export const NO_END = 4000000000, DAY = 24 * 60;
+export const NO_END = 4000000000, DAY = 24 * 60, RANGE = 1000000, FIRST_OF_OFFICE = 900000000;
 const FIRST_WAIT = 500, LAST_WAIT = 16000, MOST_LOOKS = 6;
 
 // What is shown, and the command that has no answer yet: it is kept with its key, so that a reload asks for it again.
 export const state = { stock: "", article: "", order: "", orders: "open/0", pending: null };
 // Who asks: the orders from `first` to `last` are the user's own; where there are `branches`, the user is held to them.
 export const user = { name: "", group: "none", first: 1, last: 0, branches: [] };
+export const isOwn = number => user.group === "office" || (user.first <= number && number <= user.last);
 // What stays for the user's next visit: the branch that was shown, and the last number that was proposed and taken.
 export const kept = { branch: "", number: 0 };
 // where the browser keeps nothing the page still works

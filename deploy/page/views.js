@@ -1,7 +1,7 @@
 // What the desk shows: branches, stock, an article at all branches, open orders, an order, how full the desk is.
 import { BARRED, STATES } from "./words.js";
-import { DAY, NO_END, at, buttonOf, clockWords, count, isPassing, keep, kept, look, make, minuteNow, momentWords,
-  parsed, save, state, user } from "./tools.js";
+import { DAY, FIRST_OF_OFFICE, NO_END, RANGE, at, buttonOf, clockWords, count, isOwn, isPassing, keep, kept, look,
+  make, minuteNow, momentWords, parsed, save, state, user } from "./tools.js";
 
 const MOST_ROWS = 200, MOST_ORDERS = 50, MOST_SUMMED = 3;
 // How much a desk holds at most.
@@ -140,8 +140,14 @@ export function nextOrders() {
   at("orders-table").scrollTop = 0;
   return show("orders", `open/${seen.orders.orders.at(-1).number}`, "orders-part");
 }
-export const dueName = () => `due/${Math.max(minuteNow(), seen.desk?.clock ?? 0) + DAY}`;
-function drawOrder(order) {
+export const dueName = () => `due/${Math.min(NO_END, Math.max(minuteNow(), seen.desk?.clock ?? 0) + DAY)}`;
+// An order's number alone tells whose it is.
+function ownerWords(number) {
+  if (number >= FIRST_OF_OFFICE) return "By its number it is head office's.";
+  const yours = user.group === "shops" && isOwn(number) ? ", which is yours" : "";
+  return `By its number it is of a shop with range ${Math.floor(number / RANGE)}${yours}.`;
+}
+export function drawOrder(order) {
   const shown = at("order"), hadFocus = shown.contains(document.activeElement);
   const { number, kind, until, lines, state: stands } = order;
   const name = make("h3", { tabindex: "-1" }, `Order ${number} `, make("span", { class: "state" }, stands));
@@ -151,7 +157,7 @@ function drawOrder(order) {
     count(held), count(used), isOpen(order) ? count(held - used) : "–"]);
   const heads = ["Line", "Way", "Branch", "Article", "Held", "Used", "Left"];
   const table = tableOf(`The lines of order ${number}`, heads, rows);
-  shown.replaceChildren(name, about, make("p", {}, STATES[stands]), table);
+  shown.replaceChildren(name, about, make("p", {}, `${ownerWords(number)} ${STATES[stands]}`), table);
   behind.order(order);
   if (hadFocus) name.focus();
 }

@@ -170,8 +170,10 @@ class Page:
 
     def fill_moment(self, control: Any, minute: int) -> None:
         """Puts a moment into its input, or says that there is none."""
+        toggle = control.find_element("xpath", "../button")
+        if (minute == FOREVER) != (toggle.get_attribute("aria-pressed") == "true"):
+            self.run("arguments[0].click()", toggle)
         if minute == FOREVER:
-            self.run("arguments[0].parentElement.querySelector('button').click()", control)
             return
         script = "arguments[0].value = arguments[1]; arguments[0].dispatchEvent(new Event('input', { bubbles: true }))"
         self.run(script, control, local(minute).strftime("%Y-%m-%dT%H:%M"))
@@ -308,11 +310,13 @@ def shot(page: Page, part: str = "body") -> str:
 
 
 def screenshots(front: Front, path: str) -> None:
-    """Writes a picture of the page with a branch and an order, 1,000 pixels wide in light, and beside it with the open orders, 390
-    wide in dark."""
+    """Writes a picture of the page with a branch and an order, 1,000 pixels wide in light, and beside it with the open orders,
+    390 wide in dark."""
     now = int(time.time() // 60)
     tell_all(front, ["field N2 A-1 0 100 40", "field N2 BOOT-42 10 200 120", "field N2 CUP 0 50 50", "field N2 TEA 5 60 15"])
-    tell_all(front, ["field N3 BOOT-42 0 90 35", "field N3 CUP 0 50 12", f"open 7 {now + 2 * DAY} take N2 A-1 25 add N2 BOOT-42 60"])
+    tell_all(
+        front, ["field N3 BOOT-42 0 90 35", "field N3 CUP 0 50 12", f"open 7 {now + 2 * DAY} take N2 A-1 25 add N2 BOOT-42 60"]
+    )
     tell_all(front, [f"open 8 {now + 5 * 60} take N2 BOOT-42 40 take N2 CUP 30", f"open 9 {FOREVER} take N3 CUP 6", "firm 9"])
     tell_all(front, [f"transfer 900000000 {now + 9 * DAY} BOOT-42 N3 N2 20", f"expire {now}"])
     height = 1000
