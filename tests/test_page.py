@@ -185,11 +185,14 @@ class Pages(PageCase):
             a, b = ["take", "O1", "A", "30", "0", "30"], ["add", "O1", "B", "20", "0", "20"]
             stock |= {"A": row(0, 100, 50, 20, 50), "B": row(0, 100, 50, 50, 70)}
             expect_both(page, stock, [a, b])
+            unused = "Nothing of it was used: Commit now gives all back."
+            expect(unused in page.text("#order") and "one of yours (range 0)" in page.text("#order"), "less is told of it")
             # order 1 is the first of the range, and free
             emptied = "open 1 UNTIL take O1 ARTICLE QUANTITY"
             page.wait(lambda: page.texts("#open legend") == ["Line 1"] and page.text("#open code") == emptied, "not emptied")
             page.tell("#use", verb="use", line="O1 A", quantity=12)
             expect_both(page, stock, [[*a[:4], "12", "18"], b])
+            expect("Commit settles what was used" in page.text("#order"), "it is not told what a commit does")
             page.tell("#use", verb="release", line="O1 B", quantity=5)
             stock["B"] = row(0, 100, 50, 50, 65)
             expect_both(page, stock, [[*a[:4], "12", "18"], ["add", "O1", "B", "15", "0", "15"]])

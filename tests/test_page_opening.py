@@ -291,7 +291,7 @@ class Numbers(PageCase):
             page.wait(lambda: "No orders are yours" in page.text("#open"), page.text("#open"))
             expect(proposed(page) == "", f"proposed: {proposed(page)}")
             page.show("order", "8999999")
-            expect("a shop with range 8." in page.text("#order"), page.text("#order"))
+            expect("of a shop (range 8)" in page.text("#order"), page.text("#order"))
             expect("not one of your orders" in page.text("#order") and not page.all("#commit"), "it may be ended")
         with Page(self.front, "ho") as page:
             page.wait(lambda: proposed(page) == "900000000", f"proposed: {proposed(page)}")

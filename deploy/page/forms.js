@@ -195,7 +195,7 @@ export function empty(form) {
 
 // ---- what is offered for an order
 
-function endButtons({ number, state: stands }) {
+function endButtons({ number, lines, state: stands }) {
   const ends = stands === "open" ? { commit: "Commit", abort: "Abort", firm: "Make firm" } : { commit: "Commit" };
   const verbs = Object.keys(ends).filter(may);
   const buttons = verbs.map(verb => {
@@ -203,7 +203,8 @@ function endButtons({ number, state: stands }) {
     const attributes = { id: verb, class: `sends${strong}` };
     return buttonOf(attributes, () => sending.send(line), ends[verb], make("code", {}, line));
   });
-  const words = verbs.map(verb => ENDS[verb]).join(" ");
+  const isUsed = lines.some(line => line.used > 0), told = { ...ENDS, ...(isUsed ? {} : { commit: ENDS.unused }) };
+  const words = verbs.map(verb => told[verb]).join(" ");
   return [make("div", { class: "row" }, ...buttons), make("p", { class: "soft" }, words)];
 }
 function useForm({ number, lines }) {

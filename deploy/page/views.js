@@ -144,8 +144,8 @@ export const dueName = () => `due/${Math.min(NO_END, Math.max(minuteNow(), seen.
 // An order's number alone tells whose it is.
 function ownerWords(number) {
   if (number >= FIRST_OF_OFFICE) return "By its number it is head office's.";
-  const yours = user.group === "shops" && isOwn(number) ? ", which is yours" : "";
-  return `By its number it is of a shop with range ${Math.floor(number / RANGE)}${yours}.`;
+  const owner = user.group === "shops" && isOwn(number) ? "one of yours" : "of a shop";
+  return `By its number it is ${owner} (range ${Math.floor(number / RANGE)}).`;
 }
 export function drawOrder(order) {
   const shown = at("order"), hadFocus = shown.contains(document.activeElement);

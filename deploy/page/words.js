@@ -36,7 +36,7 @@ export const STATES = {
   committed: "Ended: what was used is settled, the rest was given back.", aborted: "Ended: all was given back.",
 };
 export const ENDS = { commit: "Commit settles what was used and gives the rest back.", abort: "Abort gives all back.",
-  firm: "Made firm, it can no longer be aborted." };
+  firm: "Made firm, it can no longer be aborted.", unused: "Nothing of it was used: Commit now gives all back." };
 
 const codeAs = (label, word, pattern, maxlength, hint, list) =>
   ({ label, word, hint, limits: { pattern, maxlength, title: hint, list, autocapitalize: "characters" } });
