@@ -83,7 +83,8 @@ function drawArticle({ name, fields, total }) {
   at("article-table").querySelector("thead").hidden = !isThere;
 }
 function markBranch(name) {
-  for (const button of at("branch-list").children) button.setAttribute("aria-pressed", button.textContent === name);
+  const buttons = at("branch-list").querySelectorAll("button");
+  buttons.forEach(button => button.setAttribute("aria-pressed", button.textContent === name));
 }
 // The branch that is shown first: the last one, or else the user's own, or any.
 const firstBranch = branches => [kept.branch, ...user.branches, ...branches].find(name => branches.includes(name));
@@ -93,7 +94,9 @@ export async function showBranches() {
   if (status !== 200) return say(`The branches: ${lookWords(status)}`);
   const { branches } = parsed(text);
   const chipOf = name => buttonOf({ class: "chip" }, () => show("stock", name), name);
-  redraw(at("branch-list"), ...branches.slice(0, MOST_ROWS).map(chipOf));
+  const shown = branches.slice(0, MOST_ROWS), others = branches.length - shown.length;
+  const words = others ? [make("p", { class: "soft" }, `and ${count(others)} more: write the code of one`)] : [];
+  redraw(at("branch-list"), ...shown.map(chipOf), ...words);
   at("branches").replaceChildren(...branches.map(name => make("option", { value: name })));
   markBranch(state.stock);
   if (!branches.length) return say("No branch has an article yet: the office adds the first one.");

@@ -17,7 +17,7 @@ from support.fronts import Front, FrontCase
 from support.programs import SECONDS, expect
 
 DRIVER = "/usr/bin/chromedriver"
-ARGUMENTS = ["--headless=new", "--no-sandbox", "--ignore-certificate-errors", "--disable-dev-shm-usage"]
+ARGUMENTS = ["--headless=new", "--no-sandbox", "--ignore-certificate-errors", "--disable-dev-shm-usage", "--lang=en-US"]
 FOREVER = 4_000_000_000
 # where the browser is; it has had this offset since 1945
 ZONE, OFFSET = "Asia/Kolkata", datetime.timedelta(hours=5, minutes=30)
@@ -53,17 +53,14 @@ WORDS = {
 # a control is as large as a thumb, in pixels
 THUMB = 44
 
-# keeps what is sent and what is said, and how many answers from now on are lost after they came, or which are made up; and
-# what is asked for, and which views are made up
+# keeps what is sent and what is said, and how many answers from now on are lost after they came, or which are made up, as may
+# be views
 WATCH = """
 const real = window.fetch;
-Object.assign(window, { sent: [], lose: 0, answers: [], asked: [], views: {} });
+Object.assign(window, { sent: [], lose: 0, answers: [], views: {} });
 window.fetch = async (address, options) => {
   const path = new URL(address).pathname;
-  if (options.method !== "POST") {
-    asked.push(path);
-    return path in views ? new Response(views[path]) : real(address, options);
-  }
+  if (options.method !== "POST") return path in views ? new Response(views[path]) : real(address, options);
   sent.push({ ...JSON.parse(options.body), type: options.headers["content-type"] });
   if (answers.length) return new Response(answers[0][1], { status: answers.shift()[0] });
   const answer = await real(address, options);
