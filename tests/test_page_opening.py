@@ -48,6 +48,10 @@ class Opening(PageCase):
                 page.wait_rows("stock", {"A": row(0, 100, 12, 12, 12)})
             with Page(front, "n2") as page:
                 page.wait_rows("stock", {"A": row(0, 100, 11, 11, 11)})
+                expect(page.text("#user") == "n2, group: shops, range 7, held to B2, B3", page.text("#user"))
+                page.tell("#open", "held to your branches", number=7_000_000, until=FOREVER, branch="B1", article="A", quantity=1)
+                page.tell("#own-line", "not one of yours", own=f"open 1 {FOREVER} take B2 A 1")
+                page.tell("#open", branch="B2")
 
     def test_what_is_written_stays_on_its_branch(self):
         """A form in which something was written does not follow the branch that is shown, and an order that is looked for is not

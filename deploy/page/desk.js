@@ -1,7 +1,7 @@
 // How the page begins, and the way of a command to the desk: it is asked for under its key until there is an answer.
-import { BARRED, REFUSALS } from "./words.js";
-import { at, count, fetched, laterWait, look, meaningOf, parsed, pause, recall, restore, save, state, user, zone }
-  from "./tools.js";
+import { BARRED, NOT_YOURS, REFUSALS } from "./words.js";
+import { RANGE, at, count, fetched, isOwn, laterWait, look, meaningOf, parsed, pause, recall, restore, save, state,
+  user, zone } from "./tools.js";
 import { drawOrder, drawStock, dueName, nextOrders, seen, show, showAgain, showBranches } from "./views.js";
 import { empty, listenToForms, noteOpened, offer, partOf, propose, putUser, sending, wordOf } from "./forms.js";
 
@@ -30,12 +30,12 @@ function faultOf(command, line) {
   return `line ${line} (${way} ${quantity} of ${article} at ${branch})`;
 }
 function outcomeOf(status, text, command) {
-  const { place, code, refused, line } = parsed(text);
+  const { place, code, refused, line, error } = parsed(text);
   if (status === 200 && place) return { kind: "done", words: `Done, at place ${count(place)}.` };
   const fault = line ? `Refused, ${faultOf(command, line)}` : "Refused";
   if ((status === 400 || status === 409) && REFUSALS[refused])
     return { kind: "refused", refused, words: `${fault}: ${REFUSALS[refused]} (${code} ${refused})` };
-  if (BARRED[status]) return { kind: "barred", words: BARRED[status] };
+  if (BARRED[status]) return { kind: "barred", words: NOT_YOURS[error] ?? BARRED[status] };
   return { kind: "again", words: status === 429 ? "Too much was asked in one second." : "No answer yet." };
 }
 
@@ -92,12 +92,17 @@ function send(command, form = null) {
 
 // ---- how the page begins
 
+function userWords() {
+  const { name, group, first, branches } = user, range = isOwn(first) ? `, range ${Math.floor(first / RANGE)}` : "";
+  const held = branches.length ? `, held to ${branches.join(", ")}` : "";
+  return `${name}, group: ${group}${group === "shops" ? range + held : ""}`;
+}
 async function learnUser() {
   const { status, text } = await look("/user", words => { at("user").textContent = words; }, Infinity);
   if (status !== 200) { at("user").textContent = BARRED[status] ?? `The front answered ${status}.`; return; }
   putUser(parsed(text));
   recall();
-  at("user").textContent = `${user.name}, group: ${user.group}`;
+  at("user").textContent = userWords();
   offer();
   if (seen.order) drawOrder(seen.order);
 }

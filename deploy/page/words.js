@@ -27,6 +27,9 @@ export const BARRED = {
   400: "The front could not read this. A command has letters, digits, spaces and - alone.", 413: "This is too long.",
   401: "You are not signed in. Reload the page.", 403: "Your group may not, or the order or a branch is not yours.",
 };
+// what else the front says where it bars a command of a shop
+export const NOT_YOURS = { order: "This order's number is not one of yours.",
+  branch: "You are held to your branches: each line has to be at one of them, and a transfer from one." };
 export const VERBS = { none: [], shops: ["open", "transfer", "more", "use", "release", "commit", "abort"],
   warehouse: ["deliver", "writeoff"] };
 VERBS.office = [...VERBS.shops, ...VERBS.warehouse, "firm", "field", "rebound", "expire"];
