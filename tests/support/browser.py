@@ -310,18 +310,20 @@ def screenshots(front: Front, path: str) -> None:
     """Writes a picture of the page with a branch and an order, 1,000 pixels wide in light, and beside it with the open orders,
     390 wide in dark."""
     now = int(time.time() // 60)
-    tell_all(front, ["field N2 A-1 0 100 40", "field N2 BOOT-42 10 200 120", "field N2 CUP 0 50 50", "field N2 TEA 5 60 15"])
+    tell_all(front, ["field N2 A-1 0 100 40", "field N2 BOOT-42 10 200 120", "field N2 CUP 0 50 50"])
     tell_all(
         front, ["field N3 BOOT-42 0 90 35", "field N3 CUP 0 50 12", f"open 7 {now + 2 * DAY} take N2 A-1 25 add N2 BOOT-42 60"]
     )
     tell_all(front, [f"open 8 {now + 5 * 60} take N2 BOOT-42 40 take N2 CUP 30", f"open 9 {FOREVER} take N3 CUP 6", "firm 9"])
     tell_all(front, [f"transfer 900000000 {now + 9 * DAY} BOOT-42 N3 N2 20", f"expire {now}"])
-    height = 1000
+    height = 960
     with Page(front, "n1", (1000, height), "Europe/Berlin") as page:
         page.browser.execute_cdp_cmd("Emulation.setScrollbarsHidden", {"hidden": True})
         page.show("stock", "N2")
         page.show("order", "7")
         page.tell("#use", verb="use", quantity=12)
+        page.wait(lambda: page.rows("order")["Line 1"][-1] == "13", "it is not used")
+        page.wait(lambda: page.run("return document.activeElement.tagName") == "H3", "the focus is lost")
         images = shot(page)
         page.tell("#open", "Not enough stock", number=10, until=now + DAY, article="CUP", quantity=21)
         page.resize((390, height), is_dark=True)
