@@ -142,8 +142,8 @@ DONE = [
     ("n5", "commit 2000007"),
     ("n5", "abort 2000000"),
     (OFFICE, "commit 1000001"),
-    (OFFICE, "abort 900000007"),
-    (OFFICE, "open 900000000 60 take N2 A-1 1"),
+    (OFFICE, "abort 899999999"),
+    (OFFICE, "open 899999998 60 take N2 A-1 1"),
     (OFFICE, "firm 2999999"),
     (WAREHOUSE, "deliver N2 A-1 1"),
 ]
