@@ -22,7 +22,7 @@ CONFIGURATION, PAGE = os.path.join(DEPLOY, "haproxy.cfg"), os.path.join(DEPLOY, 
 FIELDS = "".join(f"F{n} field N1 A-{n} 0 1000000 500\n" for n in range(1, 9))
 
 # a user of each group
-SHOP, WAREHOUSE, OFFICE = "n1", "w1", "ho"
+SHOP, WAREHOUSE, OFFICE, BETWEEN = "n1", "w1", "ho", "bt"
 
 # so much is answered that only the tests of the limits meet one
 NO_LIMITS = dict.fromkeys(
@@ -75,7 +75,7 @@ def added(folder: str, name: str, more: str) -> str:
 class Haproxy:
     """HAProxy with the configuration that is shipped, or another, before a desk's port, both on 127.0.0.1. `more` is read behind
     the configuration. Each of `shops`, such as "n2 1 N2", is one more user of the shops, with its orders and branches if it has
-    any."""
+    any; each of `users`, such as "w2 warehouse", one more of another group."""
 
     def __init__(
         self,
@@ -85,13 +85,14 @@ class Haproxy:
         more: str = "",
         shops: Sequence[str] = (),
         configuration: str = CONFIGURATION,
+        users: Sequence[str] = (),
     ):
         self.folder = folder
         make_certificate(folder)
         self.context = ssl.create_default_context(cafile=os.path.join(folder, "certificate"))
         self.log_path = os.path.join(folder, "log")
-        names = [line.split()[0] for line in shops]
-        more_users = "".join(f"    user {name} insecure-password {name} groups shops\n" for name in names)
+        groups = {line.split()[0]: "shops" for line in shops} | dict(line.split() for line in users)
+        more_users = "".join(f"    user {name} insecure-password {name} groups {group}\n" for name, group in groups.items())
         self.words = [str(path_of("haproxy")), "-f", added(folder, "users.cfg", more_users), "-f", configuration]
         if more:
             with open(os.path.join(folder, "more.cfg"), "w", encoding="ascii") as file:
@@ -134,6 +135,29 @@ class Haproxy:
         plain = socket.create_connection(("127.0.0.1", self.port), SECONDS)
         return self.context.wrap_socket(plain, server_hostname="localhost")
 
+    def ask(self, user: str | None, method: str, target: str, body: str | bytes | None = None) -> tuple[int, str]:
+        """The status and the body of an answer, on a connection of its own."""
+        connection = self.connect()
+        connection.request(method, target, body, credentials(user) if user else {})
+        answer = connection.getresponse()
+        found = answer.status, answer.read().decode()
+        connection.close()
+        return found
+
+    def tell(self, user: str, command: str, key: str | None = None, desk: str = "") -> tuple[int, Body]:
+        """The status and the object that answers a command, under a key of its own if none is given; `desk` as "/north"."""
+        status, body = self.ask(user, "POST", f"{desk}/v1/commands", message(key or str(uuid.uuid4()), command))
+        return status, json.loads(body)
+
+
+def served(program: str, file: str, port: int, **options: Any) -> subprocess.Popen[bytes]:
+    """A desk in a file, as the service of systemd serves it, which listens."""
+    words = [program, "serve", file, "--port", str(port), "--connections", "1000000", *TOGETHER]
+    desk = subprocess.Popen(words, stdin=subprocess.DEVNULL, stdout=subprocess.PIPE, stderr=subprocess.PIPE, **options)
+    told = desk.stdout and desk.stdout.readline()
+    expect(told == f"listening {port}\n".encode(), f"no desk: {told!r}")
+    return desk
+
 
 class Front(Haproxy):
     """A desk in a file with some fields, served to many behind a front."""
@@ -165,28 +189,11 @@ class Front(Haproxy):
         self.desk_kill()
 
     def desk_start(self, **options: Any) -> None:
-        words = [self.program, "serve", self.file, "--port", str(self.desk_port), "--connections", "1000000", *TOGETHER]
-        self.desk = subprocess.Popen(words, stdin=subprocess.DEVNULL, stdout=subprocess.PIPE, stderr=subprocess.PIPE, **options)
-        told = self.desk.stdout and self.desk.stdout.readline()
-        expect(told == f"listening {self.desk_port}\n".encode(), f"no desk: {told!r}")
+        self.desk = served(self.program, self.file, self.desk_port, **options)
 
     def desk_kill(self) -> None:
         self.desk.send_signal(signal.SIGKILL)
         self.desk.communicate()
-
-    def ask(self, user: str | None, method: str, target: str, body: str | bytes | None = None) -> tuple[int, str]:
-        """The status and the body of an answer, on a connection of its own."""
-        connection = self.connect()
-        connection.request(method, target, body, credentials(user) if user else {})
-        answer = connection.getresponse()
-        found = answer.status, answer.read().decode()
-        connection.close()
-        return found
-
-    def tell(self, user: str, command: str, key: str | None = None) -> tuple[int, Body]:
-        """The status and the object that answers a command, under a key of its own if none is given."""
-        status, body = self.ask(user, "POST", "/v1/commands", message(key or str(uuid.uuid4()), command))
-        return status, json.loads(body)
 
     def value(self, article: str = "A-1") -> int:
         status, body = self.ask(OFFICE, "GET", f"/v1/fields/N1/{article}")
