@@ -7,7 +7,7 @@ import os
 import re
 
 from support.browser import FOREVER, NARROW, THUMB, WIDE, WORDS, Keys, Page, PageCase, local, row, tell_all, without
-from support.forms import ARTICLE, BRANCH, LEVEL, ORDER, QUANTITY
+from support.forms import ARTICLE, BRANCH, LEVEL, QUANTITY
 from support.fronts import PAGE
 from support.programs import expect
 
@@ -26,12 +26,15 @@ VERBS = {
     "ho": "open transfer more use release commit abort deliver writeoff firm field rebound expire".split(),
 }
 
+# numbers of orders that are of no deal between desks
+OWN_ORDER = "[1-9][0-9]{0,7}|[1-8][0-9]{8}"
+
 # the form of what an input takes, and texts about the edge of it
 INPUTS = {
     "branch": (BRANCH, ["N1", "ABCDEFGH", "ABCDEFGHI", "n1", "N-1", "N 1"]),
     "to": (BRANCH, ["9", "ABCDEFGHI", "É"]),
     "article": (ARTICLE, ["A-1", "-A", "A" * 16, "A" * 17, "A_1", "0-", "a"]),
-    "number": (ORDER, ["0", "1", "999999999", "1000000000", "-1"]),
+    "number": (OWN_ORDER, ["0", "1", "899999999", "900000000", "999999999", "1000000000", "-1"]),
     "quantity": (QUANTITY, ["0", "1", "1000000", "1000001"]),
     "lower": (LEVEL, ["0", "1000000000", "1000000001", "-1"]),
     "start": (LEVEL, ["0", "1000000000", "1000000001"]),
@@ -41,7 +44,10 @@ INPUTS = {
 UNTIL = 50_000_000
 
 # the inputs of a moment, and the minutes about the edge of what they take
-MOMENTS = {name: {-1: False, 0: True, FOREVER: True, FOREVER + 1: False} for name in ["until", "now"]}
+MOMENTS = {
+    "until": {-1: False, 0: True, FOREVER: True, FOREVER + 1: False},
+    "now": {-1: False, 0: True, FOREVER - 1: True, FOREVER: False},
+}
 
 # texts and grounds, by the names of their colours, and how much they have to differ
 CONTRASTS = [
@@ -368,13 +374,13 @@ class Pages(PageCase):
         article = "M" * 16
         fields = [f"field WWWWWWWW {article} 0 1000000000 999999999", f"field MMMMMMMM {article} 0 1000000000 1"]
         tell_all(self.front, fields)
-        order = f"open 999999990 {FOREVER} take WWWWWWWW {article} 1000000 add MMMMMMMM {article} 1000000"
+        order = f"open 899999990 {FOREVER} take WWWWWWWW {article} 1000000 add MMMMMMMM {article} 1000000"
         tell_all(self.front, [order])
         with Page(self.front, "ho", NARROW) as page:
             page.show("stock", "WWWWWWWW")
-            page.show("order", "999999990")
+            page.show("order", "899999990")
             page.run("document.querySelectorAll('details').forEach(each => { each.open = true; })")
-            page.fill("#open", number=999999990, until=FOREVER, article=article, quantity=1000000)
+            page.fill("#open", number=899999990, until=FOREVER, article=article, quantity=1000000)
             page.tell("#open", WORDS["OrderThere"])
             for width in [NARROW[0], 360, 720, 1000]:
                 page.resize((width, NARROW[1]))

@@ -28,7 +28,7 @@ REFUSED = [
     ("BadBounds", "field R1 NEW 9 1 5", ""),
     ("BadBounds", "rebound R1 A 9 1", ""),
     ("OrderThere", f"open 9001 {FOREVER} take R1 A 1", ""),
-    ("NoOrder", "commit 999999999", ""),
+    ("NoOrder", "commit 899999999", ""),
     ("Ended", "abort 9002", ""),
     ("Past", "open 9010 1 take R1 A 1", ""),
     ("SameField", f"open 9010 {FOREVER} take R1 A 1 add R1 A 1", "line 2 (add 1 of A at R1)"),

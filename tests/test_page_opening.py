@@ -116,11 +116,11 @@ class Opening(PageCase):
         branches, article = ["WWWWWWWW", "MMMMMMMM"], "W" * 16
         tell_all(self.front, [f"field {branch} {article} 0 1000000000 500000000" for branch in branches])
         lines = " ".join(f"take {branch} {article} 1000000" for branch in branches)
-        tell_all(self.front, [f"open {999_999_900 + n} {now() + n} {lines}" for n in range(MOST_SHOWN)])
+        tell_all(self.front, [f"open {899_999_900 + n} {now() + n} {lines}" for n in range(MOST_SHOWN)])
         with Page(self.front, "ho") as page:
             page.show("stock", branches[0])
             page.show("article", article)
-            page.run("views[`/v1/open/0`] = arguments[0]", self.front.ask("ho", "GET", "/v1/open/999999899")[1])
+            page.run("views[`/v1/open/0`] = arguments[0]", self.front.ask("ho", "GET", "/v1/open/899999899")[1])
             page.press("#refresh")
             page.wait(lambda: len(numbers(page)) == MOST_SHOWN, "the list is not full")
             for width, is_dark in [(NARROW[0], False), (360, True), (720, False), (WIDE[0], True)]:
@@ -298,4 +298,4 @@ class Numbers(PageCase):
             expect("of a shop (range 8)" in page.text("#order"), page.text("#order"))
             expect("not one of your orders" in page.text("#order") and not page.all("#commit"), "it may be ended")
         with Page(self.front, "ho") as page:
-            page.wait(lambda: proposed(page) == "900000000", f"proposed: {proposed(page)}")
+            page.wait(lambda: proposed(page) == "899000000", f"proposed: {proposed(page)}")

@@ -3,6 +3,7 @@ import { BARRED, NOT_YOURS, REFUSALS } from "./words.js";
 import { RANGE, at, count, fetched, isOwn, laterWait, look, meaningOf, parsed, pause, recall, restore, save, state,
   user, zone } from "./tools.js";
 import { drawOrder, drawStock, dueName, nextOrders, seen, show, showAgain, showBranches } from "./views.js";
+import { listDesks } from "./desks.js";
 import { empty, listenToForms, noteOpened, offer, partOf, propose, putUser, sending, wordOf } from "./forms.js";
 
 const LONGEST_ANSWER = 60000;
@@ -103,6 +104,7 @@ async function learnUser() {
   putUser(parsed(text));
   recall();
   at("user").textContent = userWords();
+  listDesks();
   offer();
   if (seen.order) drawOrder(seen.order);
 }

@@ -1,7 +1,7 @@
 // The forms of the commands: each spells the line that it sends, and tells what is there and which number is free.
 import { ENDS, FORMS, PARTS, VERBS, numberAs } from "./words.js";
-import { FIRST_OF_OFFICE, NO_END, RANGE, at, buttonOf, count, fetched, inputOf, isOwn, keep, kept, look, make,
-  meaningOf, minuteNow, minuteOf, parsed, state, user } from "./tools.js";
+import { FIRST_OF_DEALS, FIRST_OF_OFFICE, NO_END, RANGE, at, buttonOf, count, fetched, inputOf, isOwn, keep, kept,
+  look, make, meaningOf, minuteNow, minuteOf, parsed, state, user } from "./tools.js";
 import { behind, isOpen } from "./views.js";
 
 const MOST_LINES = 64;
@@ -37,9 +37,9 @@ function choiceOf(name, label, options) {
   return make("div", { class: "part" }, make("label", { for: id }, label), select);
 }
 function ownNumber() {
-  if (user.group === "office") return partOf("number");
   const isNone = user.last < user.first, { first, last } = user;
-  const { label, word } = PARTS.number, part = partOf("number", numberAs(label, word, first, last, ": your orders"));
+  const { label, word } = PARTS.number, more = user.group === "office" ? "" : ": your orders";
+  const part = partOf("number", numberAs(label, word, first, last, more));
   if (isNone) part.querySelector("small").textContent = "No orders are yours: whoever runs the front gives you some.";
   return part;
 }
@@ -239,9 +239,9 @@ export function listenToForms() {
     if (target.matches("[data-word][autocapitalize]")) tellStock(target.closest("fieldset, form"));
   });
 }
-export function putUser({ user: name, group, shop = "" }) {
+export function putUser({ user: name, group, shop = "", desks = "" }) {
   const [range, ...branches] = shop.split(/\s+/).filter(Boolean), first = RANGE * range;
   const isOffice = group === "office", isKnown = Object.hasOwn(VERBS, group);
   Object.assign(user, { name, group: isKnown ? group : "none", branches, first: first || 1,
-    last: isOffice ? 999999999 : range ? first + RANGE - 1 : 0 });
+    desks: desks.split(/\s+/).filter(Boolean), last: isOffice ? FIRST_OF_DEALS - 1 : range ? first + RANGE - 1 : 0 });
 }

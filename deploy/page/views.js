@@ -1,7 +1,7 @@
 // What the desk shows: branches, stock, an article at all branches, open orders, an order, how full the desk is.
 import { BARRED, STATES } from "./words.js";
-import { DAY, FIRST_OF_OFFICE, NO_END, RANGE, at, buttonOf, clockWords, count, isOwn, isPassing, keep, kept, look,
-  make, minuteNow, momentWords, parsed, save, state, user } from "./tools.js";
+import { DAY, FIRST_OF_DEALS, FIRST_OF_OFFICE, NO_END, RANGE, at, buttonOf, clockWords, count, desk, isOwn, isPassing,
+  keep, kept, look, make, minuteNow, momentWords, parsed, save, state, timeNow, user } from "./tools.js";
 
 const MOST_ROWS = 200, MOST_ORDERS = 50, MOST_SUMMED = 3;
 // How much a desk holds at most.
@@ -10,10 +10,10 @@ const PART_HEADS = { Article: "name", Line: "name", Way: "name", Branch: "name",
   Holds: "name long", Picture: "drawn" };
 
 export const seen = {};
-// What is done when something new is shown; the commands add to it.
-export const behind = { stock() {}, order() {} };
+// What is done when something new is shown, or an article is asked for; the commands and the other desks add to it.
+export const behind = { stock() {}, order() {}, article() {}, asked() {} };
 export const isOpen = order => order.state === "open" || order.state === "firm";
-const lookWords = status => isPassing(status) ? "The desk does not answer now. Ask again in a while."
+export const lookWords = status => isPassing(status) ? "The desk does not answer now. Ask again in a while."
   : { 404: "There is none.", ...BARRED }[status] ?? `The front answered ${status}.`;
 
 export function tableOf(caption, heads, rows) {
@@ -36,7 +36,7 @@ function redraw(part, ...children) {
 // ---- a branch, and an article at all branches
 
 // A sheet's line is a name in 16 columns and five numbers of a space and 10 columns each; the last one is the total.
-function readSheet(text) {
+export function readSheet(text) {
   const lines = text.trimEnd().split("\n"), total = Number(lines.pop().slice(16));
   const fields = lines.map(line => {
     const [lo, hi, value, inf, sup] = [16, 27, 38, 49, 60].map(from => Number(line.slice(from, from + 11)));
@@ -55,8 +55,9 @@ function pictureOf({ lo, hi, value, inf, sup }) {
 }
 function sheetOf(caption, first, fields, onclick, says) {
   const rows = fields.map(field => {
-    const { label, lo, hi, value, inf, sup } = field, link = linkOf(label, () => onclick(label), says);
-    return [link, make("strong", {}, count(inf - lo)), ...[value, inf, sup, lo, hi].map(count), pictureOf(field)];
+    const { label, lo, hi, value, inf, sup } = field;
+    const head = onclick ? linkOf(label, () => onclick(label), says) : label;
+    return [head, make("strong", {}, count(inf - lo)), ...[value, inf, sup, lo, hi].map(count), pictureOf(field)];
   });
   const heads = `${first},Free to promise,Value,Infimum,Supremum,Lower bound,Upper bound,Picture`.split(",");
   return tableOf(caption, heads, rows);
@@ -74,13 +75,18 @@ export function drawStock({ name, fields, total } = seen.stock) {
   if (fields.length) keep({ branch: name });
   behind.stock();
 }
-function drawArticle({ name, fields, total }) {
+export function articleOf({ name, fields, total }, where, none, onclick = null) {
   const shown = fields.slice(0, MOST_ROWS), isThere = fields.length > 0;
-  const caption = isThere ? `${name} at all branches. Branches: ${shares(shown.length, fields.length)}. `
-    + `Pieces in all: ${count(total)}.` : `No branch has ${name}.`;
-  const onclick = branch => show("stock", branch, "stock-part");
-  redraw(at("article-table"), sheetOf(caption, "Branch", shown, onclick, "Show the stock of this branch"));
-  at("article-table").querySelector("thead").hidden = !isThere;
+  const caption = isThere ? `${name} at ${where}. Branches: ${shares(shown.length, fields.length)}. `
+    + `Pieces in all: ${count(total)}.` : `${none} has ${name}.`;
+  const table = sheetOf(caption, "Branch", shown, onclick, "Show the stock of this branch");
+  table.querySelector("thead").hidden = !isThere;
+  return table;
+}
+function drawArticle(article) {
+  const onclick = branch => show("stock", branch, "stock-part"), of = desk && ` of ${desk}`;
+  redraw(at("article-table"), articleOf(article, `all branches${of}`, `No branch${of}`, onclick));
+  behind.article();
 }
 function markBranch(name) {
   const buttons = at("branch-list").querySelectorAll("button");
@@ -146,7 +152,8 @@ export function nextOrders() {
 export const dueName = () => `due/${Math.min(NO_END, Math.max(minuteNow(), seen.desk?.clock ?? 0) + DAY)}`;
 // An order's number alone tells whose it is.
 function ownerWords(number) {
-  if (number >= FIRST_OF_OFFICE) return "By its number it is head office's.";
+  if (number >= FIRST_OF_DEALS) return "By its number it is of a deal between desks.";
+  if (number >= FIRST_OF_OFFICE && user.group !== "shops") return "By its number it is head office's.";
   const owner = user.group === "shops" && isOwn(number) ? "one of yours" : "of a shop";
   return `By its number it is ${owner} (range ${Math.floor(number / RANGE)}).`;
 }
@@ -220,10 +227,11 @@ export async function show(kind, name, part = null) {
   state[kind] = name;
   save();
   if (part) bringTo(at(part));
+  if (kind === "article") behind.asked(name);
   const { status, text } = await look(path + name, say);
   if (state[kind] !== name) return;
   if (status === 200) {
-    seen[kind] = { name, moment: new Date().toLocaleTimeString("en-GB"), ...read(text) };
+    seen[kind] = { name, moment: timeNow(), ...read(text) };
     drawn(seen[kind]);
     at(kind).hidden = false;
     return say(`${title} as of ${seen[kind].moment}.`);

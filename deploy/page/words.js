@@ -28,9 +28,10 @@ export const BARRED = {
   401: "You are not signed in. Reload the page.", 403: "Your group may not, or the order or a branch is not yours.",
 };
 // what else the front says where it bars a command of a shop
-export const NOT_YOURS = { order: "This order's number is not one of yours.",
+export const NOT_YOURS = { order: "This order's number is not one of yours.", desk: "You are not at this desk.",
+  moment: "The clock never comes to its last moment, which deals between desks outlast.",
   branch: "You are held to your branches: each line has to be at one of them, and a transfer from one." };
-export const VERBS = { none: [], shops: ["open", "transfer", "more", "use", "release", "commit", "abort"],
+export const VERBS = { none: [], between: [], shops: ["open", "transfer", "more", "use", "release", "commit", "abort"],
   warehouse: ["deliver", "writeoff"] };
 VERBS.office = [...VERBS.shops, ...VERBS.warehouse, "firm", "field", "rebound", "expire"];
 export const STATES = {
@@ -47,8 +48,8 @@ const branchAs = (label, word) => codeAs(label, word, "[A-Z0-9]{1,8}", 8, "1 to 
 export const numberAs = (label, word, min, max, more = "") => ({ label, word,
   hint: `${count(min)} to ${count(max)}${more}`, limits: { type: "number", min, max, step: 1, inputmode: "numeric" } });
 const levelAs = (label, word) => numberAs(label, word, 0, 1000000000);
-const momentAs = (label, word, beside, hint) =>
-  ({ label, word, hint, beside, limits: { type: "datetime-local", min: inputOf(0), max: inputOf(NO_END) } });
+const momentAs = (label, word, beside, hint, last = NO_END) =>
+  ({ label, word, hint, beside, limits: { type: "datetime-local", min: inputOf(0), max: inputOf(last) } });
 export const PARTS = {
   branch: branchAs("Branch", "BRANCH"), from: branchAs("From branch", "FROM"), to: branchAs("To branch", "TO"),
   article: codeAs("Article", "ARTICLE", "[A-Z0-9][A-Z0-9\\-]{0,15}", 16, "1 to 16 of A–Z, 0–9, - (not in front)",
@@ -58,7 +59,8 @@ export const PARTS = {
   until: momentAs("Until", "UNTIL", "No end",
     "When the desk's clock comes there the order is aborted, unless it is firm by then. The office moves that clock."),
   now: momentAs("Now", "NOW", "This minute",
-    "Every open order whose moment has come by then is aborted, unless it is firm. The clock never goes back."),
+    "Every open order whose moment has come by then is aborted, unless it is firm. The clock never goes back.",
+    NO_END - 1),
 };
 export const FORMS = {
   open: ["Promise: open an order", ["number", "until"], "Promise"],

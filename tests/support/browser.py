@@ -13,7 +13,7 @@ import unittest
 from collections.abc import Callable, Iterator, Sequence
 from typing import Any
 
-from support.fronts import Front, FrontCase
+from support.fronts import Front, FrontCase, Haproxy
 from support.programs import SECONDS, expect
 
 DRIVER = "/usr/bin/chromedriver"
@@ -83,7 +83,7 @@ def is_there() -> bool:
 class Page:
     """A browser that shows the page to a user. At its end nothing may stand in its console but failures of the network."""
 
-    def __init__(self, front: Front, user: str, size: tuple[int, int] = WIDE, zone: str = ZONE):
+    def __init__(self, front: Haproxy, user: str, size: tuple[int, int] = WIDE, zone: str = ZONE):
         from selenium import webdriver
         from selenium.webdriver.chrome.service import Service
 
@@ -315,7 +315,7 @@ def screenshots(front: Front, path: str) -> None:
         front, ["field N3 BOOT-42 0 90 35", "field N3 CUP 0 50 12", f"open 7 {now + 2 * DAY} take N2 A-1 25 add N2 BOOT-42 60"]
     )
     tell_all(front, [f"open 8 {now + 5 * 60} take N2 BOOT-42 40 take N2 CUP 30", f"open 9 {FOREVER} take N3 CUP 6", "firm 9"])
-    tell_all(front, [f"transfer 900000000 {now + 9 * DAY} BOOT-42 N3 N2 20", f"expire {now}"])
+    tell_all(front, [f"transfer 899000000 {now + 9 * DAY} BOOT-42 N3 N2 20", f"expire {now}"])
     height = 960
     with Page(front, "n1", (1000, height), "Europe/Berlin") as page:
         page.browser.execute_cdp_cmd("Emulation.setScrollbarsHidden", {"hidden": True})
