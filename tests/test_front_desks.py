@@ -37,7 +37,16 @@ class Desks(FrontCase):
                         expect((found == NO_DESK) == (desk not in desks), f"{user}, /{desk}{target}: {found}")
                     status, body = front.tell(user, "commit 999", desk=f"/{desk}")
                     expect((status, body) == (403, {"error": "desk"}) or desk in desks, f"{user}, {desk}: {status} {body}")
-                for target in ["/west/", "/west", "/v1/desk", "/user", "/desk.js", "/norths/v1/desk", "/nort/v1/desk", "//v1/desk"]:
+                for target in [
+                    "/west/",
+                    "/west",
+                    "/v1/desk",
+                    "/user",
+                    "/desk.js",
+                    "/norths/v1/desk",
+                    "/nort/v1/desk",
+                    "//v1/desk",
+                ]:
                     found = front.ask(user, "GET", target)
                     expect(found == (NONE if desks else NO_DESK), f"{user}, {target}: {found}")
             expect(front.ask(None, "GET", "/north/v1/desk")[0] == 401, "nobody is answered")

@@ -1,6 +1,7 @@
-"""Tests of the page where one front has several desks, in Chromium: the choice of a desk, an article at all of them, a command that
-stays with its desk, a keyboard alone, and widths."""
+"""Tests of the page where one front has several desks, in Chromium: the choice of a desk, an article at all of them, a command
+that stays with its desk, a keyboard alone, and widths."""
 
+import itertools
 import json
 import re
 import unittest
@@ -76,8 +77,8 @@ class PageDesks(FrontCase):
             expect(page.text("h1") == "Stock desk", page.text("h1"))
 
     def test_an_article_at_all_desks(self):
-        """The sheet of each desk with its moment, and the sum, which is said to be one of different moments; where a desk does not
-        answer, or has none, that is said."""
+        """The sheet of each desk with its moment, and the sum, which is said to be one of different moments; where a desk does
+        not answer, or has none, that is said."""
         with Chain(self.program, self.folder) as front:
             done(front, "north", "field N3 BOOT 10 90 40", "open 7 60 take N3 BOOT 5")
             done(front, "south", "field S3 BOOT 0 1000 204", "field S4 BOOT 0 50 3")
@@ -90,7 +91,7 @@ class PageDesks(FrontCase):
                 caption = page.text("#article-others caption")
                 words = r"BOOT at south as of [\d:]{8}\. Branches: 2\. Pieces in all: 207\."
                 expect(re.fullmatch(words, caption), caption)
-                words = r"BOOT at 2 of 2 desks: .* It is a sum of different moments \(north as of [\d:]{8}, south as of [\d:]{8}\): .*"
+                words = r"BOOT at 2 of 2 .* a sum of different moments \(north as of [\d:]{8}, south as of [\d:]{8}\): .*"
                 expect(re.fullmatch(words, page.text("#article-sum")), page.text("#article-sum"))
                 page.show("article", "NOWHERE")
                 page.wait(lambda: pieces(page.text("#article-sum")) == "0", page.text("#article-sum"))
@@ -147,11 +148,11 @@ class PageDesks(FrontCase):
                 page.wait(lambda: len(chosen(page)) == len(LONG), "not all desks are there")
                 page.show("article", article)
                 page.wait(lambda: pieces(page.text("#article-sum")) == "3,999,999,996", page.text("#article-sum"))
-                for width, is_dark in [(width, is_dark) for width in [NARROW[0], 360, 720, WIDE[0]] for is_dark in [False, True]]:
+                for width, is_dark in itertools.product([NARROW[0], 360, 720, WIDE[0]], [False, True]):
                     page.resize((width, NARROW[1]), is_dark)
                     wide, small = page.run(
-                        """return [document.documentElement.scrollWidth, [...document.querySelectorAll('button, input, a, summary')]
-                        .filter(each => each.checkVisibility() && Math.min(each.offsetWidth, each.offsetHeight) < arguments[0])
+                        """return [document.documentElement.scrollWidth,
+                        [...document.querySelectorAll('button, input, a, summary')].filter(each => each.checkVisibility() && Math.min(each.offsetWidth, each.offsetHeight) < arguments[0])
                         .map(each => each.outerHTML)]""",
                         THUMB,
                     )

@@ -1,6 +1,6 @@
-"""Tests of ways round whose the deals are: commands on orders from 900,000,000 on and keys that begin with `between-`, which are the
-group between's alone, of all other groups; all else of that group; and the last moment, to which nobody moves the clock. Each is
-refused by the front, and nothing of it reaches the desk; what the group may do is done."""
+"""Tests of ways round whose the deals are: orders from 900,000,000 on and keys that begin with `between-`, which are the group
+between's alone, in commands of the other groups; all else in commands of that group; and the last moment, to which nobody moves
+the clock. Each is refused by the front, and nothing of it reaches the desk; what the group may do is done."""
 
 import json
 
@@ -76,7 +76,13 @@ def rows_of_between() -> list[Row]:
     for verb in VERBS:
         error = "order" if verb.split()[0] in OWN else "group"
         rows += [(BETWEEN, verb.format(number), "between-1", 403, error) for number in OTHERS]
-    others = ["more 900000007 take N1 A-2 1", "release 900000007 N1 A-1 1", "firm 900000007", "deliver N1 A-1 7", "writeoff N1 A-1 7"]
+    others = [
+        "more 900000007 take N1 A-2 1",
+        "release 900000007 N1 A-1 1",
+        "firm 900000007",
+        "deliver N1 A-1 7",
+        "writeoff N1 A-1 7",
+    ]
     others += ["transfer 900000007 60 A-2 N1 N2 1", "field N3 A-1 0 9 9", "rebound N1 A-1 0 9", "expire 1", "expire 900000007"]
     others += ["COMMIT 900000007", "commits 900000007", "", " "]
     rows += [(BETWEEN, command, "between-1", 403, "group") for command in others]
@@ -116,13 +122,24 @@ class WaysRoundDeals(FrontCase):
                 status, body = front.tell(user, command, key)
                 expect(status == 200, f"{user}, {command}: {status}, {body}")
             for user in [OFFICE, SHOP, WAREHOUSE, BETWEEN]:
-                for target in ["/v1/orders/900000000", "/v1/keys/between-900000000-commit", "/v1/open/900000000", "/v1/desk", "/"]:
+                for target in [
+                    "/v1/orders/900000000",
+                    "/v1/keys/between-900000000-commit",
+                    "/v1/open/900000000",
+                    "/v1/desk",
+                    "/",
+                ]:
                     expect(front.ask(user, "GET", target)[0] == 200, f"{user}, {target}")
 
     def test_at_each_of_several_desks(self):
         """A deal is carried at both by a user who is at both; who is at one does nothing at the other."""
         with Chain(self.program, self.folder, users=["b2 between"], at=["b2 north"]) as front:
-            for user, desk, want in [(BETWEEN, "north", 200), (BETWEEN, "south", 200), ("b2", "north", 409), ("b2", "south", 403)]:
+            for user, desk, want in [
+                (BETWEEN, "north", 200),
+                (BETWEEN, "south", 200),
+                ("b2", "north", 409),
+                ("b2", "south", 403),
+            ]:
                 line = f"open 900000007 60 take {desk[0].upper()}1 A-1 1"
                 status, body = front.tell(user, line, f"between-{user}-open", f"/{desk}")
                 expect(status == want, f"{user}, {desk}: {status} {body}")

@@ -1,5 +1,5 @@
-"""Tests of ways round which desk a user is at: targets and heads by which a user of one desk might come to another one, and lines of
-the list of desks that are nearly another's. Each is refused by the front, and nothing of it reaches the other desk."""
+"""Tests of ways round which desk a user is at: targets and heads by which a user of one desk might come to another one, and
+lines of the list of desks that are nearly another's. Each is refused by the front, and nothing of it reaches the other desk."""
 
 import json
 
@@ -131,7 +131,12 @@ class WaysRoundDesks(FrontCase):
         """On one connection each message goes to its own desk, whatever was asked before it."""
         with Chain(self.program, self.folder, users=["w2 warehouse"], at=["w2 north"]) as front:
             connection = front.connect()
-            for user, desk, want in [(OFFICE, "south", 200), (USER, "south", 403), (OFFICE, "north", 200), (USER, "north", 200)] * 3:
+            for user, desk, want in [
+                (OFFICE, "south", 200),
+                (USER, "south", 403),
+                (OFFICE, "north", 200),
+                (USER, "north", 200),
+            ] * 3:
                 field = f"/{desk}/v1/fields/{desk[0].upper()}1/A-1"
                 connection.request("GET", field, None, credentials(user))
                 answer = connection.getresponse()
