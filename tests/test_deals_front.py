@@ -1,5 +1,5 @@
-"""Tests of the carrier of deals between desks that stand behind one front: who is let in, and that each transfer is moved whole or
-not at all, whatever is killed behind the front."""
+"""Tests of the carrier of deals between desks that stand behind one front: who is let in, and that each transfer is moved whole
+or not at all, whatever is killed behind the front."""
 
 import json
 import os
@@ -55,9 +55,7 @@ class DealsFront(FrontCase):
                 expect(status == 2, f"{user}: {status} {told}")
                 for desk in DESKS:
                     opened = json.loads(front.ask("ho", "GET", f"/{desk}/v1/desk")[1])["open"]
-                    expect(opened == (user == "b2" and desk == "north"), f"{user}: {opened} open at {desk}")
-                if user == "b2":
-                    front.tell("bt", f"abort {NUMBER}", f"between-{NUMBER}-abort", "/north")
+                    expect(opened == 0, f"{user}: {opened} open at {desk}")
             expect(values(front) == [500, 500], f"{values(front)}")
             expect(called(NUMBER + 1, words) == (0, f"{NUMBER + 1} moved\n"), "not moved")
             expect(values(front) == [493, 507], f"{values(front)}")

@@ -151,9 +151,10 @@ class PageDesks(FrontCase):
                 for width, is_dark in itertools.product([NARROW[0], 360, 720, WIDE[0]], [False, True]):
                     page.resize((width, NARROW[1]), is_dark)
                     wide, small = page.run(
-                        """return [document.documentElement.scrollWidth,
-                        [...document.querySelectorAll('button, input, a, summary')].filter(each => each.checkVisibility() && Math.min(each.offsetWidth, each.offsetHeight) < arguments[0])
-                        .map(each => each.outerHTML)]""",
+                        """const parts = document.querySelectorAll('button, input, a, summary');
+                        const isSmall = each => Math.min(each.offsetWidth, each.offsetHeight) < arguments[0];
+                        return [document.documentElement.scrollWidth,
+                          [...parts].filter(each => each.checkVisibility() && isSmall(each)).map(each => each.outerHTML)]""",
                         THUMB,
                     )
                     expect(wide <= width, f"{wide} wide of {width}")
