@@ -2,7 +2,9 @@
 lines of the list of desks that are nearly another's. Each is refused by the front, and nothing of it reaches the other desk."""
 
 import json
+import unittest
 
+from support import http2
 from support.chains import Chain
 from support.fronts import OFFICE, FrontCase, credentials
 from support.programs import expect, note
@@ -57,17 +59,29 @@ BEFORE = {
     "a long name": "/" + "north" * 400,
 }
 
+# targets with spaces, as lines of the list of desks have them
+SPACED = [
+    "/north south",
+    "/south north",
+    "/ south",
+    "/south ",
+    "/north|south x south",
+    "/south|x south y",
+    "/north\tsouth",
+    "/\tsouth",
+]
+
 # heads that other proxies read, beside a target of the own desk
 HEADS = {
-    "a prefix": ("X-Forwarded-Prefix", "/south"),
-    "a path": ("X-Original-URL", "/south/v1/commands"),
-    "another path": ("X-Rewrite-URL", "/south/v1/commands"),
-    "a host": ("Host", "south"),
-    "another host": ("X-Forwarded-Host", "south"),
-    "a desk": ("X-Desk", "south"),
-    "a cookie": ("Cookie", "desk=south"),
-    "a referrer": ("Referer", "https://localhost/south/"),
-    "another user": ("X-User", "ho"),
+    "a prefix": "X-Forwarded-Prefix: /south",
+    "a path": "X-Original-URL: /south/v1/commands",
+    "another path": "X-Rewrite-URL: /south/v1/commands",
+    "a host": "Host: south",
+    "another host": "X-Forwarded-Host: south",
+    "a desk": "X-Desk: south",
+    "a cookie": "Cookie: desk=south",
+    "a referrer": "Referer: https://localhost/south/",
+    "another user": "X-User: ho",
 }
 
 # lines of users who are not at south, whatever they seem to say
@@ -77,22 +91,18 @@ NEARLY += ["y1 desk-south", "y2 so uth", "y3 north/south", "y4 *", "y5 ", "y6 so
 ARE = ["z1 south", "z2 north south", "z3 north  south", "z4 south\tnorth", "z5 \t south ", "z6 x south y"]
 
 
-def asked(front: Chain, user: str, method: str, target: str, head: tuple[str, str] | None = None) -> tuple[int, str]:
-    """As it is spelled here, on a connection of its own."""
-    connection = front.connect()
-    connection.putrequest(method, "/", skip_host=bool(head and head[0] == "Host"), skip_accept_encoding=True)
-    # what the library would refuse to spell goes out too
-    connection._buffer[0] = f"{method} {target} HTTP/1.1".encode("latin-1")  # type: ignore[attr-defined]
-    for name, value in [*credentials(user).items(), *([head] if head else [])]:
-        connection.putheader(name, value)
-    body = BODY.encode() if method == "POST" else b""
-    if body:
-        connection.putheader("Content-Length", str(len(body)))
-    connection.endheaders(body or None)
-    answer = connection.getresponse()
-    found = answer.status, answer.read().decode("latin-1")
-    connection.close()
-    return found
+def asked(front: Chain, method: str, target: str, head: str = "") -> tuple[int, str]:
+    """The status and the rest of what is answered to a target and a line of a head as they are spelled here."""
+    body = BODY if method == "POST" else ""
+    lines = [f"{method} {target} HTTP/1.1", head or "Host: localhost", "Connection: close", f"Content-Length: {len(body)}"]
+    lines += [f"Authorization: {credentials(USER)['Authorization']}", "", body]
+    found = b""
+    with front.socket() as client:
+        client.sendall("\r\n".join(lines).encode())
+        while part := client.recv(65_536):
+            found += part
+    status, _, rest = found.decode().removeprefix("HTTP/1.1 ").partition(" ")
+    return int(status), rest
 
 
 def expect_untouched(front: Chain, what: str) -> None:
@@ -108,16 +118,30 @@ class WaysRoundDesks(FrontCase):
         with Chain(self.program, self.folder, users=["w2 warehouse"], at=["w2 north"]) as front:
             for what, before in BEFORE.items():
                 for method, target in [("GET", "/v1/fields/S1/A-1"), ("GET", "/v1/sheets/S1"), ("POST", "/v1/commands")]:
-                    status, body = asked(front, USER, method, before + target)
+                    status, body = asked(front, method, before + target)
                     expect(status in (400, 403, 404) and "A-1" not in body, f"{what}, {method} {before}{target}: {status} {body}")
                 expect_untouched(front, what)
             for what, head in HEADS.items():
-                status, body = asked(front, USER, "GET", "/north/v1/fields/S1/A-1", head)
+                status, body = asked(front, "GET", "/north/v1/fields/S1/A-1", head)
                 expect(status == 404, f"{what}: {status} {body}")
-                status, body = asked(front, USER, "POST", "/north/v1/commands", head)
+                status, body = asked(front, "POST", "/north/v1/commands", head)
                 expect(status == 409 and "NoField" in body, f"{what}: {status} {body}")
                 expect_untouched(front, what)
         note(f"{len(BEFORE)} targets, {len(HEADS)} heads")
+
+    @unittest.skipUnless(http2.is_there(), "python3-h2 is not here")
+    def test_no_target_of_http2_goes_round(self):
+        """Which may have signs in it that no target of HTTP/1.1 has."""
+        with Chain(self.program, self.folder, users=["w2 warehouse"], at=["w2 north"]) as front:
+            for before in [*BEFORE.values(), *SPACED]:
+                for method, target in [("GET", "/v1/fields/S1/A-1"), ("POST", "/v1/commands")]:
+                    body = BODY.encode() if method == "POST" else None
+                    parts = {":method": method, ":scheme": "https", ":authority": "localhost", ":path": before + target}
+                    parts |= {"authorization": credentials(USER)["Authorization"], "content-length": str(len(body or b""))}
+                    with http2.Http2(front) as client:
+                        status, told = client.answer(client.send(list(parts.items()), body))
+                    expect(status in ("", "400", "403", "404") and "A-1" not in told, f"{method} {before}: {status} {told}")
+                expect_untouched(front, before)
 
     def test_no_line_is_nearly_anothers(self):
         users = [line.split()[0].lstrip("#").lower() for line in NEARLY + ARE]

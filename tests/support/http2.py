@@ -7,7 +7,7 @@ import ssl
 import time
 from types import TracebackType
 
-from support.fronts import Front
+from support.fronts import Haproxy
 
 # a part of a head: a name and a value
 Headers = list[tuple[str, str]]
@@ -20,7 +20,7 @@ def is_there() -> bool:
 class Http2:
     """A client that speaks HTTP/2 and sends what it is told, good or bad. With a window of 0 it may be sent no body."""
 
-    def __init__(self, front: Front, window: int | None = None):
+    def __init__(self, front: Haproxy, window: int | None = None):
         from h2.config import H2Configuration
         from h2.connection import H2Connection
         from h2.settings import SettingCodes
