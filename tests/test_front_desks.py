@@ -4,6 +4,7 @@ figures, and the page of each."""
 import glob
 import json
 import os
+import signal
 import subprocess
 import time
 
@@ -94,6 +95,22 @@ class Desks(FrontCase):
             targets = ["/north/v1/fields/N1/A-1", "/south/v1/fields/S1/A-1"]
             values = [json.loads(front.ask(OFFICE, "GET", target)[1])["value"] for target in targets]
             expect(values == [505, 550], f"{values}")
+
+    def test_a_desk_that_stands_still_holds_no_other_up(self):
+        """More wait for it than it has connections; those who ask another one are answered, and in the end all are."""
+        with Chain(self.program, self.folder) as front:
+            front.running["north"].send_signal(signal.SIGSTOP)
+            waiting = [front.socket() for _ in range(300)]
+            for client in waiting:
+                client.sendall(head_of(SHOP, "/north/v1/fields/N1/A-1"))
+            began = time.monotonic()
+            for _ in range(50):
+                expect(front.tell(WAREHOUSE, "deliver S1 A-1 1", desk="/south")[0] == 200, "the other is not answered")
+            expect(time.monotonic() - began < 10, "the other is held up")
+            front.running["north"].send_signal(signal.SIGCONT)
+            for client in waiting:
+                expect(b'"value":500' in client.recv(65_536), "one that waited is not answered")
+                client.close()
 
     def test_the_log_and_the_figures_name_the_desk(self):
         with Chain(self.program, self.folder) as front:

@@ -6,7 +6,7 @@ import json
 import re
 import unittest
 
-from support.browser import NARROW, THUMB, WATCH, WIDE, Keys, Page, is_there, row
+from support.browser import FOREVER, NARROW, THUMB, WATCH, WIDE, Keys, Page, is_there, row
 from support.chains import Chain
 from support.fronts import Front, FrontCase, Haproxy
 from support.programs import expect
@@ -102,6 +102,23 @@ class PageDesks(FrontCase):
                 expect(pieces(page.text("#article-sum")) == "40" and "1 of 2 desks" in page.text("#article-sum"), "another sum")
                 front.desk_start("south")
                 page.wait(lambda: pieces(page.text("#article-sum")) == "247", page.text("#article-sum"))
+
+    def test_a_deal_is_seen_and_left_alone(self):
+        """By the office, which is proposed a number below; who carries deals is offered nothing."""
+        with Chain(self.program, self.folder) as front:
+            found = front.tell("bt", f"open 900000001 {FOREVER} take N1 A-1 3", "between-900000001-open", "/north")
+            expect(found[0] == 200, f"{found}")
+            with Page(front, "ho") as page:
+                page.show("order", "900000001")
+                expect("of a deal between desks" in page.text("#order"), page.text("#order"))
+                expect("not one of your orders" in page.text("#order") and not page.all("#commit"), "it may be ended")
+                proposed = "return document.querySelector('#open [name=number]').value"
+                page.wait(lambda: page.run(proposed) == "899000000", "another number is proposed")
+                page.tell("#own-line", "not one of yours", own="abort 900000001")
+                page.tell("#own-line", "never comes to its last moment", own=f"expire {FOREVER}")
+            with Page(front, "bt") as page:
+                wait_desk(page, "north")
+                expect(page.text("#user") == "bt, group: between" and not page.all("#commands form"), page.text("#user"))
 
     def test_a_command_stays_with_its_desk(self):
         """One whose answer was lost is not asked for at another desk; back at its own it is asked for under its key, and is done
