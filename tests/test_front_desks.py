@@ -10,7 +10,7 @@ import time
 
 from support.chains import SHIPPED, Chain
 from support.fronts import BETWEEN, NO_LIMITS, OFFICE, PAGE, SHOP, WAREHOUSE, FrontCase, credentials, head_of, message
-from support.programs import expect
+from support.programs import SECONDS, expect
 
 NO_DESK, NONE = (403, '{"error":"desk"}'), (404, '{"error":"none"}')
 
@@ -111,6 +111,20 @@ class Desks(FrontCase):
             for client in waiting:
                 expect(b'"value":500' in client.recv(65_536), "one that waited is not answered")
                 client.close()
+
+    def test_a_desk_more_needs_a_reload(self):
+        """Its lines and a user's are enough. Before them the desk is not there, and meanwhile the others are asked as ever."""
+        chain = Chain(self.program, self.folder, users=["h2 office"], at=["h2 north west"])
+        chain.words.append("-W")
+        with chain as front:
+            expect(front.ask("h2", "GET", "/west/v1/desk") == NONE, "it is there already")
+            front.desk_add("west")
+            front.process.send_signal(signal.SIGUSR2)
+            end = time.monotonic() + SECONDS
+            while (found := front.ask("h2", "GET", "/west/v1/fields/W1/A-1"))[0] != 200:
+                expect(time.monotonic() < end and found == NONE, f"not there: {found}")
+                expect(front.tell("h2", "deliver N1 A-1 1", desk="/north")[0] == 200, "another one is not answered")
+            expect(front.ask(OFFICE, "GET", "/west/v1/desk") == NO_DESK, "who is not at it is let in")
 
     def test_the_log_and_the_figures_name_the_desk(self):
         with Chain(self.program, self.folder) as front:

@@ -48,10 +48,10 @@ class Chain(Haproxy):
         self.environment["DESKS"] = added(folder, "desks.map", "".join(f"{line}\n" for line in at))
         self.running: dict[str, subprocess.Popen[bytes]] = {}
         for desk in desks:
-            done(program, ["run", self.file_of(desk, is_new=True)], script_of(desk))
+            self.desk_make(desk)
 
-    def file_of(self, desk: str, is_new: bool = False) -> str:
-        return new_desk(self.program, self.folder, f"{desk}.db") if is_new else os.path.join(self.folder, f"{desk}.db")
+    def desk_make(self, desk: str) -> None:
+        done(self.program, ["run", new_desk(self.program, self.folder, f"{desk}.db")], script_of(desk))
 
     def __enter__(self) -> "Chain":
         try:
@@ -68,7 +68,15 @@ class Chain(Haproxy):
         self.desks_kill()
 
     def desk_start(self, desk: str) -> None:
-        self.running[desk] = served(self.program, self.file_of(desk), self.ports[desk])
+        self.running[desk] = served(self.program, os.path.join(self.folder, f"{desk}.db"), self.ports[desk])
+
+    def desk_add(self, desk: str) -> None:
+        """One desk more, which the front has behind its next reload."""
+        self.ports[desk] = free_port()
+        self.desk_make(desk)
+        self.desk_start(desk)
+        with open(os.path.join(self.folder, "more.cfg"), "a", encoding="ascii") as file:
+            file.write(lines_of(desk, self.ports[desk]))
 
     def desk_kill(self, desk: str) -> None:
         process = self.running.pop(desk)
