@@ -93,6 +93,8 @@ class PageDesks(FrontCase):
                 expect(re.fullmatch(words, caption), caption)
                 words = r"BOOT at 2 of 2 .* a sum of different moments \(north as of [\d:]{8}, south as of [\d:]{8}\): .*"
                 expect(re.fullmatch(words, page.text("#article-sum")), page.text("#article-sum"))
+                page.browser.refresh()
+                page.wait(lambda: pieces(page.text("#article-sum")) == "247", page.text("#article-sum"))
                 page.show("article", "NOWHERE")
                 page.wait(lambda: pieces(page.text("#article-sum")) == "0", page.text("#article-sum"))
                 expect("no branch of south has NOWHERE" in page.text("#article-others"), page.text("#article-others"))

@@ -29,7 +29,6 @@ function draw() {
 async function ask(part, name) {
   const say = words => { part.words = words; draw(); };
   const { status, text } = await look(`/v1/articles/${name}`, say, undefined, part.from);
-  if (!beside.parts.includes(part)) return;
   if (status === 200) Object.assign(part, { moment: timeNow(), ...readSheet(text) });
   else part.words = lookWords(status);
   draw();
