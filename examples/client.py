@@ -3,7 +3,7 @@
 
 JOURNAL keeps the name of the list, which is made once and begins each key, and then each answer. A client that was cut off and
 is called again goes on behind the last answer, under the same keys, so what was done is not done twice. Where a front is asked,
-over TLS, DESK_USER in the environment is NAME:PASSWORD."""
+over TLS, DESK_USER in the environment is NAME:PASSWORD; behind one of several desks DESK is as localhost:8443/north."""
 
 import base64
 import http.client
@@ -21,14 +21,14 @@ AGAIN = {408, 429, 500, 502, 503, 504}
 
 def ask(desk, key, command):
     """Status and body. Without an answer nobody knows whether it was done: it is asked again, under the same key."""
+    host, *name = desk.split("/")
     for _ in range(10):
-        connection = Connection(desk, timeout=10)
+        connection = Connection(host, timeout=10)
         try:
-            connection.request("POST", "/v1/commands", json.dumps({"key": key, "command": command}), HEADERS)
+            connection.request("POST", "/".join(["", *name, "v1/commands"]), json.dumps({"key": key, "command": command}), HEADERS)
             answer = connection.getresponse()
-            status, body = answer.status, answer.read().decode()
-            if status not in AGAIN:
-                return status, body
+            if answer.status not in AGAIN:
+                return answer.status, answer.read().decode()
         except (OSError, http.client.HTTPException):
             pass
         finally:

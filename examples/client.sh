@@ -1,6 +1,7 @@
 #!/bin/sh
 # client.sh DESK COMMANDS JOURNAL sends a file of commands, one a line, to a desk, as 127.0.0.1:8080, and writes the answers. It
-# does what client.py does, with curl. A front is asked as https://HOST:PORT, with its user and cacert in ~/.curlrc.
+# does what client.py does, with curl. A front is asked as https://HOST:PORT, with its user and cacert in ~/.curlrc;
+# behind one of several desks DESK is as https://HOST:PORT/north.
 set -eu
 desk=$1 commands=$2 journal=$3
 answer=$journal.answer

@@ -6,8 +6,11 @@ import json
 import os
 import signal
 import subprocess
+import sys
 import time
 
+from support import TOP
+from support.cases import needs
 from support.chains import SHIPPED, Chain
 from support.fronts import BETWEEN, NO_LIMITS, OFFICE, PAGE, SHOP, WAREHOUSE, FrontCase, credentials, head_of, message
 from support.programs import SECONDS, expect
@@ -152,6 +155,28 @@ class Desks(FrontCase):
         with Chain(self.program, self.folder, limits={**NO_LIMITS, "COMMANDS_BY_USER": "5"}) as front:
             found = [front.tell(WAREHOUSE, "commit 7", desk=f"/{desk}")[0] for desk in ["north", "south"] * 4]
             expect(found[:5] == [403] * 5 and found[-1] == 429, f"{found}")
+
+
+class Clients(FrontCase):
+    @needs("curl")
+    def test_the_examples_ask_one_of_several(self):
+        """Both clients send their commands to the desk that is named, and none to the other."""
+        with Chain(self.program, self.folder) as front:
+            certificate, commands = os.path.join(self.folder, "certificate"), os.path.join(self.folder, "commands")
+            with open(commands, "w", encoding="ascii") as file:
+                file.write("deliver S1 A-1 5\nwriteoff S1 A-1 2\n")
+            with open(os.path.join(self.folder, ".curlrc"), "w", encoding="ascii") as file:
+                file.write(f'user = "ho:ho"\ncacert = "{certificate}"\n')
+            calls = {"py": [sys.executable], "sh": ["sh"]}
+            environment = {**os.environ, "HOME": self.folder, "DESK_USER": "ho:ho", "SSL_CERT_FILE": certificate}
+            for count, (kind, words) in enumerate(calls.items(), 1):
+                client = os.path.join(TOP, "examples", f"client.{kind}")
+                desk = f"{'https://' if kind == 'sh' else ''}localhost:{front.port}/south"
+                journal = os.path.join(self.folder, kind)
+                told = subprocess.run([*words, client, desk, commands, journal], env=environment, capture_output=True, text=True)
+                expect(told.returncode == 0 and told.stdout.count("is done") == 2, f"{kind}: {told}")
+                field = json.loads(front.ask(OFFICE, "GET", "/south/v1/fields/S1/A-1")[1])
+                expect(field["value"] == 500 + 3 * count, f"{kind}: {field}")
 
 
 class Pages(FrontCase):
