@@ -13,7 +13,7 @@ import unittest
 from support import DEPLOY, TOP
 from support.cases import ProgramCase, needs
 from support.copies import BACKUP, alone
-from support.fronts import TOGETHER
+from support.fronts import PAGE, TOGETHER
 from support.programs import done, expect, note
 from support.service import Service, post
 
@@ -102,6 +102,8 @@ class Package(ProgramCase):
         run(["dpkg-deb", "--extract", path, os.path.join(self.folder, "tree")])
         with open(os.path.join(self.folder, "tree/usr/bin/stockdesk"), "rb") as packed, open(self.program, "rb") as own:
             expect(packed.read() == own.read(), "another program")
+        packed_page = os.listdir(os.path.join(self.folder, "tree/usr/share/stockdesk/page"))
+        expect(sorted(packed_page) == sorted(os.listdir(PAGE)), f"another page: {packed_page}")
         copy = os.path.join(self.folder, "copy")
         for name in ["deploy", "docs"]:
             shutil.copytree(os.path.join(TOP, name), os.path.join(copy, name))
