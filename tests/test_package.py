@@ -232,6 +232,12 @@ class Units(ProgramCase):
             expect(set(SHARED) <= set(kept), f"{name} lacks {set(SHARED) - set(kept)}")
             note(f"{name} {found[1]}")
 
+    def test_the_guide_switches_on_each_timer(self):
+        with open(os.path.join(TOP, "docs", "OPERATING.md"), encoding="utf-8") as file:
+            [words] = re.findall(r"^systemctl enable --now (.*)$", file.read(), re.MULTILINE)
+        timers = [os.path.basename(unit).replace("@", "@shop") for unit in UNITS if unit.endswith(".timer")]
+        expect(sorted(words.split()) == sorted(["stockdesk@shop", *timers]), f"{words}")
+
     @needs("strace")
     def test_the_service_needs_no_call_that_its_unit_refuses(self):
         """A service under strace that makes, fills and serves a desk."""
