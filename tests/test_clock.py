@@ -222,7 +222,7 @@ class Faults(ClockCase):
                 desk.expect(["aborted", "open"], 4, MINUTE)
 
     def test_without_an_answer_a_run_ends(self):
-        """Nobody listens, or is silent, or no desk answers, or one that has stopped for good; all within a minute."""
+        """Nobody listens, or is silent, or no desk answers, or one that has stopped for good."""
         stopped = b'HTTP/1.1 503 Service Unavailable\r\ncontent-length: 19\r\n\r\n{"error":"stopped"}'
         cut = b'HTTP/1.1 200 OK\r\ncontent-length: 100\r\n\r\n{"orders":['
         older = b'HTTP/1.1 404 Not Found\r\ncontent-length: 16\r\n\r\n{"error":"none"}'
@@ -235,14 +235,11 @@ class Faults(ClockCase):
             clocks = [Clock(port, self.folder, f"seen{port}") for port in ports]
             for clock in clocks:
                 clock.see(MINUTE - 1)
-            began = time.monotonic()
             runs = [clock.start(MINUTE) for clock in clocks]
             for clock, run in zip(clocks, runs):
                 silent = "does not answer" if clock not in clocks[5:7] else "does not tell what is due"
                 expect_fault(end_of(run), f"port {clock.port} {silent}")
                 clock.expect_seen(MINUTE)
-            took = time.monotonic() - began
-        note(f"{took:.0f} s")
 
     def test_a_desk_out_of_service_for_two_days_is_no_jump(self):
         """The runs meanwhile reach no desk and see that the clock goes on, so the first behind them ends what is due."""
@@ -385,7 +382,8 @@ class Jumps(ClockCase):
             desk.expect(["open", "open"], 3, 0)
 
     def test_other_words_are_refused(self):
+        names = sorted(os.listdir(self.folder))
         for words in NO_WORDS:
             run = subprocess.run([TOOL, *words], cwd=self.folder, capture_output=True, text=True, timeout=PATIENCE)
             expect((run.returncode, run.stdout) == (2, "") and "usage: stockdesk-clock" in run.stderr, f"{words}: {run}")
-        expect(os.listdir(self.folder) == ["desk.db"], "something was made")
+        expect(sorted(os.listdir(self.folder)) == names, "something was made")
