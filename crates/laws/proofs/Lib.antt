@@ -1,2 +1,3 @@
 pub mod OneOrder
 pub mod Together
+pub mod AllOrNothing

@@ -1,5 +1,5 @@
 -- What a command that keeps its guard does to the order under a number.
-use Rattle.book.proofs.Prelude.{[], ◌+◌, ◌<◌, ◌==◌, ◌∙◌, ◌∷◌, ◌≡◌, ◌≢◌, ◌≤◌, ◌⊎◌, Answers, AnswersNew, Bool, Changes, Command, Done, Each, Effect, FirstFailure, IfSome, IsFalse, IsNone, IsSome, IsSomeAnd, IsTrue, Kept, KeyReused, Ledger, List, MatchOption, Name, None, Nothing, OpenLine, Opens, Option, Order, Refusal, Refused, Reply, Request, Some, accept, add_hold, ap, arith, change_lines, checks, effect, expires, false, find, if◌then◌else◌, inl, inr, is_open, is_settled, kept_under, map, name_of, nat_lt, new_line, new_order, next, numbered, on, order_numbered, places, raise_used, refl, same_command, subst, sym, transfer_lines, true, true≢false, ℕ}
+use Rattle.book.proofs.Prelude.{[], ◌+◌, ◌<◌, ◌==◌, ◌∙◌, ◌∷◌, ◌≡◌, ◌≢◌, ◌≤◌, ◌⊎◌, Answers, AnswersNew, Bool, Changes, Command, Done, Each, Effect, FirstFailure, IfSome, IsFalse, IsNone, IsSome, IsSomeAnd, IsTrue, Kept, KeyReused, Ledger, List, MatchOption, Name, None, Nothing, OpenLine, Opens, Option, Order, Refusal, Refused, Reply, Request, Some, accept, add_hold, ap, arith, change_lines, checks, effect, expires, false, find, if◌then◌else◌, inl, inr, is_open, is_settled, is_transfer, kept_under, map, name_of, nat_lt, new_line, new_order, next, numbered, on, order_numbered, places, raise_used, refl, same_command, subst, sym, transfer_lines, true, true≢false, ℕ}
 use Rattle.words.specs.declared.command.Command.TheVariants as command
 use Rattle.book.specs.declared.order.Kind.TheVariants.{Plain, Transfer}
 use Rattle.book.specs.declared.order.Line.{Line}
@@ -82,9 +82,10 @@ module _ (n : ℕ) (x : Order) where
 abbrev pub held_line : Line → OpenLine
 held_line l = record { way = l.way; branch = l.branch; article = l.article; qty = l.held }
 
--- it holds what its opening asked for, is not firm, and settles nothing while it is open
+-- it holds what its opening asked for, is no transfer and not firm, and settles nothing while it is open
 pub record AsOpened (lines : List OpenLine) (Lasts : ℕ → Type 0) (o : Order) : Type 0 where
   pub held : map held_line o.lines ≡ lines
+  pub plain : is_transfer o ≡ false
   pub loose : o.firm ≡ false
   pub unsettled : is_open o ≡ true → is_settled o ≡ false
   pub lasts : Lasts o.until
@@ -205,6 +206,7 @@ module _ (n : ℕ) (lines : List OpenLine) (Lasts : ℕ → Type 0) (g : Guards)
   uses f q h = record {
     opened = record {
       held = held_stays q _ o.lines ∙ opened.held;
+      plain = opened.plain;
       loose = opened.loose;
       unsettled = opened.unsettled;
       lasts = opened.lasts;
@@ -217,7 +219,7 @@ module _ (n : ℕ) (lines : List OpenLine) (Lasts : ℕ → Type 0) (g : Guards)
 
   commits : (m : ℕ) → is_open o ≡ true → g.commits → Goes lines Lasts g o (changes (effect (command.Commit m)) o)
   commits m still_live ok = record {
-    opened = record { held = opened.held; loose = opened.loose; unsettled = λ e. absurd (true≢false (sym e)); lasts = opened.lasts };
+    opened = record { held = opened.held; plain = opened.plain; loose = opened.loose; unsettled = λ e. absurd (true≢false (sym e)); lasts = opened.lasts };
     used = λ all. all;
     over = λ e. both still_live e;
     committed = λ k. inr ok;
@@ -226,7 +228,7 @@ module _ (n : ℕ) (lines : List OpenLine) (Lasts : ℕ → Type 0) (g : Guards)
 
   aborts : (now : ℕ) → is_open o ≡ true → g.aborts → Goes lines Lasts g o (changes (effect (command.Expire now)) o)
   aborts now still_live ok = record {
-    opened = record { held = opened.held; loose = opened.loose; unsettled = λ e. absurd (true≢false (sym e)); lasts = opened.lasts };
+    opened = record { held = opened.held; plain = opened.plain; loose = opened.loose; unsettled = λ e. absurd (true≢false (sym e)); lasts = opened.lasts };
     used = λ all. all;
     over = λ e. both still_live e;
     committed = λ k. absurd (true≢false (sym k.1));
@@ -284,7 +286,7 @@ module _ (n : ℕ) (lines : List OpenLine) (Lasts : ℕ → Type 0) (g : Guards)
     where
       by : (b : Bool) → (m == n) ≡ b → Comes (order_numbered (next A (command.Open m v ls)) n)
       by true e = let k = may (same_number m n e) in let o = new_order m Plain v ls in
-          inr (o, put_in n o e A.orders none, record { held = new_held ls ∙ k.1; loose = refl; unsettled = λ h. refl; lasts = lasts v k.0 }, refl, k.0)
+          inr (o, put_in n o e A.orders none, record { held = new_held ls ∙ k.1; plain = refl; loose = refl; unsettled = λ h. refl; lasts = lasts v k.0 }, refl, k.0)
       by false e = inl (beside n (new_order m Plain v ls) e A.orders ∙ none)
   comes_to (command.Transfer m v a from to q) may = inl (beside n (new_order m Transfer v (transfer_lines a from to q)) (other_number m n may) A.orders ∙ none)
   comes_to (command.More m way b a q) may = still _ _ (λ o. more_number _ o)

@@ -190,3 +190,31 @@ AllMovedOrUnderWay d =
 
 abbrev pub AllMoved : Deal → Type 0
 AllMoved d = HasMovedAll d.number d.first × Each (HasMovedAll d.number) d.others
+
+-- ---- how it is ended
+
+abbrev pub IsDone : Reply → Type 0
+IsDone reply = (place : ℕ) × (reply ≡ Done place)
+
+-- a commit or an abort of one of the orders, which is done
+abbrev pub IsEnd : ℕ → Turn → Type 0
+IsEnd n (AtFirst r reply) = (r.command ≡ Abort n) × IsDone reply
+IsEnd n (AtOther r reply) = ((r.command ≡ Commit n) ⊎ (r.command ≡ Abort n)) × IsDone reply
+
+-- the order is not open
+abbrev pub IsOver : ℕ → Side → Type 0
+IsOver n s = OfOrder s.ledger n (λ o. IsTrue (is_open o)) → ⊥
+
+-- It comes to an end by such commands, at most one for each desk: with all moved, or nothing.
+pub record ComesToAnEnd (d : Deal) : Type 0 where
+  pub turns : List Turn
+  pub end : Deal
+  pub course : Course d turns end
+  pub ends : Each (IsEnd d.number) turns
+  pub few : length turns ≤ length d.others + 1
+  pub over : IsOver d.number end.first × Each (IsOver d.number) end.others
+  pub so : NothingMoved end ⊎ AllMoved end
+
+-- the key is not kept at the desk
+abbrev pub IsFree : List ℕ → Side → Type 0
+IsFree key s = IsNone (kept_under s.ledger key)
