@@ -159,7 +159,7 @@ module _ (n : ℕ) (Lasts : ℕ → Type 0) (s : Side) (opened : IfSome (order_n
 
 -- ---- all of them
 
-both_ends : (x : Option Order) → IsSomeAnd x IsCommitted → IsSomeAnd x IsAborted → ⊥
+pub both_ends : (x : Option Order) → IsSomeAnd x IsCommitted → IsSomeAnd x IsAborted → ⊥
 both_ends None a b = a
 both_ends (Some o) a b = true≢false (sym a.1 ∙ b.1)
 
@@ -169,7 +169,7 @@ not_committed d now not = (
   each-imp (λ s b. moved_nothing d.number (λ v. v ≡ d.until) s b.opened (λ h. not (b.committed h))) d.others now.others,
 )
 
-committed_beside : (d : Deal) (s : Side) → HasCommitted d.number d.first → Beside d.number d.until d.first s
+pub committed_beside : (d : Deal) (s : Side) → HasCommitted d.number d.first → Beside d.number d.until d.first s
     → HasMovedAll d.number s ⊎ IsUnderWay d.number s
 committed_beside d s is b = by (committed_or_not (order_numbered s.ledger d.number))
   where

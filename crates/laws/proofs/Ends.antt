@@ -205,8 +205,9 @@ module _ (d : Deal) (key : List ℕ) (now : Stands d) (free_first : IsFree key d
   given_up live =
       let not = not_while_open (order_numbered d.first.ledger d.number) live in
       let k = (moved_nothing d.number (λ v. Unit {0}) d.first now.first.opened not).aborts live key free_first in
-      let t = record d.first { ledger = k.0 } in
-      let answered = record { may = λ _. tt; answers = k.1; lines = refl } in
+      let t : Side = record d.first { ledger = k.0 } in
+      let answered : IsAnswered d.number (first_guards d) (under key (command.Abort d.number)) (Done (places d.first.ledger + 1)) d.first t =
+          record { may = λ _. tt; answers = k.1; lines = refl } in
       let over = over_if (order_numbered k.0 d.number) (inr k.2) in
       let rest = after_first (record d { first = t }) key
           (at_first d (under key (command.Abort d.number)) (Done (places d.first.ledger + 1)) t now answered) over free in record {

@@ -1,3 +1,4 @@
 pub mod OneOrder
 pub mod Together
 pub mod AllOrNothing
+pub mod Ends

@@ -48,7 +48,7 @@ other_steps d r reply s t now h = answer_steps d.number s.lines (λ v. v ≡ d.u
 opened_at : (x : Option Order) (Lasts : ℕ → Type 0) (ls ms : List OpenLine) → ms ≡ ls → IfSome x (AsOpened ls Lasts) → IfSome x (AsOpened ms Lasts)
 opened_at x Lasts ls ms same opened = subst (λ k. IfSome x (AsOpened k Lasts)) (sym same) opened
 
-at_first : (d : Deal) (r : Request) (reply : Reply) (t : Side) → Stands d
+pub at_first : (d : Deal) (r : Request) (reply : Reply) (t : Side) → Stands d
     → IsAnswered d.number (first_guards d) r reply d.first t → Stands (record d { first = t })
 at_first d r reply t now h = record {
   first = record { opened = opened_at (order_numbered t.ledger d.number) (λ v. Unit {0}) d.first.lines t.lines h.lines k.opened; used = used };
@@ -94,7 +94,7 @@ each_one Goes P step (s ∷ ss) [] h all = absurd h
 each_one Goes P step (s ∷ ss) (t ∷ ts) (inl h) all = (step s t h.0 all.0, subst (Each P) (sym h.1) all.1)
 each_one Goes P step (s ∷ ss) (t ∷ ts) (inr h) all = (subst P (sym h.0) all.0, each_one Goes P step ss ts h.1 all.1)
 
-at_other : (d : Deal) (r : Request) (reply : Reply) (ts : List Side) → Stands d
+pub at_other : (d : Deal) (r : Request) (reply : Reply) (ts : List Side) → Stands d
     → OneGoes (IsAnswered d.number (other_guards d) r reply) d.others ts → Stands (record d { others = ts })
 at_other d r reply ts now h = record {
   first = now.first;

@@ -3,4 +3,4 @@
 
 mod deals;
 
-pub use deals::all_or_nothing;
+pub use deals::{all_or_nothing, deals_come_to_an_end, guards_stay};
