@@ -159,7 +159,7 @@ open_there : (x : Option Order) → (IsNone x → ⊥) → (IsSomeAnd x (λ o. I
     → IsSomeAnd x (λ o. is_open o ≡ true)
 open_there x a b = grind arith
 
-more_number : (l : OpenLine) (o : Order) → (add_hold l o).number ≡ o.number
+pub more_number : (l : OpenLine) (o : Order) → (add_hold l o).number ≡ o.number
 more_number l o = grind arith
 
 module _ (n : ℕ) (lines : List OpenLine) (Lasts : ℕ → Type 0) (g : Guards)

@@ -6,6 +6,7 @@ use Rattle.std.specs.Str.{bytes_eq}
 use Rattle.std.specs.List.{AllByRecursion as Each, AllZip}
 use Rattle.std.specs.Option.{option_map_or}
 use Rattle.escrow.specs.Codes.{IsKey}
+use Rattle.escrow.specs.declared.quantity.Way.TheVariants.{Add}
 use Rattle.words.specs.Spelling.{IsInRange}
 use Rattle.words.specs.declared.open_line.OpenLine.{OpenLine}
 use Rattle.words.specs.declared.command.Command.{Command}
@@ -13,8 +14,8 @@ use Rattle.words.specs.declared.command.Command.TheVariants.{Field, Deliver, Wri
 use Rattle.words.specs.declared.command.Request.{Request}
 use Rattle.words.specs.declared.reply.Reply.{Reply}
 use Rattle.words.specs.declared.reply.Reply.TheVariants.{Done}
-use Rattle.book.specs.Ledger.{Ledger, Name, Order, is_open, is_settled, kept_under, name_of, order_numbered, places, same_name}
-use Rattle.book.specs.Outcomes.{moved_by_order, signed, total}
+use Rattle.book.specs.Ledger.{Field as FieldOf, Ledger, Name, Order, is_open, is_settled, kept_under, name_of, order_numbered, places, same_name}
+use Rattle.book.specs.Outcomes.{moved_by_order, settled, signed, total}
 use Rattle.book.specs.Answers.{Answers, OfOrder}
 
 -- one side of a deal: what the order at the desk is to move, and the desk's ledger
@@ -218,3 +219,38 @@ pub record ComesToAnEnd (d : Deal) : Type 0 where
 -- the key is not kept at the desk
 abbrev pub IsFree : List ℕ → Side → Type 0
 IsFree key s = IsNone (kept_under s.ledger key)
+
+-- ---- what a deal does to stock
+
+-- the request, in range, names the order
+abbrev pub IsOwnRequest : ℕ → Request → Type 0
+IsOwnRequest n r = Names r.command n × IsKey r.key × IsInRange r.command
+
+abbrev pub IsOwn : ℕ → Turn → Type 0
+IsOwn n (AtFirst r reply) = IsOwnRequest n r
+IsOwn n (AtOther r reply) = IsOwnRequest n r
+
+-- from s to t each field's settled value changes by what the order has moved there
+abbrev pub ChangesByOrder : ℕ → Side → Side → Type 0
+ChangesByOrder n s t = (f : FieldOf) → settled t.ledger f ≡ settled s.ledger f +ℤ moved_under t.ledger n f.name
+
+-- what the lines are to move of the article
+abbrev pub article_of_lines : List ℕ → List OpenLine → ℤ
+article_of_lines a lines = total (λ l. if bytes_eq l.article a then signed l.way l.qty else pos 0) lines
+
+-- what the order has moved of the article, if that is settled
+abbrev pub article_of_order : List ℕ → Order → ℤ
+article_of_order a o =
+    if is_settled o then total (λ l. if bytes_eq l.article a then signed l.way l.used else pos 0) o.lines else pos 0
+
+abbrev pub article_moved : ℕ → List ℕ → Side → ℤ
+article_moved n a s = option_map_or (article_of_order a) (order_numbered s.ledger n) (pos 0)
+
+-- at all desks together
+abbrev pub moved_in_all : Deal → List ℕ → ℤ
+moved_in_all d a = article_moved d.number a d.first +ℤ total (article_moved d.number a) d.others
+
+-- A transfer: the other desks only add, and of each article as much as the first takes.
+pub record IsTransfer (d : Deal) : Type 0 where
+  pub adds : Each (λ s. Each (λ l. l.way ≡ Add) s.lines) d.others
+  pub even : (a : List ℕ) → article_of_lines a d.first.lines +ℤ total (λ s. article_of_lines a s.lines) d.others ≡ pos 0
