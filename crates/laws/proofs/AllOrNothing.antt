@@ -11,38 +11,48 @@ use Rattle.laws.proofs.Together.{Beside, First, Stands}
 
 -- ---- what an order has moved
 
-abbrev pub moved_of : Name → Option Order → ℤ
-moved_of f x = option_map_or (moved_by_order f) x (pos 0)
+-- by its lines that pass the test
+abbrev pub moved_where : (List ℕ → List ℕ → Bool) → Option Order → ℤ
+moved_where test x = option_map_or (λ o. if is_settled o
+    then total (λ l. if test l.branch l.article then signed l.way l.used else pos 0) o.lines else pos 0) x (pos 0)
 
-used_as_held : (f : Name) (ls : List Line) → Each (λ l. l.used ≡ l.held) ls
-    → total (λ l. if on f l then signed l.way l.used else pos 0) ls ≡ moved_by_lines f (map held_line ls)
-used_as_held f [] all = refl
-used_as_held f (l ∷ ls) all =
-    λ i. (if on f l then signed l.way (all.0 i) else pos 0) +ℤ used_as_held f ls all.1 i
+abbrev pub asked_where : (List ℕ → List ℕ → Bool) → List OpenLine → ℤ
+asked_where test ls = total (λ l. if test l.branch l.article then signed l.way l.qty else pos 0) ls
 
-pub all_moved : (f : Name) (lines : List OpenLine) (Lasts : ℕ → Type 0) (x : Option Order) → IfSome x (AsOpened lines Lasts)
-    → IsSomeAnd x IsCommitted → IsSomeAnd x AllUsed → moved_of f x ≡ moved_by_lines f lines
-all_moved f lines Lasts None opened committed used = absurd committed
-all_moved f lines Lasts (Some o) opened committed used =
-    ap (λ b. if b then moved_by f (λ l. l.used) o else pos 0) committed.1
-    ∙ used_as_held f o.lines used ∙ ap (moved_by_lines f) opened.held
+-- the test of a field
+abbrev pub is_on : Name → List ℕ → List ℕ → Bool
+is_on f branch article = same_name f (name_of branch article)
 
-pub none_moved : (f : Name) (lines : List OpenLine) (Lasts : ℕ → Type 0) (x : Option Order) → IfSome x (AsOpened lines Lasts)
-    → (IsSomeAnd x IsCommitted → ⊥) → moved_of f x ≡ pos 0
-none_moved f lines Lasts None opened not = refl
-none_moved f lines Lasts (Some o) opened not = by (is_open o) (is_settled o) refl refl
-  where
-    by : (live settled : Bool) → is_open o ≡ live → is_settled o ≡ settled → moved_of f (Some o) ≡ pos 0
-    by live false a b = ap (λ b. if b then moved_by f (λ l. l.used) o else pos 0) b
-    by false true a b = absurd (not (a, b))
-    by true true a b = absurd (true≢false (sym b ∙ opened.unsettled a))
+module _ (test : List ℕ → List ℕ → Bool) where
+  used_as_held : (ls : List Line) → Each (λ l. l.used ≡ l.held) ls
+      → total (λ l. if test l.branch l.article then signed l.way l.used else pos 0) ls ≡ asked_where test (map held_line ls)
+  used_as_held [] all = refl
+  used_as_held (l ∷ ls) all =
+      λ i. (if test l.branch l.article then signed l.way (all.0 i) else pos 0) +ℤ used_as_held ls all.1 i
+
+  pub all_moved : (lines : List OpenLine) (Lasts : ℕ → Type 0) (x : Option Order) → IfSome x (AsOpened lines Lasts)
+      → IsSomeAnd x IsCommitted → IsSomeAnd x AllUsed → moved_where test x ≡ asked_where test lines
+  all_moved lines Lasts None opened committed used = absurd committed
+  all_moved lines Lasts (Some o) opened committed used =
+      ap (λ b. if b then total (λ l. if test l.branch l.article then signed l.way l.used else pos 0) o.lines else pos 0) committed.1
+      ∙ used_as_held o.lines used ∙ ap (asked_where test) opened.held
+
+  pub none_moved : (lines : List OpenLine) (Lasts : ℕ → Type 0) (x : Option Order) → IfSome x (AsOpened lines Lasts)
+      → (IsSomeAnd x IsCommitted → ⊥) → moved_where test x ≡ pos 0
+  none_moved lines Lasts None opened not = refl
+  none_moved lines Lasts (Some o) opened not = by (is_open o) (is_settled o) refl refl
+    where
+      by : (live settled : Bool) → is_open o ≡ live → is_settled o ≡ settled → moved_where test (Some o) ≡ pos 0
+      by live false a b = ap (λ b. if b then total (λ l. if test l.branch l.article then signed l.way l.used else pos 0) o.lines else pos 0) b
+      by false true a b = absurd (not (a, b))
+      by true true a b = absurd (true≢false (sym b ∙ opened.unsettled a))
 
 -- ---- an end is accepted, also at a full desk
 
-not_none : (x : Option Order) (o : Order) → x ≡ Some o → IsNone x → ⊥
+pub not_none : (x : Option Order) (o : Order) → x ≡ Some o → IsNone x → ⊥
 not_none x o e h = grind arith
 
-not_closed : (x : Option Order) (o : Order) → x ≡ Some o → is_open o ≡ true → IsSomeAnd x (λ o. IsFalse (is_open o)) → ⊥
+pub not_closed : (x : Option Order) (o : Order) → x ≡ Some o → is_open o ≡ true → IsSomeAnd x (λ o. IsFalse (is_open o)) → ⊥
 not_closed x o e live h = grind arith
 
 not_firm : (x : Option Order) (o : Order) → x ≡ Some o → o.firm ≡ false → IsSomeAnd x (λ o. IsTrue o.firm) → ⊥
@@ -91,8 +101,8 @@ module _ (n : ℕ) (lines : List OpenLine) (Lasts : ℕ → Type 0) (A : Ledger)
 
   pub moves_all : AllUsed o → HasMovedAll n (record { lines = lines; ledger = accept A (under key (command.Commit n)) })
   moves_all used = record {
-    moved = λ f. ap (moved_of f) (changed A n (command.Commit n) o (λ o. refl) e)
-        ∙ all_moved f lines Lasts (Some committed) behind (refl, refl) used;
+    moved = λ f. ap (moved_where (is_on f)) (changed A n (command.Commit n) o (λ o. refl) e)
+        ∙ all_moved (is_on f) lines Lasts (Some committed) behind (refl, refl) used;
     committed = has_committed;
   }
     where
@@ -114,7 +124,7 @@ committed_or_not (Some o) = by (is_open o) (is_settled o) refl refl
 module _ (n : ℕ) (Lasts : ℕ → Type 0) (s : Side) (opened : IfSome (order_numbered s.ledger n) (AsOpened s.lines Lasts)) where
   pub moved_nothing : (HasCommitted n s → ⊥) → HasMovedNothing n s
   moved_nothing not = record {
-    moved = λ f. none_moved f s.lines Lasts (order_numbered s.ledger n) opened not;
+    moved = λ f. none_moved (is_on f) s.lines Lasts (order_numbered s.ledger n) opened not;
     aborts = λ live. by (order_numbered s.ledger n) refl live opened;
   }
     where
@@ -129,13 +139,13 @@ module _ (n : ℕ) (Lasts : ℕ → Type 0) (s : Side) (opened : IfSome (order_n
 
   pub moved_all : HasCommitted n s → HasUsed n s → HasMovedAll n s
   moved_all committed used = record {
-    moved = λ f. all_moved f s.lines Lasts (order_numbered s.ledger n) opened committed used;
+    moved = λ f. all_moved (is_on f) s.lines Lasts (order_numbered s.ledger n) opened committed used;
     committed = committed;
   }
 
   pub under_way : (HasCommitted n s → ⊥) → (HasAborted n s → ⊥) → HasUsed n s → IsUnderWay n s
   under_way not back used = record {
-    moved = λ f. none_moved f s.lines Lasts (order_numbered s.ledger n) opened not;
+    moved = λ f. none_moved (is_on f) s.lines Lasts (order_numbered s.ledger n) opened not;
     commits = by (order_numbered s.ledger n) refl not back used opened;
   }
     where
@@ -186,6 +196,6 @@ is_committed d now is = (
 
 pub all_or_nothing : (d : Deal) → Stands d → NothingMoved d ⊎ AllMovedOrUnderWay d
 all_or_nothing d now = elim (committed_or_not (order_numbered d.first.ledger d.number)) [
-  inl is ↦ inr (is_committed d now is)
+  | inl is ↦ inr (is_committed d now is)
   | inr not ↦ inl (not_committed d now not)
 ]

@@ -32,13 +32,13 @@ OneEnds d s = (t : Side) × IsOver d.number t × ((t ≡ s) ⊎ ((c : Command) �
     × IsAnswered d.number (other_guards d) (under key c) (Done place) s t
     × ((c ≡ command.Commit d.number) ⊎ (c ≡ command.Abort d.number))))
 
-over_if : (x : Option Order) → (IsSomeAnd x IsCommitted ⊎ IsSomeAnd x IsAborted) → IsSomeAnd x (λ o. IsTrue (is_open o)) → ⊥
+pub over_if : (x : Option Order) → (IsSomeAnd x IsCommitted ⊎ IsSomeAnd x IsAborted) → IsSomeAnd x (λ o. IsTrue (is_open o)) → ⊥
 over_if None (inl h) live = h
 over_if None (inr h) live = h
 over_if (Some o) (inl h) live = true≢false (sym live ∙ h.0)
 over_if (Some o) (inr h) live = true≢false (sym live ∙ h.0)
 
-over_or_not : (x : Option Order) → IsSomeAnd x (λ o. IsTrue (is_open o)) ⊎ (IsSomeAnd x (λ o. IsTrue (is_open o)) → ⊥)
+pub over_or_not : (x : Option Order) → IsSomeAnd x (λ o. IsTrue (is_open o)) ⊎ (IsSomeAnd x (λ o. IsTrue (is_open o)) → ⊥)
 over_or_not None = inr (λ h. h)
 over_or_not (Some o) = by (is_open o) refl
   where
@@ -47,7 +47,7 @@ over_or_not (Some o) = by (is_open o) refl
     by false e = inr (λ h. true≢false (sym h ∙ e))
 
 -- an order that is there, and neither open nor committed
-aborted_if : (x : Option Order) → IsSome x → (IsSomeAnd x IsCommitted → ⊥) → (IsSomeAnd x (λ o. IsTrue (is_open o)) → ⊥)
+pub aborted_if : (x : Option Order) → IsSome x → (IsSomeAnd x IsCommitted → ⊥) → (IsSomeAnd x (λ o. IsTrue (is_open o)) → ⊥)
     → IsSomeAnd x IsAborted
 aborted_if None there not over = absurd (true≢false (sym there))
 aborted_if (Some o) there not over = by (is_open o) (is_settled o) refl refl
@@ -57,7 +57,7 @@ aborted_if (Some o) there not over = by (is_open o) (is_settled o) refl refl
     by false true a c = absurd (not (a, c))
     by false false a c = (a, c)
 
-some_there : (x : Option Order) (P : Order → Type 0) → IsSomeAnd x P → IsSome x
+pub some_there : (x : Option Order) (P : Order → Type 0) → IsSomeAnd x P → IsSome x
 some_there None P h = absurd h
 some_there (Some o) P h = refl
 
@@ -147,7 +147,7 @@ others_end d (s ∷ ss) ((t, over, by), all) = one (others_end d ss all) by
 -- ---- all of them
 
 -- an order that is beside a committed one, and not open
-all_moved : (d : Deal) → Stands d → HasCommitted d.number d.first → Each (IsOver d.number) d.others → AllMoved d
+pub all_moved : (d : Deal) → Stands d → HasCommitted d.number d.first → Each (IsOver d.number) d.others → AllMoved d
 all_moved d now is over = (
   moved_all d.number (λ v. Unit {0}) d.first now.first.opened is (now.first.used is),
   each-both (λ s b done. one s b done) d.others now.others over,
@@ -163,7 +163,7 @@ all_moved d now is over = (
 
 pub so_or_so : (d : Deal) → Stands d → Each (IsOver d.number) d.others → NothingMoved d ⊎ AllMoved d
 so_or_so d now over = elim (committed_or_not (order_numbered d.first.ledger d.number)) [
-  inl is ↦ inr (all_moved d now is over)
+  | inl is ↦ inr (all_moved d now is over)
   | inr not ↦ inl (not_committed d now not)
 ]
 
@@ -207,10 +207,10 @@ module _ (d : Deal) (key : List ℕ) (now : Stands d) (free_first : IsFree key d
       let k = (moved_nothing d.number (λ v. Unit {0}) d.first now.first.opened not).aborts live key free_first in
       let t : Side = record d.first { ledger = k.0 } in
       let answered : IsAnswered d.number (first_guards d) (under key (command.Abort d.number)) (Done (places d.first.ledger + 1)) d.first t =
-          record { may = λ _. tt; answers = k.1; lines = refl } in
+      record { may = λ _. tt; answers = k.1; lines = refl } in
       let over = over_if (order_numbered k.0 d.number) (inr k.2) in
       let rest = after_first (record d { first = t }) key
-          (at_first d (under key (command.Abort d.number)) (Done (places d.first.ledger + 1)) t now answered) over free in record {
+      (at_first d (under key (command.Abort d.number)) (Done (places d.first.ledger + 1)) t now answered) over free in record {
         turns = AtFirst (under key (command.Abort d.number)) (Done (places d.first.ledger + 1)) ∷ rest.turns;
         end = record d { first = t; others = rest.ts };
         course = (t, answered, rest.course);

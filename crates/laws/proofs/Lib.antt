@@ -1,5 +1,10 @@
+pub mod Zips
 pub mod OneOrder
 pub mod Together
 pub mod AllOrNothing
 pub mod Ends
+pub mod Uses
+pub mod Through
 pub mod Stock
+pub mod Even
+pub mod StillDesks

@@ -155,7 +155,7 @@ raised q t ls none all = each-map (λ l. l.used ≡ l.held) (λ l. if t l then r
 
 -- ---- an order that is there
 
-open_there : (x : Option Order) → (IsNone x → ⊥) → (IsSomeAnd x (λ o. IsFalse (is_open o)) → ⊥)
+pub open_there : (x : Option Order) → (IsNone x → ⊥) → (IsSomeAnd x (λ o. IsFalse (is_open o)) → ⊥)
     → IsSomeAnd x (λ o. is_open o ≡ true)
 open_there x a b = grind arith
 

@@ -5,6 +5,7 @@ use Rattle.book.proofs.Lists.{each-all}
 use Rattle.book.proofs.Sums.{each-both, each-imp}
 use Rattle.laws.specs.Deals.{AtFirst, AtOther, Course, Deal, Guards, HasAborted, HasCommitted, HasUsed, IsAnswered, IsNew, IsThere, Keeps, OneGoes, Side, Turn, first_guards, other_guards}
 use Rattle.laws.proofs.OneOrder.{AsOpened, Steps, answer_steps}
+use Rattle.laws.proofs.Zips.{all_in_turn, all_same, each_one, one_relates}
 
 -- the first order, which may be opened until any moment
 pub record First (n : ℕ) (s : Side) : Type 0 where
@@ -87,13 +88,6 @@ beside_next d r reply s t h b = record {
     k : SideSteps d.number (λ v. v ≡ d.until) (other_guards d) s t
     k = other_steps d r reply s t b h
 
-each_one : (Goes : Side → Side → Type 0) (P : Side → Type 0) → ((s t : Side) → Goes s t → P s → P t)
-    → (ss ts : List Side) → OneGoes Goes ss ts → Each P ss → Each P ts
-each_one Goes P step [] ts h all = absurd h
-each_one Goes P step (s ∷ ss) [] h all = absurd h
-each_one Goes P step (s ∷ ss) (t ∷ ts) (inl h) all = (step s t h.0 all.0, subst (Each P) (sym h.1) all.1)
-each_one Goes P step (s ∷ ss) (t ∷ ts) (inr h) all = (subst P (sym h.0) all.0, each_one Goes P step ss ts h.1 all.1)
-
 pub at_other : (d : Deal) (r : Request) (reply : Reply) (ts : List Side) → Stands d
     → OneGoes (IsAnswered d.number (other_guards d) r reply) d.others ts → Stands (record d { others = ts })
 at_other d r reply ts now h = record {
@@ -109,7 +103,7 @@ stands_along d [] e h now = subst Stands (sym h) now
 stands_along d (AtFirst r reply ∷ turns) e (t, h, more) now = stands_along (record d { first = t }) turns e more (at_first d r reply t now h)
 stands_along d (AtOther r reply ∷ turns) e (ts, h, more) now = stands_along (record d { others = ts }) turns e more (at_other d r reply ts now h)
 
-none_is : (x : Option Order) → IsNone x → x ≡ None
+pub none_is : (x : Option Order) → IsNone x → x ≡ None
 none_is x h = grind arith
 
 pub starts : (d : Deal) → IsNew d → Stands d
@@ -149,38 +143,23 @@ in_turn n s t u h k = record {
   aborted = λ x. k.aborted (h.aborted x);
 }
 
-all_same : (n : ℕ) (ss : List Side) → AllZip (Keeps n) ss ss
-all_same n [] = tt
-all_same n (s ∷ ss) = (same n s, all_same n ss)
-
-all_in_turn : (n : ℕ) (ss ts us : List Side) → AllZip (Keeps n) ss ts → AllZip (Keeps n) ts us → AllZip (Keeps n) ss us
-all_in_turn n [] [] us h k = k
-all_in_turn n [] (t ∷ ts) us h k = absurd h
-all_in_turn n (s ∷ ss) [] us h k = absurd h
-all_in_turn n (s ∷ ss) (t ∷ ts) [] h k = absurd k
-all_in_turn n (s ∷ ss) (t ∷ ts) (u ∷ us) h k = (in_turn n s t u h.0 k.0, all_in_turn n ss ts us h.1 k.1)
-
-one_keeps : (n : ℕ) (Goes : Side → Side → Type 0) (P : Side → Type 0) → ((s t : Side) → Goes s t → P s → Keeps n s t)
-    → (ss ts : List Side) → OneGoes Goes ss ts → Each P ss → AllZip (Keeps n) ss ts
-one_keeps n Goes P step [] ts h all = absurd h
-one_keeps n Goes P step (s ∷ ss) [] h all = absurd h
-one_keeps n Goes P step (s ∷ ss) (t ∷ ts) (inl h) all = (step s t h.0 all.0, subst (AllZip (Keeps n) ss) (sym h.1) (all_same n ss))
-one_keeps n Goes P step (s ∷ ss) (t ∷ ts) (inr h) all = (subst (Keeps n s) (sym h.0) (same n s), one_keeps n Goes P step ss ts h.1 all.1)
-
 -- at each desk
 abbrev KeepsAll : Deal → Deal → Type 0
 KeepsAll d e = Keeps d.number d.first e.first × AllZip (Keeps d.number) d.others e.others
 
 keep_along : (d : Deal) (turns : List Turn) (e : Deal) → Course d turns e → Stands d → KeepsAll d e
-keep_along d [] e h now = subst (KeepsAll d) (sym h) (same d.number d.first, all_same d.number d.others)
+keep_along d [] e h now = subst (KeepsAll d) (sym h)
+    (same d.number d.first, all_same (Keeps d.number) (same d.number) (in_turn d.number) d.others)
 keep_along d (AtFirst r reply ∷ turns) e (t, h, more) now =
     let k = keep_along (record d { first = t }) turns e more (at_first d r reply t now h) in
-    (in_turn d.number d.first t e.first (keeps d.number (λ v. Unit {0}) (first_guards d) d.first t (first_steps d r reply t now.first h)) k.0, k.1)
+    let one = keeps d.number (λ v. Unit {0}) (first_guards d) d.first t (first_steps d r reply t now.first h) in
+    (in_turn d.number d.first t e.first one k.0, k.1)
 keep_along d (AtOther r reply ∷ turns) e (ts, h, more) now =
     let k = keep_along (record d { others = ts }) turns e more (at_other d r reply ts now h) in
-    let one = one_keeps d.number (IsAnswered d.number (other_guards d) r reply) (Beside d.number d.until d.first)
-        (λ s t j b. keeps d.number (λ v. v ≡ d.until) (other_guards d) s t (other_steps d r reply s t b j)) d.others ts h now.others in
-    (k.0, all_in_turn d.number d.others ts e.others one k.1)
+    let one = one_relates (Keeps d.number) (same d.number) (in_turn d.number)
+    (IsAnswered d.number (other_guards d) r reply) (Beside d.number d.until d.first)
+    (λ s t j b. keeps d.number (λ v. v ≡ d.until) (other_guards d) s t (other_steps d r reply s t b j)) d.others ts h now.others in
+    (k.0, all_in_turn (Keeps d.number) (same d.number) (in_turn d.number) d.others ts e.others one k.1)
 
 pub guards_stay : (c d : Deal) (turns more : List Turn) (e : Deal) → IsNew c → Course c turns d → Course d more e → KeepsAll d e
 guards_stay c d turns more e new h k = keep_along d more e k (stands_along c turns d h (starts c new))

@@ -14,7 +14,9 @@ use Rattle.words.specs.declared.command.Command.TheVariants.{Field, Deliver, Wri
 use Rattle.words.specs.declared.command.Request.{Request}
 use Rattle.words.specs.declared.reply.Reply.{Reply}
 use Rattle.words.specs.declared.reply.Reply.TheVariants.{Done}
-use Rattle.book.specs.Ledger.{Field as FieldOf, Ledger, Name, Order, is_open, is_settled, kept_under, name_of, order_numbered, places, same_name}
+use Rattle.book.specs.declared.limits.TheConstants.{MAX_PLACES}
+use Rattle.book.specs.Good.{Good}
+use Rattle.book.specs.Ledger.{Field as FieldOf, Ledger, Name, Order, is_open, is_settled, kept_under, name_of, open_orders, order_numbered, places, same_name}
 use Rattle.book.specs.Outcomes.{moved_by_order, settled, signed, total}
 use Rattle.book.specs.Answers.{Answers, OfOrder}
 
@@ -254,3 +256,22 @@ moved_in_all d a = article_moved d.number a d.first +ℤ total (article_moved d.
 pub record IsTransfer (d : Deal) : Type 0 where
   pub adds : Each (λ s. Each (λ l. l.way ≡ Add) s.lines) d.others
   pub even : (a : List ℕ) → article_of_lines a d.first.lines +ℤ total (λ s. article_of_lines a s.lines) d.others ≡ pos 0
+
+-- ---- how it goes through
+
+-- The order is open and has used nothing, there is a place free and a key for each use, and the keys are not kept.
+pub record IsReady (n : ℕ) (commit : List ℕ) (uses : List (List ℕ)) (s : Side) : Type 0 where
+  pub good : Good s.ledger
+  pub live : OfOrder s.ledger n (λ o. IsTrue (is_open o))
+  pub unused : OfOrder s.ledger n (λ o. Each (λ l. l.used ≡ 0) o.lines)
+  pub room : places s.ledger + open_orders s.ledger + length s.lines ≤ MAX_PLACES
+  pub enough : length s.lines ≤ length uses
+  pub commit_free : IsFree commit s
+  pub uses_free : Each (λ key. IsFree key s) uses
+
+-- some course goes on to the end at which all is moved
+pub record GoesThrough (d : Deal) : Type 0 where
+  pub turns : List Turn
+  pub end : Deal
+  pub course : Course d turns end
+  pub all : AllMoved end
