@@ -1,13 +1,13 @@
 -- Wherever a course stops, all of the deal is moved, or nothing is.
-use Rattle.book.proofs.Prelude.{[], ◌+ℤ◌, ◌==◌, ◌∙◌, ◌∷◌, ◌≡◌, ◌⊎◌, Bool, Each, FirstFailure, IfSome, IsFalse, IsNone, IsSome, IsSomeAnd, IsTrue, Ledger, List, Name, None, OpenLine, Option, Order, Request, Some, accept, ap, arith, checks, effect, false, find, if◌then◌else◌, inl, inr, is_open, is_settled, line_name, map, moved_by, moved_by_order, name_of, numbered, on, option_map_or, order_numbered, pos, refl, same_name, signed, subst, sym, total, true, true≢false, ℕ, ℤ}
+use Rattle.book.proofs.Prelude.{[], ◌+ℤ◌, ◌==◌, ◌∙◌, ◌∷◌, ◌≡◌, ◌⊎◌, Bool, Each, FirstFailure, IfSome, IsFalse, IsNone, IsSomeAnd, IsTrue, Ledger, List, Name, None, OpenLine, Option, Order, Request, Some, accept, ap, arith, checks, effect, false, find, if◌then◌else◌, inl, inr, is_open, is_settled, map, name_of, numbered, option_map_or, order_numbered, pos, refl, same_name, signed, subst, sym, total, true, true≢false, ℕ, ℤ}
 use Rattle.words.specs.declared.command.Command.{Command}
 use Rattle.words.specs.declared.command.Command.TheVariants as command
 use Rattle.book.specs.declared.order.Line.{Line}
 use Rattle.book.proofs.Runs.{accepted_answered}
 use Rattle.book.proofs.Sums.{each-imp}
-use Rattle.laws.specs.Deals.{AllMovedOrUnderWay, AllUsed, Deal, HasAborted, HasCommitted, HasMovedAll, HasMovedNothing, HasUsed, IsAborted, IsCommitted, IsTaken, IsUnderWay, NothingMoved, Side, moved_by_lines, moved_under}
+use Rattle.laws.specs.Deals.{AllMovedOrUnderWay, AllUsed, Deal, HasAborted, HasCommitted, HasMovedAll, HasMovedNothing, HasUsed, IsAborted, IsCommitted, IsTaken, IsUnderWay, NothingMoved, Side}
 use Rattle.laws.proofs.OneOrder.{AsOpened, changes, found_some, held_line, number_is}
-use Rattle.laws.proofs.Together.{Beside, First, Stands}
+use Rattle.laws.proofs.Together.{Beside, Stands}
 
 -- ---- what an order has moved
 
@@ -34,7 +34,8 @@ module _ (test : List ℕ → List ℕ → Bool) where
       → IsSomeAnd x IsCommitted → IsSomeAnd x AllUsed → moved_where test x ≡ asked_where test lines
   all_moved lines Lasts None opened committed used = absurd committed
   all_moved lines Lasts (Some o) opened committed used =
-      ap (λ b. if b then total (λ l. if test l.branch l.article then signed l.way l.used else pos 0) o.lines else pos 0) committed.1
+      ap (λ b. if b then total (λ l. if test l.branch l.article then signed l.way l.used else pos 0) o.lines else pos 0)
+      committed.1
       ∙ used_as_held o.lines used ∙ ap (asked_where test) opened.held
 
   pub none_moved : (lines : List OpenLine) (Lasts : ℕ → Type 0) (x : Option Order) → IfSome x (AsOpened lines Lasts)
@@ -43,7 +44,8 @@ module _ (test : List ℕ → List ℕ → Bool) where
   none_moved lines Lasts (Some o) opened not = by (is_open o) (is_settled o) refl refl
     where
       by : (live settled : Bool) → is_open o ≡ live → is_settled o ≡ settled → moved_where test (Some o) ≡ pos 0
-      by live false a b = ap (λ b. if b then total (λ l. if test l.branch l.article then signed l.way l.used else pos 0) o.lines else pos 0) b
+      by live false a b =
+          ap (λ b. if b then total (λ l. if test l.branch l.article then signed l.way l.used else pos 0) o.lines else pos 0) b
       by false true a b = absurd (not (a, b))
       by true true a b = absurd (true≢false (sym b ∙ opened.unsettled a))
 
@@ -76,8 +78,10 @@ under key c = record { key = key; command = c }
 -- the order under the number then
 pub changed : (A : Ledger) (n : ℕ) (c : Command) (o : Order) → ((o : Order) → (changes (effect c) o).number ≡ o.number)
     → order_numbered A n ≡ Some o
-    → find (λ o. o.number == n) (map (λ o. if numbered n o then changes (effect c) o else o) A.orders) ≡ Some (changes (effect c) o)
-changed A n c o same e = found_some n (numbered n) (changes (effect c)) same o A.orders e ∙ ap (λ b. Some (if b then changes (effect c) o else o)) named
+    → find (λ o. o.number == n) (map (λ o. if numbered n o then changes (effect c) o else o) A.orders)
+    ≡ Some (changes (effect c) o)
+changed A n c o same e = found_some n (numbered n) (changes (effect c)) same o A.orders e
+    ∙ ap (λ b. Some (if b then changes (effect c) o else o)) named
   where
     itself : (a b : ℕ) → a ≡ b → (a == b) ≡ true
     itself a b e = grind arith
@@ -107,7 +111,13 @@ module _ (n : ℕ) (lines : List OpenLine) (Lasts : ℕ → Type 0) (A : Ledger)
   }
     where
       behind : AsOpened lines Lasts committed
-      behind = record { held = opened.held; plain = opened.plain; loose = opened.loose; unsettled = λ h. absurd (true≢false (sym h)); lasts = opened.lasts }
+      behind = record {
+        held = opened.held;
+        plain = opened.plain;
+        loose = opened.loose;
+        unsettled = λ h. absurd (true≢false (sym h));
+        lasts = opened.lasts;
+      }
 
 -- ---- one side
 
@@ -162,7 +172,8 @@ module _ (n : ℕ) (Lasts : ℕ → Type 0) (s : Side) (opened : IfSome (order_n
       by None e not back used opened = absurd used
       by (Some o) e not back used opened = cases (is_open o) (is_settled o) refl refl
         where
-          cases : (live settled : Bool) → is_open o ≡ live → is_settled o ≡ settled → IsTaken s (command.Commit n) (HasMovedAll n)
+          cases : (live settled : Bool) → is_open o ≡ live → is_settled o ≡ settled
+              → IsTaken s (command.Commit n) (HasMovedAll n)
           cases true b a c = taken o e a used opened
           cases false true a c = absurd (not (a, c))
           cases false false a c = absurd (back (a, c))

@@ -1,10 +1,10 @@
 -- A deal comes to an end by commits and aborts.
-use Rattle.book.proofs.Prelude.{[], ◌+◌, ◌∙◌, ◌∷◌, ◌≡◌, ◌≤◌, ◌⊎◌, Answers, Bool, Done, Each, IfSome, IsNone, IsSome, IsSomeAnd, IsTrue, List, None, Option, Order, Reply, Request, Some, accept, arith, false, inl, inr, is_open, is_settled, kept_under, length, order_numbered, places, refl, subst, sym, true, true≢false, ℕ}
+use Rattle.book.proofs.Prelude.{[], ◌+◌, ◌∙◌, ◌∷◌, ◌≡◌, ◌≤◌, ◌⊎◌, Bool, Done, Each, IsSome, IsSomeAnd, IsTrue, List, None, Option, Order, Reply, Some, arith, false, inl, inr, is_open, is_settled, length, order_numbered, places, refl, subst, sym, true, true≢false, ℕ}
 use Rattle.words.specs.declared.command.Command.{Command}
 use Rattle.words.specs.declared.command.Command.TheVariants as command
-use Rattle.book.proofs.Sums.{each-both, each-imp}
-use Rattle.laws.specs.Deals.{AllMoved, AtFirst, AtOther, ComesToAnEnd, Course, Deal, HasAborted, HasCommitted, HasMovedAll, IsAborted, IsAnswered, IsCommitted, IsDone, IsEnd, IsFree, IsNew, IsOver, IsTaken, IsThere, IsUnderWay, NothingMoved, OneGoes, Side, Turn, first_guards, other_guards}
-use Rattle.laws.proofs.Together.{Beside, Stands, at_first, stands_along, starts}
+use Rattle.book.proofs.Sums.{each-both}
+use Rattle.laws.specs.Deals.{AllMoved, AtFirst, AtOther, ComesToAnEnd, Course, Deal, HasCommitted, HasMovedAll, IsAborted, IsAnswered, IsCommitted, IsEnd, IsFree, IsOver, IsUnderWay, NothingMoved, Side, Turn, first_guards, other_guards}
+use Rattle.laws.proofs.Together.{Beside, Stands, at_first, stands_along}
 use Rattle.laws.proofs.AllOrNothing.{committed_beside, committed_or_not, both_ends, moved_all, moved_nothing, not_committed, under}
 
 -- the deal with these other sides
@@ -81,13 +81,18 @@ module _ (d : Deal) (key : List ℕ) (s : Side) (free : IsFree key s) (b : Besid
           command.Abort d.number,
           key,
           _,
-          record { may = λ _. aborted_if (order_numbered d.first.ledger d.number) first_there not over; answers = k.1; lines = refl },
+          record {
+            may = λ _. aborted_if (order_numbered d.first.ledger d.number) first_there not over;
+            answers = k.1;
+            lines = refl;
+          },
           inr refl,
         ),
       )
 
   one_ends : IsOver d.number d.first → OneEnds d s
-  one_ends over = by (committed_or_not (order_numbered d.first.ledger d.number)) (over_or_not (order_numbered s.ledger d.number))
+  one_ends over = by (committed_or_not (order_numbered d.first.ledger d.number))
+      (over_or_not (order_numbered s.ledger d.number))
     where
       by : HasCommitted d.number d.first ⊎ (HasCommitted d.number d.first → ⊥)
           → IsSomeAnd (order_numbered s.ledger d.number) (λ o. IsTrue (is_open o)) ⊎ IsOver d.number s → OneEnds d s
@@ -112,7 +117,8 @@ fewer x y h = omega arith
 as_few : (x y : ℕ) → x ≤ y → x + 1 ≤ y + 1
 as_few x y h = omega arith
 
-more_few : (t : Turn) (turns : List Turn) (s : Side) (ss : List Side) → length turns ≤ length ss → length (t ∷ turns) ≤ length (s ∷ ss)
+more_few : (t : Turn) (turns : List Turn) (s : Side) (ss : List Side) → length turns ≤ length ss
+    → length (t ∷ turns) ≤ length (s ∷ ss)
 more_few t turns s ss h = omega arith
 
 still_few : (turns : List Turn) (s : Side) (ss : List Side) → length turns ≤ length ss → length turns ≤ length (s ∷ ss)
@@ -159,7 +165,8 @@ all_moved d now is over = (
         by : HasCommitted d.number s ⊎ (HasCommitted d.number s → ⊥) → HasMovedAll d.number s
         by (inl there) = moved_all d.number (λ v. v ≡ d.until) s b.opened there (b.used is)
         by (inr not) = absurd (both_ends (order_numbered d.first.ledger d.number) is (b.aborted
-            (aborted_if (order_numbered s.ledger d.number) (some_there (order_numbered s.ledger d.number) _ (b.used is)) not done)))
+            (aborted_if (order_numbered s.ledger d.number)
+            (some_there (order_numbered s.ledger d.number) _ (b.used is)) not done)))
 
 pub so_or_so : (d : Deal) → Stands d → Each (IsOver d.number) d.others → NothingMoved d ⊎ AllMoved d
 so_or_so d now over = elim (committed_or_not (order_numbered d.first.ledger d.number)) [
@@ -206,16 +213,18 @@ module _ (d : Deal) (key : List ℕ) (now : Stands d) (free_first : IsFree key d
       let not = not_while_open (order_numbered d.first.ledger d.number) live in
       let k = (moved_nothing d.number (λ v. Unit {0}) d.first now.first.opened not).aborts live key free_first in
       let t : Side = record d.first { ledger = k.0 } in
-      let answered : IsAnswered d.number (first_guards d) (under key (command.Abort d.number)) (Done (places d.first.ledger + 1)) d.first t =
+      let request = under key (command.Abort d.number) in
+      let reply : Reply = Done (places d.first.ledger + 1) in
+      let answered : IsAnswered d.number (first_guards d) request reply d.first t =
       record { may = λ _. tt; answers = k.1; lines = refl } in
       let over = over_if (order_numbered k.0 d.number) (inr k.2) in
       let rest = after_first (record d { first = t }) key
-      (at_first d (under key (command.Abort d.number)) (Done (places d.first.ledger + 1)) t now answered) over free in record {
-        turns = AtFirst (under key (command.Abort d.number)) (Done (places d.first.ledger + 1)) ∷ rest.turns;
+      (at_first d request reply t now answered) over free in record {
+        turns = AtFirst request reply ∷ rest.turns;
         end = record d { first = t; others = rest.ts };
         course = (t, answered, rest.course);
         ends = ((refl, (places d.first.ledger + 1, refl)), rest.ends);
-        few = one_more (AtFirst (under key (command.Abort d.number)) (Done (places d.first.ledger + 1))) rest.turns (length d.others) rest.few;
+        few = one_more (AtFirst request reply) rest.turns (length d.others) rest.few;
         over = (over, rest.over);
         so = rest.so;
       }
@@ -228,4 +237,7 @@ module _ (d : Deal) (key : List ℕ) (now : Stands d) (free_first : IsFree key d
       one_more t turns n h = omega arith
 
   pub comes_to_an_end : ComesToAnEnd d
-  comes_to_an_end = elim (over_or_not (order_numbered d.first.ledger d.number)) [ inl live ↦ given_up live | inr over ↦ ended over ]
+  comes_to_an_end = elim (over_or_not (order_numbered d.first.ledger d.number)) [
+    | inl live ↦ given_up live
+    | inr over ↦ ended over
+  ]

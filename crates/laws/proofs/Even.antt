@@ -1,13 +1,13 @@
 -- What the orders of a deal move at all desks together, and what its own commands do to stock.
-use Rattle.book.proofs.Prelude.{[], ◌+ℤ◌, ◌∙◌, ◌∷◌, ◌≡◌, ◌≤ℤ◌, ◌⊎◌, Add, Each, Field, Good, IsNone, List, OpenLine, Option, Order, Way, arith, bytes_eq, false, true, if◌then◌else◌, inl, inr, ints, moved_by_order, option_map_or, order_numbered, pos, refl, settled, signed, subst, sym, total, ap, Bool, ℕ, ℤ}
+use Rattle.book.proofs.Prelude.{[], ◌+ℤ◌, ◌∷◌, ◌≡◌, ◌≤ℤ◌, ◌⊎◌, Add, Each, Field, Good, IsNone, List, OpenLine, Way, arith, bytes_eq, false, true, if◌then◌else◌, inl, inr, ints, moved_by_order, option_map_or, order_numbered, pos, refl, settled, signed, subst, sym, total, ap, Bool, ℕ, ℤ}
 use Rattle.std.specs.List.{AllZip}
 use Rattle.book.proofs.Goodness.{good_answer}
 use Rattle.book.proofs.Sums.{each-both, each-imp, total-eq, total-le, total-zero}
-use Rattle.laws.specs.Deals.{AllMoved, AtFirst, AtOther, ChangesByOrder, Course, Deal, HasCommitted, HasMovedAll, IsAnswered, IsNew, IsOver, IsOwn, IsOwnRequest, IsTransfer, NothingMoved, Side, Turn, article_moved, article_of_lines, first_guards, moved_in_all, moved_under, other_guards}
-use Rattle.laws.proofs.AllOrNothing.{all_moved, asked_where, committed_or_not, moved_where, none_moved}
+use Rattle.laws.specs.Deals.{AtFirst, AtOther, ChangesByOrder, Course, Deal, HasCommitted, IsAnswered, IsNew, IsOver, IsOwn, IsTransfer, Side, Turn, article_moved, article_of_lines, moved_in_all, moved_under, other_guards}
+use Rattle.laws.proofs.AllOrNothing.{all_moved, committed_or_not, none_moved}
 use Rattle.laws.proofs.Ends.{aborted_if, some_there}
 use Rattle.laws.proofs.Stock.{moves_alone}
-use Rattle.laws.proofs.Together.{Beside, Stands, none_is, stands_along, starts}
+use Rattle.laws.proofs.Together.{Beside, Stands, none_is}
 use Rattle.laws.proofs.Zips.{all_in_turn, all_same, each_one, one_relates, zip_with}
 use Rattle.laws.proofs.AllOrNothing.{both_ends}
 
@@ -19,7 +19,8 @@ is_of a branch article = bytes_eq article a
 not_less : (ls : List OpenLine) (a : List ℕ) → Each (λ l. l.way ≡ Add) ls → pos 0 ≤ℤ article_of_lines a ls
 not_less [] a adds = omega (arith, ints)
 not_less (l ∷ ls) a adds =
-    sums (if bytes_eq l.article a then signed l.way l.qty else pos 0) (article_of_lines a ls) (one (bytes_eq l.article a)) (not_less ls a adds.1)
+    sums (if bytes_eq l.article a then signed l.way l.qty else pos 0) (article_of_lines a ls)
+    (one (bytes_eq l.article a)) (not_less ls a adds.1)
   where
     sums : (x y : ℤ) → pos 0 ≤ℤ x → pos 0 ≤ℤ y → pos 0 ≤ℤ (x +ℤ y)
     sums x y h k = omega (arith, ints)
@@ -34,17 +35,21 @@ not_less (l ∷ ls) a adds =
 module _ (d : Deal) (a : List ℕ) (now : Stands d) where
   -- nothing is moved at an order that is not committed
   none_at : (s : Side) → Beside d.number d.until d.first s → (HasCommitted d.number s → ⊥) → article_moved d.number a s ≡ pos 0
-  none_at s b not = none_moved (is_of a) s.lines (λ v. v ≡ d.until) (order_numbered s.ledger d.number) b.opened not
+  none_at s b not =
+      none_moved (is_of a) s.lines (λ v. v ≡ d.until) (order_numbered s.ledger d.number) b.opened not
 
   first_none : (HasCommitted d.number d.first → ⊥) → article_moved d.number a d.first ≡ pos 0
-  first_none not = none_moved (is_of a) d.first.lines (λ v. Unit {0}) (order_numbered d.first.ledger d.number) now.first.opened not
+  first_none not = none_moved (is_of a) d.first.lines (λ v. Unit {0}) (order_numbered d.first.ledger d.number)
+      now.first.opened not
 
   first_all : HasCommitted d.number d.first → article_moved d.number a d.first ≡ article_of_lines a d.first.lines
-  first_all is = all_moved (is_of a) d.first.lines (λ v. Unit {0}) (order_numbered d.first.ledger d.number) now.first.opened is (now.first.used is)
+  first_all is = all_moved (is_of a) d.first.lines (λ v. Unit {0}) (order_numbered d.first.ledger d.number)
+      now.first.opened is (now.first.used is)
 
   all_at : (s : Side) → Beside d.number d.until d.first s → HasCommitted d.number s
       → article_moved d.number a s ≡ article_of_lines a s.lines
-  all_at s b is = all_moved (is_of a) s.lines (λ v. v ≡ d.until) (order_numbered s.ledger d.number) b.opened is (b.used (b.committed is))
+  all_at s b is = all_moved (is_of a) s.lines (λ v. v ≡ d.until) (order_numbered s.ledger d.number)
+      b.opened is (b.used (b.committed is))
 
   nothing : (HasCommitted d.number d.first → ⊥) → moved_in_all d a ≡ pos 0
   nothing not = sums _ _ (first_none not) (total-zero (article_moved d.number a) d.others
@@ -79,7 +84,8 @@ module _ (d : Deal) (a : List ℕ) (now : Stands d) where
 
       by : HasCommitted d.number d.first ⊎ (HasCommitted d.number d.first → ⊥) → moved_in_all d a ≤ℤ pos 0
       by (inl is) = sums (article_moved d.number a d.first) (total (article_moved d.number a) d.others)
-          (article_of_lines a d.first.lines) (total (λ s. article_of_lines a s.lines) d.others) (first_all is) (total-le (article_moved d.number a) (λ s. article_of_lines a s.lines) d.others
+          (article_of_lines a d.first.lines) (total (λ s. article_of_lines a s.lines) d.others) (first_all is)
+          (total-le (article_moved d.number a) (λ s. article_of_lines a s.lines) d.others
           (each-both at_most d.others now.others transfer.adds)) (transfer.even a)
       by (inr not) = same (moved_in_all d a) (nothing not)
 

@@ -1,5 +1,5 @@
 -- What a command that keeps its guard does to the order under a number.
-use Rattle.book.proofs.Prelude.{[], ◌+◌, ◌<◌, ◌==◌, ◌∙◌, ◌∷◌, ◌≡◌, ◌≢◌, ◌≤◌, ◌⊎◌, Answers, AnswersNew, Bool, Changes, Command, Done, Each, Effect, FirstFailure, IfSome, IsFalse, IsNone, IsSome, IsSomeAnd, IsTrue, Kept, KeyReused, Ledger, List, MatchOption, Name, None, Nothing, OpenLine, Opens, Option, Order, Refusal, Refused, Reply, Request, Some, accept, add_hold, ap, arith, change_lines, checks, effect, expires, false, find, if◌then◌else◌, inl, inr, is_open, is_settled, is_transfer, kept_under, map, name_of, nat_lt, new_line, new_order, next, numbered, on, order_numbered, places, raise_used, refl, same_command, subst, sym, transfer_lines, true, true≢false, ℕ}
+use Rattle.book.proofs.Prelude.{[], ◌+◌, ◌==◌, ◌∙◌, ◌∷◌, ◌≡◌, ◌≢◌, ◌≤◌, ◌⊎◌, Answers, AnswersNew, Bool, Changes, Command, Done, Each, Effect, FirstFailure, IfSome, IsFalse, IsNone, IsSome, IsSomeAnd, Kept, KeyReused, Ledger, List, MatchOption, Name, None, Nothing, OpenLine, Opens, Option, Order, Refusal, Refused, Reply, Request, Some, accept, add_hold, ap, arith, change_lines, checks, effect, expires, false, find, if◌then◌else◌, inl, inr, is_open, is_settled, is_transfer, kept_under, map, name_of, nat_lt, new_line, new_order, next, numbered, on, order_numbered, places, raise_used, refl, same_command, subst, sym, transfer_kind, transfer_lines, true, true≢false, ℕ}
 use Rattle.words.specs.declared.command.Command.TheVariants as command
 use Rattle.book.specs.declared.order.Kind.TheVariants.{Plain, Transfer}
 use Rattle.book.specs.declared.order.Line.{Line}
@@ -155,6 +155,13 @@ raised q t ls none all = each-map (λ l. l.used ≡ l.held) (λ l. if t l then r
 
 -- ---- an order that is there
 
+-- what the checks of a use leave
+usable : (A : Ledger) (n : ℕ) (b a : List ℕ) (q : ℕ) → FirstFailure (checks A (command.Use n b a q)) None
+    → IsSomeAnd (order_numbered A n) (Usable (name_of b a) q)
+usable A n b a q passed =
+    let p = all_pass (checks A (command.Use n b a q)) passed in let last = p.1.1.1 in
+    usable_there (name_of b a) q (order_numbered A n) p.1.0 p.1.1.0 last.0 last.1.0
+
 pub open_there : (x : Option Order) → (IsNone x → ⊥) → (IsSomeAnd x (λ o. IsFalse (is_open o)) → ⊥)
     → IsSomeAnd x (λ o. is_open o ≡ true)
 open_there x a b = grind arith
@@ -169,7 +176,16 @@ module _ (n : ℕ) (lines : List OpenLine) (Lasts : ℕ → Type 0) (g : Guards)
   Becomes x = (p : Order) × (x ≡ Some p) × Goes lines Lasts g o p
 
   stays : Becomes (Some o)
-  stays = (o, refl, record { opened = opened; used = λ h. h; over = λ e. (e, refl); committed = λ h. inl h; aborted = λ h. inl h })
+  stays = (o, refl, rests)
+    where
+      rests : Goes lines Lasts g o o
+      rests = record {
+        opened = opened;
+        used = λ h. h;
+        over = λ e. (e, refl);
+        committed = λ h. inl h;
+        aborted = λ h. inl h;
+      }
 
   at : (m : ℕ) (P : Order → Type 0) → m ≡ n → IsSomeAnd (order_numbered A m) P → P o
   at m P e h = subst (λ x. IsSomeAnd x P) there (subst (λ k. IsSomeAnd (order_numbered A k) P) e h)
@@ -186,7 +202,8 @@ module _ (n : ℕ) (lines : List OpenLine) (Lasts : ℕ → Type 0) (g : Guards)
   one : (m : ℕ) (change : Order → Order) → ((o : Order) → (change o).number ≡ o.number)
       → (m ≡ n → Goes lines Lasts g o (change o))
       → Becomes (find (λ o. o.number == n) (map (λ o. if numbered m o then change o else o) A.orders))
-  one m change same step = changing (numbered m) change same (λ e. step (sym (same_number o.number m e) ∙ number_is n o A.orders there))
+  one m change same step = changing (numbered m) change same
+      (λ e. step (sym (same_number o.number m e) ∙ number_is n o A.orders there))
 
   beside_it : (p : Order) → (IsSome (order_numbered A p.number) → ⊥)
       → Becomes (find (λ o. o.number == n) (insert_order p A.orders))
@@ -217,9 +234,20 @@ module _ (n : ℕ) (lines : List OpenLine) (Lasts : ℕ → Type 0) (g : Guards)
     aborted = λ k. inl k;
   }
 
+  -- an order that is not open, and otherwise the same
+  ended : (p : Order) → p.lines ≡ o.lines → p.kind ≡ o.kind → p.firm ≡ o.firm → p.until ≡ o.until → is_open p ≡ false
+      → AsOpened lines Lasts p
+  ended p same_lines same_kind same_firm same_until over = record {
+    held = ap (map held_line) same_lines ∙ opened.held;
+    plain = ap transfer_kind same_kind ∙ opened.plain;
+    loose = same_firm ∙ opened.loose;
+    unsettled = λ e. absurd (true≢false (sym e ∙ over));
+    lasts = subst Lasts (sym same_until) opened.lasts;
+  }
+
   commits : (m : ℕ) → is_open o ≡ true → g.commits → Goes lines Lasts g o (changes (effect (command.Commit m)) o)
   commits m still_live ok = record {
-    opened = record { held = opened.held; plain = opened.plain; loose = opened.loose; unsettled = λ e. absurd (true≢false (sym e)); lasts = opened.lasts };
+    opened = ended (changes (effect (command.Commit m)) o) refl refl refl refl refl;
     used = λ all. all;
     over = λ e. both still_live e;
     committed = λ k. inr ok;
@@ -228,7 +256,7 @@ module _ (n : ℕ) (lines : List OpenLine) (Lasts : ℕ → Type 0) (g : Guards)
 
   aborts : (now : ℕ) → is_open o ≡ true → g.aborts → Goes lines Lasts g o (changes (effect (command.Expire now)) o)
   aborts now still_live ok = record {
-    opened = record { held = opened.held; plain = opened.plain; loose = opened.loose; unsettled = λ e. absurd (true≢false (sym e)); lasts = opened.lasts };
+    opened = ended (changes (effect (command.Expire now)) o) refl refl refl refl refl;
     used = λ all. all;
     over = λ e. both still_live e;
     committed = λ k. absurd (true≢false (sym k.1));
@@ -249,16 +277,18 @@ module _ (n : ℕ) (lines : List OpenLine) (Lasts : ℕ → Type 0) (g : Guards)
       beside_it (new_order m Plain v ls) p.1.1.0
   goes_on (command.Transfer m v a from to q) may passed = let p = all_pass (checks A (command.Transfer m v a from to q)) passed in
       beside_it (new_order m Transfer v (transfer_lines a from to q)) p.1.1.0
-  goes_on (command.Use m b a q) may passed = let p = all_pass (checks A (command.Use m b a q)) passed in
-      one m (change_lines (name_of b a) (raise_used q)) (λ o. refl)
-      (λ e. uses (name_of b a) q (at m (Usable (name_of b a) q) e (usable_there (name_of b a) q (order_numbered A m) p.1.0 p.1.1.0 p.1.1.1.0 p.1.1.1.1.0)))
+  goes_on (command.Use m b a q) may passed = one m (change_lines (name_of b a) (raise_used q)) (λ o. refl)
+      (λ e. uses (name_of b a) q (at m (Usable (name_of b a) q) e (usable A m b a q passed)))
   goes_on (command.Commit m) may passed = let p = all_pass (checks A (command.Commit m)) passed in
       one m (changes (effect (command.Commit m))) (λ o. refl) (λ e. commits m (live m e p.0 p.1.0) (may e))
   goes_on (command.Abort m) may passed = let p = all_pass (checks A (command.Abort m)) passed in
       one m (changes (effect (command.Abort m))) (λ o. refl) (λ e. aborts 0 (live m e p.0 p.1.0) (may e))
-  goes_on (command.Expire now) may passed = changing (expires now) (changes (effect (command.Expire now))) (λ o. refl) (expiry now may)
-  goes_on (command.More m way b a q) may passed = one m (changes (effect (command.More m way b a q))) (λ o. more_number _ o) (λ e. absurd (may e))
-  goes_on (command.Release m b a q) may passed = one m (changes (effect (command.Release m b a q))) (λ o. refl) (λ e. absurd (may e))
+  goes_on (command.Expire now) may passed =
+      changing (expires now) (changes (effect (command.Expire now))) (λ o. refl) (expiry now may)
+  goes_on (command.More m way b a q) may passed =
+      one m (changes (effect (command.More m way b a q))) (λ o. more_number _ o) (λ e. absurd (may e))
+  goes_on (command.Release m b a q) may passed =
+      one m (changes (effect (command.Release m b a q))) (λ o. refl) (λ e. absurd (may e))
   goes_on (command.Firm m) may passed = one m (changes (effect (command.Firm m))) (λ o. refl) (λ e. absurd (may e))
   goes_on (command.Field b a lo hi start) may passed = subst Becomes (sym there) stays
   goes_on (command.Deliver b a q) may passed = subst Becomes (sym there) stays
@@ -281,14 +311,24 @@ module _ (n : ℕ) (lines : List OpenLine) (Lasts : ℕ → Type 0) (g : Guards)
       → Comes (find (λ o. o.number == n) (map (λ o. if names o then change o else o) A.orders))
   still names change same = inl (found_none n names change same A.orders none)
 
+  fresh : (m v : ℕ) (ls : List OpenLine) → g.opens v → ls ≡ lines → AsOpened lines Lasts (new_order m Plain v ls)
+  fresh m v ls ok same = record {
+    held = new_held ls ∙ same;
+    plain = refl;
+    loose = refl;
+    unsettled = λ h. refl;
+    lasts = lasts v ok;
+  }
+
   pub comes_to : (c : Command) → MaySend n lines g c → Comes (order_numbered (next A c) n)
   comes_to (command.Open m v ls) may = by (m == n) refl
     where
       by : (b : Bool) → (m == n) ≡ b → Comes (order_numbered (next A (command.Open m v ls)) n)
       by true e = let k = may (same_number m n e) in let o = new_order m Plain v ls in
-          inr (o, put_in n o e A.orders none, record { held = new_held ls ∙ k.1; plain = refl; loose = refl; unsettled = λ h. refl; lasts = lasts v k.0 }, refl, k.0)
+          inr (o, put_in n o e A.orders none, fresh m v ls k.0 k.1, refl, k.0)
       by false e = inl (beside n (new_order m Plain v ls) e A.orders ∙ none)
-  comes_to (command.Transfer m v a from to q) may = inl (beside n (new_order m Transfer v (transfer_lines a from to q)) (other_number m n may) A.orders ∙ none)
+  comes_to (command.Transfer m v a from to q) may =
+      inl (beside n (new_order m Transfer v (transfer_lines a from to q)) (other_number m n may) A.orders ∙ none)
   comes_to (command.More m way b a q) may = still _ _ (λ o. more_number _ o)
   comes_to (command.Use m b a q) may = still _ _ (λ o. refl)
   comes_to (command.Release m b a q) may = still _ _ (λ o. refl)

@@ -1,5 +1,5 @@
 -- Where no place is free and every open order is firm, nothing moves any more.
-use Rattle.book.proofs.Prelude.{[], ◌+ℤ◌, ◌+◌, ◌<◌, ◌==◌, ◌∙◌, ◌∷◌, ◌≡◌, ◌≤◌, Bool, Command, Each, Field, FirstFailure, Good, IsFalse, IsNone, IsSomeAnd, IsStrictlySortedBy, IsTrue, Kept, Ledger, Less, List, None, Option, Order, Reply, Request, Runs, Some, accept, ap, arith, checks, count_by, effect, false, if◌then◌else◌, ints, is_lt, is_open, is_settled, map, moved_by_order, nat_cmp, new_key, numbered, order_numbered, places, refl, settled, slice_cmp, subst, sym, total, true, true≢false, ℕ, ℤ}
+use Rattle.book.proofs.Prelude.{[], ◌+ℤ◌, ◌+◌, ◌<◌, ◌==◌, ◌∙◌, ◌∷◌, ◌≡◌, ◌≤◌, Bool, Command, Each, Field, FirstFailure, Good, IsSomeAnd, IsStrictlySortedBy, IsTrue, Kept, Ledger, Less, List, None, Option, Order, Reply, Request, Runs, Some, accept, ap, arith, checks, count_by, effect, false, if◌then◌else◌, ints, is_lt, is_open, is_settled, map, moved_by_order, nat_cmp, new_key, numbered, open_orders, order_numbered, places, refl, settled, slice_cmp, subst, sym, total, true, true≢false, ℕ, ℤ}
 use Rattle.words.specs.declared.command.Command.TheVariants as command
 use Rattle.book.specs.declared.limits.TheConstants.{MAX_PLACES}
 use Rattle.book.proofs.Futures.{all_pass, at_number, less_is}
@@ -83,17 +83,21 @@ full_up_two x y h k = k (omega arith)
 module _ (A : Ledger) (key : List ℕ) (m : ℕ) (now : Stays A) where
   committing : FirstFailure (checks A (command.Commit m)) None → Same A (accept A (under key (command.Commit m)))
   committing passed = (
-    record { still = record { full = full; firm = firm }; numbers = subst (IsStrictlySortedBy nat_cmp) (sym (same_numbers m A.orders)) now.numbers },
+    record { still = record { full = full; firm = firm }; numbers = numbers },
     same,
   )
     where
+      numbers : IsStrictlySortedBy nat_cmp (map (λ o. o.number) (map (ending m) A.orders))
+      numbers = subst (IsStrictlySortedBy nat_cmp) (sym (same_numbers m A.orders)) now.numbers
+
       live : Each (λ o. (o.number == m) ≡ true → is_open o ≡ true) A.orders
       live = let p = all_pass (checks A (command.Commit m)) passed in
           at_number (λ o. is_open o ≡ true) m A.orders now.numbers (open_there (order_numbered A m) p.0 p.1.0)
 
       full : MAX_PLACES ≤ places (accept A (under key (command.Commit m))) + count_by is_open (map (ending m) A.orders)
       full =
-          let a = length-insert (λ (a b : Kept). is_lt (slice_cmp nat_cmp a.key b.key)) (new_key A (under key (command.Commit m))) A.kept in
+          let a = length-insert (λ (a b : Kept). is_lt (slice_cmp nat_cmp a.key b.key))
+          (new_key A (under key (command.Commit m))) A.kept in
           let b = fewer m A.orders now.numbers in let c = now.still.full in omega arith
 
       stays : (o : Order) (b : Bool) → (IsTrue (is_open o) → IsTrue o.firm)
@@ -121,21 +125,39 @@ module _ (A : Ledger) (key : List ℕ) (m : ℕ) (now : Stays A) where
       by (Some o) e live loose = loose (subst (λ x. IsSomeAnd x (λ o. IsTrue o.firm)) (sym e)
           (found_is (λ o. IsTrue (is_open o) → IsTrue o.firm) m A.orders o now.still.firm e live))
 
-accepted : (A : Ledger) (key : List ℕ) (c : Command) → Stays A → FirstFailure (checks A c) None → Same A (accept A (under key c))
+-- a command that needs a place is refused
+no_place : (A : Ledger) → Stays A → (MAX_PLACES < places A + open_orders A + 1 → ⊥) → ⊥
+no_place A now room = full_up MAX_PLACES (places A + open_orders A) now.still.full room
+
+no_two : (A : Ledger) → Stays A → (MAX_PLACES < places A + open_orders A + 2 → ⊥) → ⊥
+no_two A now room = full_up_two MAX_PLACES (places A + open_orders A) now.still.full room
+
+accepted : (A : Ledger) (key : List ℕ) (c : Command) → Stays A → FirstFailure (checks A c) None
+    → Same A (accept A (under key c))
 accepted A key (command.Commit m) now passed = committing A key m now passed
 accepted A key (command.Abort m) now passed = absurd (not_aborted A key m now passed)
-accepted A key (command.Open m v ls) now passed = absurd (full_up_two _ _ now.still.full (all_pass (checks A (command.Open m v ls)) passed).0)
+accepted A key (command.Open m v ls) now passed =
+    let p = all_pass (checks A (command.Open m v ls)) passed in absurd (no_two A now p.0)
 accepted A key (command.Transfer m v a from to q) now passed =
-    absurd (full_up_two _ _ now.still.full (all_pass (checks A (command.Transfer m v a from to q)) passed).0)
-accepted A key (command.More m way b a q) now passed = absurd (full_up _ _ now.still.full (all_pass (checks A (command.More m way b a q)) passed).0)
-accepted A key (command.Use m b a q) now passed = absurd (full_up _ _ now.still.full (all_pass (checks A (command.Use m b a q)) passed).0)
-accepted A key (command.Release m b a q) now passed = absurd (full_up _ _ now.still.full (all_pass (checks A (command.Release m b a q)) passed).0)
-accepted A key (command.Firm m) now passed = absurd (full_up _ _ now.still.full (all_pass (checks A (command.Firm m)) passed).0)
-accepted A key (command.Expire v) now passed = absurd (full_up _ _ now.still.full (all_pass (checks A (command.Expire v)) passed).0)
-accepted A key (command.Field b a lo hi v) now passed = absurd (full_up _ _ now.still.full (all_pass (checks A (command.Field b a lo hi v)) passed).0)
-accepted A key (command.Deliver b a q) now passed = absurd (full_up _ _ now.still.full (all_pass (checks A (command.Deliver b a q)) passed).0)
-accepted A key (command.Writeoff b a q) now passed = absurd (full_up _ _ now.still.full (all_pass (checks A (command.Writeoff b a q)) passed).0)
-accepted A key (command.Rebound b a lo hi) now passed = absurd (full_up _ _ now.still.full (all_pass (checks A (command.Rebound b a lo hi)) passed).0)
+    let p = all_pass (checks A (command.Transfer m v a from to q)) passed in absurd (no_two A now p.0)
+accepted A key (command.More m way b a q) now passed =
+    let p = all_pass (checks A (command.More m way b a q)) passed in absurd (no_place A now p.0)
+accepted A key (command.Use m b a q) now passed =
+    let p = all_pass (checks A (command.Use m b a q)) passed in absurd (no_place A now p.0)
+accepted A key (command.Release m b a q) now passed =
+    let p = all_pass (checks A (command.Release m b a q)) passed in absurd (no_place A now p.0)
+accepted A key (command.Firm m) now passed =
+    let p = all_pass (checks A (command.Firm m)) passed in absurd (no_place A now p.0)
+accepted A key (command.Expire v) now passed =
+    let p = all_pass (checks A (command.Expire v)) passed in absurd (no_place A now p.0)
+accepted A key (command.Field b a lo hi v) now passed =
+    let p = all_pass (checks A (command.Field b a lo hi v)) passed in absurd (no_place A now p.0)
+accepted A key (command.Deliver b a q) now passed =
+    let p = all_pass (checks A (command.Deliver b a q)) passed in absurd (no_place A now p.0)
+accepted A key (command.Writeoff b a q) now passed =
+    let p = all_pass (checks A (command.Writeoff b a q)) passed in absurd (no_place A now p.0)
+accepted A key (command.Rebound b a lo hi) now passed =
+    let p = all_pass (checks A (command.Rebound b a lo hi)) passed in absurd (no_place A now p.0)
 
 run_stays : (A : Ledger) (rs : List Request) (replies : List Reply) (B : Ledger) → Stays A → Runs A rs replies B → Same A B
 run_stays A [] [] B now run = subst (Same A) (sym run) (now, λ f. refl)

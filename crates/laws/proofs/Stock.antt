@@ -1,6 +1,6 @@
 -- A command that names an order changes each field's settled value by what the order moves there, and no other command
 -- changes what it has moved.
-use Rattle.book.proofs.Prelude.{[], ◌+ℤ◌, ◌<◌, ◌==◌, ◌∙◌, ◌∷◌, ◌≡◌, ◌≢◌, Answers, Bool, Command, Each, Field, FirstFailure, Good, IsNone, IsSome, IsStrictlySortedBy, Ledger, Less, List, Name, None, Option, Order, Reply, Request, Some, ap, arith, checks, effect, expires, false, find, if◌then◌else◌, ints, is_settled, map, moved_by_order, nat_cmp, nat_lt, new_order, next, numbered, option_map_or, order_numbered, pos, refl, settled, subst, sym, total, transfer_lines, true, true≢false, ℕ, ℤ}
+use Rattle.book.proofs.Prelude.{[], ◌+ℤ◌, ◌<◌, ◌==◌, ◌∙◌, ◌∷◌, ◌≡◌, ◌≢◌, Answers, Bool, Command, Each, Field, FirstFailure, Good, IsNone, IsSome, IsStrictlySortedBy, Ledger, Less, List, Name, None, Option, Order, Reply, Request, Some, ap, arith, checks, effect, expires, false, find, if◌then◌else◌, ints, is_settled, map, moved_by_order, nat_cmp, nat_lt, new_order, next, numbered, option_map_or, order_numbered, pos, refl, settled, subst, sym, total, transfer_lines, true, ℕ, ℤ}
 use Rattle.words.specs.declared.command.Command.TheVariants as command
 use Rattle.book.specs.declared.order.Kind.TheVariants.{Plain, Transfer}
 use Rattle.book.specs.Next.{insert_order}
@@ -42,7 +42,8 @@ module _ (g : Order → ℤ) (h : Order → Order) (n : ℕ) where
           → (find (λ o. o.number == n) ms ≡ Some o → total g (one_changed ms) +ℤ g o ≡ total g ms +ℤ g (h o))
           → (g (if b then h m else m) +ℤ total g (one_changed ms)) +ℤ g o ≡ (g m +ℤ total g ms) +ℤ g (h o)
       step true t found more = let e = rest t in
-          subst (λ x. (g (h m) +ℤ total g (one_changed ms)) +ℤ g x ≡ (g m +ℤ total g ms) +ℤ g (h x)) (some_is m o found) (omega (arith, ints))
+          subst (λ x. (g (h m) +ℤ total g (one_changed ms)) +ℤ g x ≡ (g m +ℤ total g ms) +ℤ g (h x)) (some_is m o found)
+          (omega (arith, ints))
       step false t found more = let e = more found in omega (arith, ints)
 
 -- ---- the order that a command names
@@ -76,7 +77,8 @@ module _ (A : Ledger) (good : Good A) (f : Field) where
       let a = changes_one g (changes (effect c)) m o A.orders good.orders_in_order e in
       let b = ap (total g) orders in
       let p = ap (moved_of f.name) e in
-      let q = ap (moved_of f.name) (ap (find (λ o. o.number == m)) orders ∙ found_some m (numbered m) (changes (effect c)) same o A.orders e ∙ picked) in
+      let q = ap (moved_of f.name) (ap (find (λ o. o.number == m)) orders
+      ∙ found_some m (numbered m) (changes (effect c)) same o A.orders e ∙ picked) in
       adds _ _ _ _ _ _ _ _ _ sums a b p q
     where
       picked : Some (if numbered m o then changes (effect c) o else o) ≡ Some (changes (effect c) o)
@@ -97,7 +99,8 @@ module _ (A : Ledger) (good : Good A) (f : Field) where
       let q = ap (moved_of f.name) (ap (find (λ o. o.number == m)) orders ∙ put_in m o (itself o.number m is) A.orders e) in
       adds _ _ _ _ _ _ _ _ sums a b z p q
     where
-      adds : (s s' t t' u w x x' : ℤ) → s +ℤ t ≡ s' +ℤ t' → u ≡ w +ℤ t → t' ≡ u → w ≡ pos 0 → x ≡ pos 0 → x' ≡ w → s +ℤ x ≡ s' +ℤ x'
+      adds : (s s' t t' u w x x' : ℤ) → s +ℤ t ≡ s' +ℤ t' → u ≡ w +ℤ t → t' ≡ u → w ≡ pos 0
+          → x ≡ pos 0 → x' ≡ w → s +ℤ x ≡ s' +ℤ x'
       adds s s' t t' u w x x' a b c z p q = omega (arith, ints)
 
   -- it is there, since the check for it passes
@@ -110,11 +113,14 @@ module _ (A : Ledger) (good : Good A) (f : Field) where
   alone (command.Open m v ls) n is passed = let p = all_pass (checks A (command.Open m v ls)) passed in
       subst (Evens (command.Open m v ls)) is
       (opened (command.Open m v ls) m (new_order m Plain v ls) refl refl refl (omega (arith, ints)) p.1.1.0)
-  alone (command.Transfer m v a from to q) n is passed = let p = all_pass (checks A (command.Transfer m v a from to q)) passed in
+  alone (command.Transfer m v a from to q) n is passed =
+      let p = all_pass (checks A (command.Transfer m v a from to q)) passed in
       subst (Evens (command.Transfer m v a from to q)) is
-      (opened (command.Transfer m v a from to q) m (new_order m Transfer v (transfer_lines a from to q)) refl refl refl (omega (arith, ints)) p.1.1.0)
+      (opened (command.Transfer m v a from to q) m (new_order m Transfer v (transfer_lines a from to q)) refl refl refl
+      (omega (arith, ints)) p.1.1.0)
   alone (command.More m way b a q) n is passed = let p = all_pass (checks A (command.More m way b a q)) passed in
-      subst (Evens (command.More m way b a q)) is (one (command.More m way b a q) m (λ o. more_number _ o) refl (omega (arith, ints)) p.1.0)
+      subst (Evens (command.More m way b a q)) is
+      (one (command.More m way b a q) m (λ o. more_number _ o) refl (omega (arith, ints)) p.1.0)
   alone (command.Use m b a q) n is passed = let p = all_pass (checks A (command.Use m b a q)) passed in
       subst (Evens (command.Use m b a q)) is (one (command.Use m b a q) m (λ o. refl) refl (omega (arith, ints)) p.1.0)
   alone (command.Release m b a q) n is passed = let p = all_pass (checks A (command.Release m b a q)) passed in
@@ -142,7 +148,8 @@ module _ (A : Ledger) (n : ℕ) (f : Name) where
   kept : (names : Order → Bool) (change : Order → Order) → ((o : Order) → (change o).number ≡ o.number)
       → ((o : Order) → o.number ≡ n → names o ≡ true → moved_by_order f (change o) ≡ moved_by_order f o)
       → (x : Option Order) → order_numbered A n ≡ x
-      → moved_of f (find (λ o. o.number == n) (map (λ o. if names o then change o else o) A.orders)) ≡ moved_of f (order_numbered A n)
+      → moved_of f (find (λ o. o.number == n) (map (λ o. if names o then change o else o) A.orders))
+      ≡ moved_of f (order_numbered A n)
   kept names change same step None e = ap (moved_of f) (found_none n names change same A.orders e ∙ sym e)
   kept names change same step (Some o) e =
       ap (moved_of f) (found_some n names change same o A.orders e) ∙ by (names o) refl ∙ sym (ap (moved_of f) e)
@@ -152,14 +159,16 @@ module _ (A : Ledger) (n : ℕ) (f : Name) where
       by false named = refl
 
   kept_one : (m : ℕ) (c : Command) → m ≢ n → ((o : Order) → (changes (effect c) o).number ≡ o.number)
-      → moved_of f (find (λ o. o.number == n) (map (λ o. if numbered m o then changes (effect c) o else o) A.orders)) ≡ moved_of f (order_numbered A n)
+      → moved_of f (find (λ o. o.number == n) (map (λ o. if numbered m o then changes (effect c) o else o) A.orders))
+      ≡ moved_of f (order_numbered A n)
   kept_one m c apart same = kept (numbered m) (changes (effect c)) same
       (λ o is named. absurd (apart (sym (same_number o.number m named) ∙ is))) (order_numbered A n) refl
 
   loose_if : (now : ℕ) (o : Order) → expires now o ≡ true → is_settled o ≡ false
   loose_if now o e = grind arith
 
-  expired : (now : ℕ) (o : Order) → expires now o ≡ true → moved_by_order f (changes (effect (command.Expire now)) o) ≡ moved_by_order f o
+  expired : (now : ℕ) (o : Order) → expires now o ≡ true
+      → moved_by_order f (changes (effect (command.Expire now)) o) ≡ moved_by_order f o
   expired now o e = sym (loose (loose_if now o e))
     where
       loose : is_settled o ≡ false → moved_by_order f o ≡ pos 0

@@ -1,19 +1,20 @@
 -- Where all orders of a deal are open and each desk has places, it goes through.
-use Rattle.book.proofs.Prelude.{[], ◌++◌, ◌+◌, ◌<◌, ◌∙◌, ◌∷◌, ◌≡◌, ◌≤◌, Answers, Bool, Done, Each, FirstFailure, IfSome, IsDistinct, IsNone, IsSomeAnd, IsTrue, Ledger, List, None, Option, Order, Reply, Request, Some, accept, arith, bytes_decides, bytes_eq, false, true, checks, is_open, kept_under, map, order_numbered, places, refl, subst, sym, true≢false, ℕ, inl, inr}
+use Rattle.book.proofs.Prelude.{[], ◌++◌, ◌+◌, ◌∙◌, ◌∷◌, ◌≡◌, Bool, Done, Each, IsDistinct, IsNone, IsSomeAnd, Ledger, List, Order, Reply, Some, accept, bytes_decides, bytes_eq, false, true, is_open, kept_under, map, order_numbered, places, refl, subst, sym, true≢false, ℕ, inl}
 use Rattle.words.specs.declared.command.Command.TheVariants as command
 use Rattle.book.proofs.Runs.{accepted_answered}
 use Rattle.book.proofs.Sums.{each-both, each-imp}
-use Rattle.laws.specs.Deals.{AllUsed, AtFirst, AtOther, Course, Deal, GoesThrough, HasCommitted, HasUsed, IsAnswered, IsCommitted, IsFree, IsOver, IsReady, Side, Turn, first_guards, other_guards}
+use Rattle.laws.specs.Deals.{AllUsed, AtFirst, AtOther, Course, Deal, GoesThrough, HasCommitted, HasUsed, IsAnswered, IsCommitted, IsFree, IsOver, IsReady, Side, Turn, first_guards}
 use Rattle.laws.proofs.AllOrNothing.{changed, commit_passes, under}
 use Rattle.laws.proofs.Ends.{IsAtOther, after_first, all_moved, beside_one, over_if, with_others}
-use Rattle.laws.proofs.OneOrder.{AsOpened}
-use Rattle.laws.proofs.Together.{Beside, Stands, stands_along}
+use Rattle.laws.proofs.Together.{Stands, stands_along}
 use Rattle.laws.proofs.Uses.{AllUses, OneUse, UsesRun, ready_uses, use_of}
 
 pub course_append : (d e f : Deal) (ts us : List Turn) → Course d ts e → Course e us f → Course d (ts ++ us) f
 course_append d e f [] us h k = subst (λ x. Course x us f) h k
-course_append d e f (AtFirst r reply ∷ ts) us (t, h, more) k = (t, h, course_append (record d { first = t }) e f ts us more k)
-course_append d e f (AtOther r reply ∷ ts) us (ss, h, more) k = (ss, h, course_append (record d { others = ss }) e f ts us more k)
+course_append d e f (AtFirst r reply ∷ ts) us (t, h, more) k =
+    (t, h, course_append (record d { first = t }) e f ts us more k)
+course_append d e f (AtOther r reply ∷ ts) us (ss, h, more) k =
+    (ss, h, course_append (record d { others = ss }) e f ts us more k)
 
 -- ---- the uses at one desk, as turns
 
@@ -28,7 +29,8 @@ abbrev at_other : ℕ → OneUse → Turn
 at_other n u = AtOther (use_of n u) (Done u.place)
 
 uses_first : (d : Deal) (us : List OneUse) (A B : Ledger) → UsesRun d.number us A B
-    → Course (record d { first = with_ledger d.first A }) (map (at_first d.number) us) (record d { first = with_ledger d.first B })
+    → Course (record d { first = with_ledger d.first A }) (map (at_first d.number) us)
+    (record d { first = with_ledger d.first B })
 uses_first d [] A B run = λ i. record d { first = with_ledger d.first (run i) }
 uses_first d (u ∷ us) A B (M, answers, run) =
     (with_ledger d.first M, record { may = tt; answers = answers; lines = refl }, uses_first d us M B run)
@@ -60,7 +62,8 @@ record OthersUse (d : Deal) (commit : List ℕ) (ss : List Side) : Type 0 where
 has_used : (n : ℕ) (s : Side) (A : Ledger) (o : Order) → order_numbered A n ≡ Some o → AllUsed o → HasUsed n (with_ledger s A)
 has_used n s A o e all = subst (λ x. IsSomeAnd x AllUsed) (sym e) all
 
-others_use : (d : Deal) (commit : List ℕ) (ss : List Side) → Each (λ s. AllUses d.number commit s.ledger) ss → OthersUse d commit ss
+others_use : (d : Deal) (commit : List ℕ) (ss : List Side) → Each (λ s. AllUses d.number commit s.ledger) ss
+    → OthersUse d commit ss
 others_use d commit [] all = record { turns = []; ts = []; course = refl; others = tt; used = tt; free = tt }
 others_use d commit (s ∷ ss) (one, all) =
     let rest = others_use d commit ss all in
@@ -69,7 +72,8 @@ others_use d commit (s ∷ ss) (one, all) =
       turns = turns ++ rest.turns;
       ts = t ∷ rest.ts;
       course = course_append (with_others d (s ∷ ss)) (with_others d (t ∷ ss)) (with_others d (t ∷ rest.ts)) turns rest.turns
-          (uses_other d s ss one.uses s.ledger one.ledger one.run) (beside_one d t ss rest.turns rest.ts rest.others rest.course);
+          (uses_other d s ss one.uses s.ledger one.ledger one.run)
+          (beside_one d t ss rest.turns rest.ts rest.others rest.course);
       others = both_at_other turns rest.turns (all_at_other d.number one.uses) rest.others;
       used = (has_used d.number s one.ledger one.order one.there one.used, rest.used);
       free = (one.free, rest.free);
@@ -141,12 +145,14 @@ through d commit now first others =
     }
 
 -- no two of the keys are equal, by whichever comes first
-turned : (commit : List ℕ) (uses : List (List ℕ)) → Each (λ k. bytes_eq commit k ≡ false) uses → Each (λ k. bytes_eq k commit ≡ false) uses
+turned : (commit : List ℕ) (uses : List (List ℕ)) → Each (λ k. bytes_eq commit k ≡ false) uses
+    → Each (λ k. bytes_eq k commit ≡ false) uses
 turned commit uses h = each-imp (λ k e. one k (bytes_eq k commit) refl e) uses h
   where
     one : (k : List ℕ) (b : Bool) → bytes_eq k commit ≡ b → bytes_eq commit k ≡ false → bytes_eq k commit ≡ false
     one k false e h = e
-    one k true e h = absurd (true≢false (sym (itself k) ∙ subst (λ x. bytes_eq x k ≡ false) (sym ((bytes_decides k commit).0 e)) h))
+    one k true e h = absurd (true≢false (sym (itself k)
+        ∙ subst (λ x. bytes_eq x k ≡ false) (sym ((bytes_decides k commit).0 e)) h))
       where
         itself : (k : List ℕ) → bytes_eq k k ≡ true
         itself k = (bytes_decides k k).1 refl
@@ -156,5 +162,6 @@ pub goes_through : (d : Deal) (commit : List ℕ) (uses : List (List ℕ)) → S
 unfolding IsDistinct
 goes_through d commit uses now apart first others = through d commit now
     (ready_uses d.number commit uses (λ v. Unit {0}) d.first now.first.opened apart.1 (turned commit uses apart.0) first)
-    (each-both (λ s b ready. ready_uses d.number commit uses (λ v. v ≡ d.until) s b.opened apart.1 (turned commit uses apart.0) ready)
+    (each-both
+    (λ s b ready. ready_uses d.number commit uses (λ v. v ≡ d.until) s b.opened apart.1 (turned commit uses apart.0) ready)
     d.others now.others others)

@@ -1,5 +1,5 @@
 -- What holds between the first order of a deal and the others, along a course.
-use Rattle.book.proofs.Prelude.{[], ◌+◌, ◌<◌, ◌∙◌, ◌∷◌, ◌≡◌, ◌≤◌, ◌⊎◌, Each, IfSome, IsNone, IsSome, IsSomeAnd, List, None, OpenLine, Option, Order, Reply, Request, arith, inl, inr, order_numbered, refl, subst, sym, ℕ}
+use Rattle.book.proofs.Prelude.{[], ◌<◌, ◌∷◌, ◌≡◌, ◌≤◌, Each, IfSome, IsNone, IsSome, IsSomeAnd, List, None, OpenLine, Option, Order, Reply, Request, arith, inl, inr, order_numbered, subst, sym, ℕ}
 use Rattle.std.specs.List.{AllZip}
 use Rattle.book.proofs.Lists.{each-all}
 use Rattle.book.proofs.Sums.{each-both, each-imp}
@@ -44,15 +44,20 @@ first_steps d r reply t now h = answer_steps d.number d.first.lines (λ v. Unit 
 other_steps : (d : Deal) (r : Request) (reply : Reply) (s t : Side) → Beside d.number d.until d.first s
     → IsAnswered d.number (other_guards d) r reply s t → SideSteps d.number (λ v. v ≡ d.until) (other_guards d) s t
 other_steps d r reply s t now h = answer_steps d.number s.lines (λ v. v ≡ d.until) (other_guards d) (λ v ok. ok.1)
-    (λ v moment is come late. absurd (too_late v d.until moment is come late)) s.ledger r reply t.ledger h.may h.answers now.opened
+    (λ v moment is come late. absurd (too_late v d.until moment is come late))
+    s.ledger r reply t.ledger h.may h.answers now.opened
 
-opened_at : (x : Option Order) (Lasts : ℕ → Type 0) (ls ms : List OpenLine) → ms ≡ ls → IfSome x (AsOpened ls Lasts) → IfSome x (AsOpened ms Lasts)
+opened_at : (x : Option Order) (Lasts : ℕ → Type 0) (ls ms : List OpenLine) → ms ≡ ls → IfSome x (AsOpened ls Lasts)
+    → IfSome x (AsOpened ms Lasts)
 opened_at x Lasts ls ms same opened = subst (λ k. IfSome x (AsOpened k Lasts)) (sym same) opened
 
 pub at_first : (d : Deal) (r : Request) (reply : Reply) (t : Side) → Stands d
     → IsAnswered d.number (first_guards d) r reply d.first t → Stands (record d { first = t })
 at_first d r reply t now h = record {
-  first = record { opened = opened_at (order_numbered t.ledger d.number) (λ v. Unit {0}) d.first.lines t.lines h.lines k.opened; used = used };
+  first = record {
+    opened = opened_at (order_numbered t.ledger d.number) (λ v. Unit {0}) d.first.lines t.lines h.lines k.opened;
+    used = used;
+  };
   others = each-both (λ s b u. beside s b u) d.others now.others
       (each-all (λ (c : HasCommitted d.number t) s. HasUsed d.number s) d.others all_used);
 }
@@ -66,7 +71,8 @@ at_first d r reply t now h = record {
     all_used : HasCommitted d.number t → Each (HasUsed d.number) d.others
     all_used c = elim (k.committed c) [ inl before ↦ each-imp (λ s b. b.used before) d.others now.others | inr ok ↦ ok.1 ]
 
-    beside : (s : Side) → Beside d.number d.until d.first s → (HasCommitted d.number t → HasUsed d.number s) → Beside d.number d.until t s
+    beside : (s : Side) → Beside d.number d.until d.first s → (HasCommitted d.number t → HasUsed d.number s)
+        → Beside d.number d.until t s
     beside s b u = record {
       opened = b.opened;
       there = λ h. k.there (b.there h);
@@ -100,8 +106,10 @@ at_other d r reply ts now h = record {
 
 pub stands_along : (d : Deal) (turns : List Turn) (e : Deal) → Course d turns e → Stands d → Stands e
 stands_along d [] e h now = subst Stands (sym h) now
-stands_along d (AtFirst r reply ∷ turns) e (t, h, more) now = stands_along (record d { first = t }) turns e more (at_first d r reply t now h)
-stands_along d (AtOther r reply ∷ turns) e (ts, h, more) now = stands_along (record d { others = ts }) turns e more (at_other d r reply ts now h)
+stands_along d (AtFirst r reply ∷ turns) e (t, h, more) now =
+    stands_along (record d { first = t }) turns e more (at_first d r reply t now h)
+stands_along d (AtOther r reply ∷ turns) e (ts, h, more) now =
+    stands_along (record d { others = ts }) turns e more (at_other d r reply ts now h)
 
 pub none_is : (x : Option Order) → IsNone x → x ≡ None
 none_is x h = grind arith
@@ -118,10 +126,12 @@ starts d new = record {
   }) d.others new.1;
 }
   where
-    not_there : (s : Side) → IsNone (order_numbered s.ledger d.number) → (P : Order → Type 0) → IfSome (order_numbered s.ledger d.number) P
+    not_there : (s : Side) → IsNone (order_numbered s.ledger d.number) → (P : Order → Type 0)
+        → IfSome (order_numbered s.ledger d.number) P
     not_there s none P = subst (λ x. IfSome x P) (sym (none_is (order_numbered s.ledger d.number) none)) tt
 
-    gone : (s : Side) → IsNone (order_numbered s.ledger d.number) → (P : Order → Type 0) → IsSomeAnd (order_numbered s.ledger d.number) P → ⊥
+    gone : (s : Side) → IsNone (order_numbered s.ledger d.number) → (P : Order → Type 0)
+        → IsSomeAnd (order_numbered s.ledger d.number) P → ⊥
     gone s none P h = subst (λ x. IsSomeAnd x P) (none_is (order_numbered s.ledger d.number) none) h
 
     nowhere : (s : Side) → IsNone (order_numbered s.ledger d.number) → IsThere d.number s → ⊥
@@ -158,7 +168,8 @@ keep_along d (AtOther r reply ∷ turns) e (ts, h, more) now =
     let k = keep_along (record d { others = ts }) turns e more (at_other d r reply ts now h) in
     let one = one_relates (Keeps d.number) (same d.number) (in_turn d.number)
     (IsAnswered d.number (other_guards d) r reply) (Beside d.number d.until d.first)
-    (λ s t j b. keeps d.number (λ v. v ≡ d.until) (other_guards d) s t (other_steps d r reply s t b j)) d.others ts h now.others in
+    (λ s t j b. keeps d.number (λ v. v ≡ d.until) (other_guards d) s t (other_steps d r reply s t b j))
+    d.others ts h now.others in
     (k.0, all_in_turn (Keeps d.number) (same d.number) (in_turn d.number) d.others ts e.others one k.1)
 
 pub guards_stay : (c d : Deal) (turns more : List Turn) (e : Deal) → IsNew c → Course c turns d → Course d more e → KeepsAll d e

@@ -1,5 +1,5 @@
 -- An open order of which nothing is used uses all, line by line, where there is room for it.
-use Rattle.book.proofs.Prelude.{[], ◌&&◌, ◌++◌, ◌+◌, ◌<◌, ◌==◌, ◌||◌, ◌∙◌, ◌∷◌, ◌≡◌, ◌≤◌, Answers, Bool, Done, Each, FirstFailure, Good, IfSome, IsDistinct, IsFalse, IsNone, IsSomeAnd, IsTrue, Kept, Ledger, List, Name, None, Option, Order, Reply, Request, Some, accept, ap, arith, bytes_eq, change_lines, checks, count_by, effect, false, find, if◌then◌else◌, inl, inr, insert_in_order, is_lt, is_open, is_transfer, kept_under, length, line_name, line_on, map, nat_cmp, new_key, numbered, on, open_orders, order_numbered, places, raise_used, refl, same_name, slice_cmp, subst, sym, true, true≢false, ℕ}
+use Rattle.book.proofs.Prelude.{[], ◌++◌, ◌+◌, ◌<◌, ◌||◌, ◌∙◌, ◌∷◌, ◌≡◌, ◌≤◌, Answers, Bool, Done, Each, FirstFailure, IfSome, IsDistinct, IsNone, IsSomeAnd, IsTrue, Kept, Ledger, List, Name, None, Option, Order, Request, Some, accept, ap, arith, bytes_eq, change_lines, checks, false, find, if◌then◌else◌, inr, insert_in_order, is_lt, is_open, is_transfer, kept_under, length, line_name, line_on, map, nat_cmp, new_key, numbered, on, open_orders, order_numbered, places, raise_used, refl, same_name, slice_cmp, subst, sym, true, true≢false, ℕ}
 use Rattle.words.specs.declared.command.Command.TheVariants as command
 use Rattle.book.specs.declared.limits.TheConstants.{MAX_PLACES}
 use Rattle.book.specs.declared.order.Line.{Line}
@@ -7,18 +7,19 @@ use Rattle.book.proofs.Lists.{count-map, each-unmap, length-insert, length-of-ma
 use Rattle.book.proofs.OutcomeTests.{same_self}
 use Rattle.book.proofs.Runs.{accepted_answered}
 use Rattle.book.proofs.Safety.{other_way}
-use Rattle.book.proofs.Sums.{each, each-imp, each-of-push}
+use Rattle.book.proofs.Sums.{each, each-of-push}
 use Rattle.book.proofs.Transfers.{found_is}
-use Rattle.laws.specs.Deals.{AllUsed, HasUsed, IsFree, IsReady, Side}
+use Rattle.laws.specs.Deals.{AllUsed, IsReady, Side}
 use Rattle.laws.proofs.AllOrNothing.{changed, not_closed, not_none, under}
-use Rattle.laws.proofs.OneOrder.{AsOpened, changes, held_line}
+use Rattle.laws.proofs.OneOrder.{AsOpened, held_line}
 
 -- ---- a key that is not kept is not kept behind another either
 
 key_beside : (key : List ℕ) (before : Kept → Kept → Bool) (x : Kept) → bytes_eq x.key key ≡ false → (ks : List Kept)
     → IsNone (find (λ k. bytes_eq k.key key) ks) → IsNone (find (λ k. bytes_eq k.key key) (insert_in_order before x ks))
 key_beside key before x other [] none = rw other refl
-key_beside key before x other (k ∷ ks) none = by (before x k) (bytes_eq k.key key) refl none (λ h. key_beside key before x other ks h)
+key_beside key before x other (k ∷ ks) none =
+    by (before x k) (bytes_eq k.key key) refl none (λ h. key_beside key before x other ks h)
   where
     by : (b c : Bool) → bytes_eq k.key key ≡ c → IsNone (if c then Some k else find (λ k. bytes_eq k.key key) ks)
         → (IsNone (find (λ k. bytes_eq k.key key) ks) → IsNone (find (λ k. bytes_eq k.key key) (insert_in_order before x ks)))
@@ -102,7 +103,8 @@ pub record OneUse : Type 0 where
 abbrev pub use_of : ℕ → OneUse → Request
 use_of n u = under u.key (command.Use n u.line.branch u.line.article u.line.held)
 
-module _ (n : ℕ) (done : List Line) (l : Line) (rest : List Line) (A : Ledger) (now : Using n done (l ∷ rest) A) (key : List ℕ) where
+module _ (n : ℕ) (done : List Line) (l : Line) (rest : List Line) (A : Ledger)
+    (now : Using n done (l ∷ rest) A) (key : List ℕ) where
   abbrev r : Request
   r = under key (command.Use n l.branch l.article l.held)
 
@@ -159,7 +161,8 @@ module _ (n : ℕ) (done : List Line) (l : Line) (rest : List Line) (A : Ledger)
   open_still = count-map is_open (λ o. if numbered n o then change_lines (line_name l) (raise_used l.held) o else o) A.orders
       (each (λ o. one o (numbered n o)) A.orders)
     where
-      one : (o : Order) (b : Bool) → is_open (if b then change_lines (line_name l) (raise_used l.held) o else o) ≡ true → is_open o ≡ true
+      one : (o : Order) (b : Bool) → is_open (if b then change_lines (line_name l) (raise_used l.held) o else o) ≡ true
+          → is_open o ≡ true
       one o true e = e
       one o false e = e
 
@@ -212,7 +215,8 @@ more_free A r (k ∷ keys) apart free = (still_free A r k apart.0 free.0, more_f
 too_few : (l : Line) (rest : List Line) → length (l ∷ rest) ≤ 0 → ⊥
 too_few l rest h = omega arith
 
-fewer : (l : Line) (rest : List Line) (k : List ℕ) (keys : List (List ℕ)) → length (l ∷ rest) ≤ length (k ∷ keys) → length rest ≤ length keys
+fewer : (l : Line) (rest : List Line) (k : List ℕ) (keys : List (List ℕ)) → length (l ∷ rest) ≤ length (k ∷ keys)
+    → length rest ≤ length keys
 fewer l rest k keys h = omega arith
 
 plus_none : (ls : List Line) → ls ++ [] ≡ ls
@@ -237,8 +241,10 @@ use_all n commit [] done (l ∷ rest) A now apart other enough free frees = absu
 use_all n commit (k ∷ keys) done (l ∷ rest) A now apart other enough free frees =
     let u : OneUse = record { key = k; line = l; place = places A + 1 } in
     let M : Ledger = accept A (use_of n u) in
-    let more = use_all n commit keys (done ++ raise_used l.held l ∷ []) rest M (using_next n done l rest A now k) apart.1 other.1
-    (fewer l rest k keys enough) (still_free A (use_of n u) commit other.0 free) (more_free A (use_of n u) keys apart.0 frees.1) in
+    let more = use_all n commit keys (done ++ raise_used l.held l ∷ []) rest M (using_next n done l rest A now k)
+    apart.1 other.1
+    (fewer l rest k keys enough)
+    (still_free A (use_of n u) commit other.0 free) (more_free A (use_of n u) keys apart.0 frees.1) in
     record {
       uses = u ∷ more.uses;
       ledger = more.ledger;
