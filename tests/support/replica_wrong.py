@@ -1,0 +1,64 @@
+"""Wrong programs of machines that hold a desk, which the tests have to find: each is the right one with one thing changed."""
+
+import os
+import shutil
+import subprocess
+import sys
+
+from support import DEPLOY
+from support.programs import expect
+
+MODULES = ["stockdesk_tools", "stockdesk_log", "stockdesk_walk", "stockdesk_desk", "stockdesk_machine"]
+SECONDS = 300
+
+LATE = "return base < self.mark or self.recent.get(key_of(line), 0) > base"
+TOLD_LATE = "tell(ENDED if self.has_ended else LATE)\n"
+REST = " for ask in here if not self.past.is_late(ask.line, ask.base)]"
+WALK = """        if not self.rows:
+            return False
+        if self.rows[0] == line:
+            self.rows.popleft()
+            self.take_place(line)
+        return True
+"""
+ALL_AGAIN = "        self.rows.clear()\n        return False\n"
+KEPT_OVER = """        if line in self.rows:
+            self.rows.remove(line)
+            self.take_place(line)
+            return True
+        return False
+"""
+
+# of each its module, a part of it, and what is put in that place
+WRONG = {
+    "older copies count": ("stockdesk_walk", LATE, "return base < self.mark"),
+    "older copies count behind a mark": ("stockdesk_walk", LATE, "return self.recent.get(key_of(line), 0) > base"),
+    "what has waited is not judged": ("stockdesk_machine", REST, " for ask in here]"),
+    "what the client knows is not looked at": ("stockdesk_machine", "min(known, self.revision)", "self.revision"),
+    "views of what this desk has": ("stockdesk_machine", "if not await self.reach(await looker):", "if await looker is None:"),
+    "views before what the desk was given": ("stockdesk_desk", "self.commands.behind_all(", "(lambda act: act())("),
+    "all behind the mark is carried out again": ("stockdesk_walk", WALK, ALL_AGAIN),
+    "what is kept is passed over, all else is carried out": ("stockdesk_walk", WALK, KEPT_OVER),
+    "late lines count in the walk": (
+        *("stockdesk_machine", TOLD_LATE, TOLD_LATE + "                self.walk.passes_over(line)\n"),
+    ),
+    "a row is taken by its key alone": ("stockdesk_walk", "if self.rows[0] == line:", "if key_of(self.rows[0]) == key_of(line):"),
+}
+
+
+def play_wrong(name: str, folder: str, cases: int) -> str:
+    """What is found first in so many cases of a wrong program."""
+    module, part, other = WRONG[name]
+    for each in MODULES:
+        shutil.copy(os.path.join(DEPLOY, f"{each}.py"), folder)
+    path = os.path.join(folder, f"{module}.py")
+    with open(path, encoding="utf-8") as file:
+        text = file.read()
+    expect(text.count(part) == 1, f"{name}: there is no such part")
+    with open(path, "w", encoding="utf-8") as file:
+        file.write(text.replace(part, other))
+    tests = os.path.dirname(os.path.dirname(os.path.abspath(__file__)))
+    environment = {**os.environ, "PYTHONPATH": f"{folder}{os.pathsep}{tests}", "PYTHONDONTWRITEBYTECODE": "1"}
+    words = [sys.executable, "-m", "support.replica_steps", str(cases)]
+    run = subprocess.run(words, env=environment, capture_output=True, text=True, timeout=SECONDS)
+    return "" if run.returncode == 0 else (run.stdout + run.stderr or "nothing is told").splitlines()[0]
