@@ -1,5 +1,5 @@
-"""What clients asked of a desk on several machines and were told, and the judgement: is there one order of all, which time allows,
-in which the rules answer so?"""
+"""What clients asked of a desk on several machines and were told, and the judgement: is there one order of all, which time
+allows, in which the rules answer so?"""
 
 import bisect
 import json
@@ -120,7 +120,8 @@ def running(values: Iterable[int], choose: Any) -> list[int]:
 
 def first_asked(attempts: Iterable[Attempt], kept: Kept) -> dict[str, float]:
     """When each kept command was asked for first."""
-    commands, found = dict(kept), {}
+    commands = dict(kept)
+    found: dict[str, float] = {}
     for each in attempts:
         if commands.get(each.key) == each.command:
             found[each.key] = min(found.get(each.key, NEVER), each.start)
@@ -142,7 +143,9 @@ def done_after_all(attempts: Iterable[Attempt], kept: Kept) -> list[str]:
     """Commands that are done, though who asked last for them was told that they are refused."""
     last = {each.key: each for each in sorted(attempts, key=lambda each: each.start)}
     commands = dict(kept)
-    return [f"is done after all: {each}" for each in last.values() if each.is_refused() and commands.get(each.key) == each.command]
+    return [
+        f"is done after all: {each}" for each in last.values() if each.is_refused() and commands.get(each.key) == each.command
+    ]
 
 
 class Explained:

@@ -1,5 +1,5 @@
-"""Three machines that hold a desk, in one process: the code of the machines, over a log and desks that are models. Time is counted
-in turns of the event loop; a put may be kept late, unheard or not at all, a machine may lag and stop, and copies come late.
+"""Three machines that hold a desk, in one process: their code, over a log and desks that are models. Time is counted in turns of
+the event loop; a put may be kept late, unheard or not at all, a machine may lag and stop, and copies come late.
 
     python3 -m support.replica_steps COUNT [FIRST]    plays so many cases, from that one on, and tells the first that is wrong"""
 
@@ -302,7 +302,7 @@ class Case:
                 pass
         lives = [asyncio.create_task(Shop(number, self).live()) for number in range(CLIENTS)]
         disturber = asyncio.create_task(self.disturb())
-        await asyncio.wait([disturber, asyncio.gather(*lives)], return_when=asyncio.FIRST_COMPLETED)
+        await asyncio.wait({disturber, asyncio.ensure_future(all_of(lives))}, return_when=asyncio.FIRST_COMPLETED)
         if disturber.done():
             disturber.result()
         disturber.cancel()
@@ -322,6 +322,10 @@ class Case:
         for place in self.places:
             place.expect_alive()
             await place.desk.commands.at_most(0)
+
+
+async def all_of(tasks: list[asyncio.Task[None]]) -> None:
+    await asyncio.gather(*tasks)
 
 
 async def wrong_of(seed: int, counts: dict[str, int]) -> list[str]:

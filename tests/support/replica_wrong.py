@@ -13,6 +13,7 @@ SECONDS = 300
 
 LATE = "return base < self.mark or self.recent.get(key_of(line), 0) > base"
 TOLD_LATE = "tell(ENDED if self.has_ended else LATE)\n"
+SAME = "if self.rows[0] == line:"
 REST = " for ask in here if not self.past.is_late(ask.line, ask.base)]"
 WALK = """        if not self.rows:
             return False
@@ -29,26 +30,27 @@ KEPT_OVER = """        if line in self.rows:
         return False
 """
 
-# of each its module, a part of it, and what is put in that place
+# of each how it is tried, its module, a part of it, and what is put in that place
+STEPS, WALKS = ("support.replica_steps", "60"), ("support.replica_walks", "2000")
 WRONG = {
-    "older copies count": ("stockdesk_walk", LATE, "return base < self.mark"),
-    "older copies count behind a mark": ("stockdesk_walk", LATE, "return self.recent.get(key_of(line), 0) > base"),
-    "what has waited is not judged": ("stockdesk_machine", REST, " for ask in here]"),
-    "what the client knows is not looked at": ("stockdesk_machine", "min(known, self.revision)", "self.revision"),
-    "views of what this desk has": ("stockdesk_machine", "if not await self.reach(await looker):", "if await looker is None:"),
-    "views before what the desk was given": ("stockdesk_desk", "self.commands.behind_all(", "(lambda act: act())("),
-    "all behind the mark is carried out again": ("stockdesk_walk", WALK, ALL_AGAIN),
-    "what is kept is passed over, all else is carried out": ("stockdesk_walk", WALK, KEPT_OVER),
+    "older copies count": (STEPS, "stockdesk_walk", LATE, "return base < self.mark"),
+    "older copies count behind a mark": (STEPS, "stockdesk_walk", LATE, "return self.recent.get(key_of(line), 0) > base"),
+    "what has waited is not judged": (STEPS, "stockdesk_machine", REST, " for ask in here]"),
+    "what the client knows is not looked at": (STEPS, "stockdesk_machine", "min(known, self.revision)", "self.revision"),
+    "views of what this desk has": (STEPS, "stockdesk_machine", "not await self.reach(await looker)", "await looker is None"),
+    "views before what the desk was given": (STEPS, "stockdesk_desk", "self.commands.behind_all(", "(lambda act: act())("),
+    "all behind the mark is carried out again": (WALKS, "stockdesk_walk", WALK, ALL_AGAIN),
+    "what is kept is passed over, all else is carried out": (WALKS, "stockdesk_walk", WALK, KEPT_OVER),
     "late lines count in the walk": (
-        *("stockdesk_machine", TOLD_LATE, TOLD_LATE + "                self.walk.passes_over(line)\n"),
+        *(WALKS, "stockdesk_machine", TOLD_LATE, TOLD_LATE + "                self.walk.passes_over(line)\n"),
     ),
-    "a row is taken by its key alone": ("stockdesk_walk", "if self.rows[0] == line:", "if key_of(self.rows[0]) == key_of(line):"),
+    "a row is taken by its key alone": (WALKS, "stockdesk_walk", SAME, "if key_of(self.rows[0]) == key_of(line):"),
 }
 
 
-def play_wrong(name: str, folder: str, cases: int) -> str:
-    """What is found first in so many cases of a wrong program."""
-    module, part, other = WRONG[name]
+def play_wrong(name: str, folder: str) -> str:
+    """What is found first in cases of a wrong program."""
+    (trial, count), module, part, other = WRONG[name]
     for each in MODULES:
         shutil.copy(os.path.join(DEPLOY, f"{each}.py"), folder)
     path = os.path.join(folder, f"{module}.py")
@@ -59,6 +61,6 @@ def play_wrong(name: str, folder: str, cases: int) -> str:
         file.write(text.replace(part, other))
     tests = os.path.dirname(os.path.dirname(os.path.abspath(__file__)))
     environment = {**os.environ, "PYTHONPATH": f"{folder}{os.pathsep}{tests}", "PYTHONDONTWRITEBYTECODE": "1"}
-    words = [sys.executable, "-m", "support.replica_steps", str(cases)]
+    words = [sys.executable, "-m", trial, count]
     run = subprocess.run(words, env=environment, capture_output=True, text=True, timeout=SECONDS)
     return "" if run.returncode == 0 else (run.stdout + run.stderr or "nothing is told").splitlines()[0]
