@@ -83,13 +83,18 @@ class Log:
         self.name = name.encode()
         channel = grpc.aio.insecure_channel(address, OPTIONS)
         self.store, self.watcher = rpc_pb2_grpc.KVStub(channel), rpc_pb2_grpc.WatchStub(channel)
+        self.is_well = True
 
     async def try_call(self, call: Any, request: Any) -> Any:
         """What a call gives, or None: then it may be done or not, now or later."""
         try:
-            return await call(request, timeout=CALL_SECONDS)
+            found = await call(request, timeout=CALL_SECONDS)
+            self.is_well = True
+            return found
         except grpc.aio.AioRpcError as fault:
-            say(f"etcd: {fault.code().name}: {fault.details()}")
+            if self.is_well:
+                say(f"etcd: {fault.code().name}: {fault.details()}")
+            self.is_well = False
             await asyncio.sleep(AGAIN_SECONDS)
             return None
 

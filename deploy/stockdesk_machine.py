@@ -21,9 +21,6 @@ ENTRY_LINES, UNANSWERED = 256, 1_000
 # how long one entry is tried, and when the others have told of a mark, in seconds
 PUT_SECONDS, HEAR_SECONDS = 5, 3
 
-# a mark stands behind so many lines
-MARK_LINES = 20_000
-
 # a desk that two others contradict ends with this status, and stays down
 ASTRAY = 4
 
@@ -52,7 +49,7 @@ class Ask:
 class Machine:
     """A machine by its name, which has come so far in the log: up to `revision` it was passed over or fed to the desk."""
 
-    def __init__(self, name: str, log: Log, walk: Walk, desk: Desk, mark_lines: int = MARK_LINES):
+    def __init__(self, name: str, log: Log, walk: Walk, desk: Desk, mark_lines: int):
         self.name, self.log, self.walk, self.desk, self.mark_lines = name, log, walk, desk, mark_lines
         self.past = Past()
         self.run = uuid.uuid4().hex[:8].encode()

@@ -22,6 +22,7 @@ ROLLOVER = os.path.join(DEPLOY, "stockdesk-rollover")
 UNITS = sorted(glob.glob(os.path.join(DEPLOY, "*.service")) + glob.glob(os.path.join(DEPLOY, "*.timer")))
 # a unit of a service, and below what its exposure is
 EXPOSED = {"stockdesk@.service": 2.0, "stockdesk-backup@.service": 2.5, "stockdesk-check@.service": 2.5}
+EXPOSED["stockdesk-replica@.service"] = 2.5
 SHARED = [
     "User=stockdesk",
     "CapabilityBoundingSet=",
@@ -130,7 +131,7 @@ class Package(ProgramCase):
             told = run([self.program, command, "--help"])
             first = (told.stdout + told.stderr).splitlines()[0]
             expect(first in page, f"nothing is said of {command}: {first}")
-        for tool in ["backup", "restore", "rollover"]:
+        for tool in ["backup", "restore", "rollover", "replica"]:
             expect(f"usage: stockdesk-{tool}" in page, f"nothing is said of {tool}")
             expect(os.path.exists(os.path.join(self.folder, f"usr/share/man/man1/stockdesk-{tool}.1.gz")), f"no page of {tool}")
         for line in ["not a desk", "old version", "damaged", "store", "memory", "io", "usage", "record N", "csv"]:

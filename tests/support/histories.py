@@ -36,7 +36,8 @@ class Attempt:
         return f"{self.key} {self.command}"
 
     def fits(self, desk: Rules) -> bool:
-        return desk.reply(self.line()) == f"{self.key} {self.reply}"
+        # what is no command is answered without its key
+        return desk.reply(self.line()) in (f"{self.key} {self.reply}", f"- {self.reply}")
 
     def __str__(self) -> str:
         return f"{self.line()}: {self.reply or 'no answer'}"

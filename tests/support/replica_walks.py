@@ -88,7 +88,7 @@ def random_log(chance: random.Random) -> list[Entry]:
 async def is_carried_out(log: WrittenLog, rules: Rules, stop: int | None) -> bool:
     """Whether a machine with this desk came to the log's end, or was stopped before."""
     rows = [f"{key} {words}".encode() for key, (_, words) in sorted(rules.kept.items(), key=lambda each: each[1][0])]
-    machine = Machine("m", log, Walk(rows), Desk(StoppedConnection(rules, stop), []))
+    machine = Machine("m", log, Walk(rows), Desk(StoppedConnection(rules, stop), []), 10)
     await machine.find_mark()
     try:
         await machine.carry_out()
