@@ -6,6 +6,7 @@ answer 503 says in Retry-After when to ask again."""
 
 import json
 import re
+from collections.abc import Callable
 
 from aiohttp import web
 from stockdesk_desk import Answer
@@ -60,7 +61,7 @@ class Http:
         return NONE
 
 
-def is_gone(request: web.BaseRequest):
+def is_gone(request: web.BaseRequest) -> Callable[[], bool]:
     """Tells whether the client does not wait any more."""
     return lambda: request.transport is None or request.transport.is_closing()
 

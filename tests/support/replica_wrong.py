@@ -8,7 +8,6 @@ import sys
 from support import DEPLOY
 from support.programs import expect
 
-MODULES = ["stockdesk_tools", "stockdesk_log", "stockdesk_walk", "stockdesk_desk", "stockdesk_machine"]
 SECONDS = 300
 
 LATE = "return base < self.mark or self.recent.get(key_of(line), 0) > base"
@@ -31,7 +30,7 @@ KEPT_OVER = """        if line in self.rows:
 """
 
 # of each how it is tried, its module, a part of it, and what is put in that place
-STEPS, WALKS = ("support.replica_steps", "60"), ("support.replica_walks", "2000")
+STEPS, WALKS = ("support.replica_steps", "150"), ("support.replica_walks", "2000")
 WRONG = {
     "older copies count": (STEPS, "stockdesk_walk", LATE, "return base < self.mark"),
     "older copies count behind a mark": (STEPS, "stockdesk_walk", LATE, "return self.recent.get(key_of(line), 0) > base"),
@@ -48,17 +47,22 @@ WRONG = {
 }
 
 
-def play_wrong(name: str, folder: str) -> str:
-    """What is found first in cases of a wrong program."""
-    (trial, count), module, part, other = WRONG[name]
-    for each in MODULES:
-        shutil.copy(os.path.join(DEPLOY, f"{each}.py"), folder)
+def changed_tools(folder: str, module: str, part: str, other: str) -> str:
+    """The tool for several machines with another part in one of its modules, in a folder that is made; its path."""
+    shutil.copytree(DEPLOY, folder, ignore=shutil.ignore_patterns("page", "__pycache__"))
     path = os.path.join(folder, f"{module}.py")
     with open(path, encoding="utf-8") as file:
         text = file.read()
-    expect(text.count(part) == 1, f"{name}: there is no such part")
+    expect(text.count(part) == 1, f"{module} has not one {part!r}")
     with open(path, "w", encoding="utf-8") as file:
         file.write(text.replace(part, other))
+    return os.path.join(folder, "stockdesk-replica")
+
+
+def play_wrong(name: str, folder: str) -> str:
+    """What is found first in cases of a wrong program, whose modules lie in a folder that is made."""
+    (trial, count), module, part, other = WRONG[name]
+    changed_tools(folder, module, part, other)
     tests = os.path.dirname(os.path.dirname(os.path.abspath(__file__)))
     environment = {**os.environ, "PYTHONPATH": f"{folder}{os.pathsep}{tests}", "PYTHONDONTWRITEBYTECODE": "1"}
     words = [sys.executable, "-m", trial, count]
