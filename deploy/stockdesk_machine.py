@@ -13,7 +13,7 @@ from dataclasses import dataclass, replace
 from stockdesk_desk import Answer, Desk, Tell, command_message
 from stockdesk_log import End, Lines, Log, Mark, ToldMark, read_value, value_of
 from stockdesk_tools import Fault, say
-from stockdesk_walk import Past, Walk, digests_of
+from stockdesk_walk import Past, Walk
 
 # lines of an entry, and messages that the desk has not answered yet, at most
 ENTRY_LINES, UNANSWERED = 256, 1_000
@@ -62,13 +62,6 @@ class Machine:
         self.lookers: list[asyncio.Future[int | None]] = []
 
     # ---- the place to go on from
-
-    async def begin(self) -> None:
-        """Has a log begin with this desk. Fault: it has begun, or etcd does not answer."""
-        if await self.log.head() != 0 or not (revision := await self.log.put(b"mark 0")):
-            raise Fault("the log has begun, or cannot be reached: give it another name, or start again without --begin")
-        digest = digests_of(self.walk.rows)[-1]
-        await self.log.tell_mark(ToldMark(revision, self.name, len(self.walk.rows), digest.hex()))
 
     async def find_mark(self) -> None:
         """Begins at the newest mark at which a desk stood that had the first of this one's rows and no others."""

@@ -13,7 +13,7 @@ import stockdesk_http
 import stockdesk_tools as tools
 import stockdesk_walk
 import uvloop
-from stockdesk_log import Log
+from stockdesk_log import Log, ToldMark
 from stockdesk_machine import Machine
 from stockdesk_tools import Fault
 from stockdesk_walk import Walk
@@ -47,10 +47,23 @@ async def listen(options: argparse.Namespace, machine: Machine) -> None:
     tools.say(f"{machine.name} serves {machine.walk.place} places, from {began} to {head} of the log")
 
 
+async def begin(options: argparse.Namespace) -> None:
+    """Has a log begin with this desk. Fault: it has begun, or etcd does not answer."""
+    path = os.path.abspath(options.file)
+    stockdesk_desk.lock(path + ".lock")
+    with tools.workplace(os.path.dirname(path)) as place:
+        copy = os.path.join(place, "desk.db")
+        stockdesk_walk.copy_desk(path, copy)
+        digests = stockdesk_walk.digests_of(stockdesk_walk.kept_lines(copy))
+    log = Log(options.etcd, options.log)
+    if await log.head() != 0 or not (revision := await log.put(b"mark 0")):
+        raise Fault("the log has begun, or cannot be reached")
+    await log.tell_mark(ToldMark(revision, options.machine, len(digests) - 1, digests[-1].hex()))
+    tools.say(f"the log {options.log} begins with {len(digests) - 1} places")
+
+
 async def serve(options: argparse.Namespace) -> None:
     machine = await start(options)
-    if options.begin:
-        await machine.begin()
     await machine.find_mark()
     works: list[Coroutine[Any, Any, None]] = [machine.desk.hear(), machine.carry_out(), machine.add(), machine.look()]
     tasks = [asyncio.create_task(each) for each in [*works, listen(options, machine)]]
@@ -59,10 +72,11 @@ async def serve(options: argparse.Namespace) -> None:
         task.result()
 
 
-async def serve_and_end(options: argparse.Namespace) -> None:
-    """Serves until the first fault, and ends the process: nothing that is under way is waited for."""
+async def work_and_end(options: argparse.Namespace) -> None:
+    """Begins a log, or serves until the first fault, and ends the process: nothing that is under way is waited for."""
     try:
-        await serve(options)
+        await (begin if options.begin else serve)(options)
+        os._exit(0)
     except (Fault, OSError) as fault:
         tools.say(str(fault))
     except Exception:
@@ -74,4 +88,4 @@ def run(options: argparse.Namespace) -> None:
     uvloop.install()
     # whoever breaks it off finds what a kill leaves
     signal.signal(signal.SIGINT, signal.SIG_DFL)
-    asyncio.run(serve_and_end(options))
+    asyncio.run(work_and_end(options))

@@ -62,11 +62,8 @@ async def begin(machines: Machines, file: str) -> None:
         shutil.rmtree(os.path.dirname(machines.desk(machine)), ignore_errors=True)
         os.makedirs(os.path.dirname(machines.desk(machine)))
         shutil.copyfile(file, machines.desk(machine))
-    machines.replica_words = {1: ["--begin"]}
-    machines.start("replica", 1)
-    await well(machines, 1)
-    machines.replica_words = {}
-    for machine in MACHINES[1:]:
+    await machines.begin_log()
+    for machine in MACHINES:
         machines.start("replica", machine)
     await well(machines)
 

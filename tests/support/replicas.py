@@ -4,17 +4,18 @@ import asyncio
 import contextlib
 import os
 import random
+import re
 import shutil
 import signal
 import subprocess
 import sys
 import time
-from collections.abc import Callable, Sequence
+from collections.abc import Callable
 
-from support import DEPLOY
+from support import DEPLOY, TOP
 from support.copies import BACKUP, RESTORE
 from support.fronts import Haproxy
-from support.programs import done, new_desk
+from support.programs import done, expect, new_desk
 from support.replica_network import MACHINES, Failed, made_network, run
 from support.tables import rows_of
 
@@ -28,16 +29,26 @@ KINDS = ["etcd", "replica", "front"]
 Part = tuple[str, int]
 
 
-def make_certificates(folder: str, addresses: Sequence[str]) -> None:
-    """An authority, and of each machine a certificate of its address with its key: what members of etcd show to each other."""
-    key = "-newkey ec -pkeyopt ec_paramgen_curve:prime256v1 -nodes"
-    words = f"openssl req -x509 {key} -days 2 -subj /CN=members -keyout {folder}/ca.key -out {folder}/ca.pem"
-    run(*words.split())
-    for nr, address in enumerate(addresses, 1):
-        own = f"{folder}/m{nr}"
-        run(*f"openssl req {key} -subj /CN=m{nr} -addext subjectAltName=IP:{address} -keyout {own}.key -out {own}.csr".split())
-        sign = f"openssl x509 -req -in {own}.csr -CA {folder}/ca.pem -CAkey {folder}/ca.key -CAcreateserial -days 2"
-        run(*f"{sign} -copy_extensions copy -out {own}.pem".split())
+def told_to_operators(part: str) -> str:
+    """The one block of the operators' guide that has this part."""
+    with open(os.path.join(TOP, "docs", "REPLICAS.md"), encoding="utf-8") as file:
+        found = [block for block in re.findall(r"^```sh\n(.*?)^```$", file.read(), re.DOTALL | re.MULTILINE) if part in block]
+    expect(len(found) == 1, f"the guide has {len(found)} blocks with {part}")
+    return found[0]
+
+
+def make_certificates(folder: str, net: str) -> None:
+    """An authority, and of each machine a certificate with its key, as the guide tells."""
+    script = told_to_operators("-subj /CN=members").replace("10.0.0.", f"{net}.")
+    subprocess.run(["sh", "-ec", script], cwd=folder, check=True, capture_output=True)
+
+
+def settings_of(machine: int, net: str, folder: str) -> dict[str, str]:
+    """What the guide tells the member of etcd on a machine, with its name and addresses."""
+    lines = re.findall(r"^(ETCD_\w+)=(.*)$", told_to_operators("cat > /etc/default/etcd"), re.MULTILINE)
+    own = {name: value.replace("m1", f"m{machine}").replace("10.0.0.1", f"{net}.{machine}") for name, value in lines}
+    own["ETCD_INITIAL_CLUSTER"] = dict(lines)["ETCD_INITIAL_CLUSTER"].replace("10.0.0.", f"{net}.")
+    return {name: value.replace("/etc/etcd", folder) for name, value in own.items()}
 
 
 class Machines:
@@ -50,7 +61,6 @@ class Machines:
         self.processes: dict[Part, subprocess.Popen] = {}
         self.wanted: set[Part] = set()
         self.state, self.log, self.restart_seconds = "new", "desk/1", (0.1, 1.0)
-        self.replica_words: dict[int, list[str]] = {}
         self.replica = REPLICA
         self.ends: list[tuple[str, int]] = []
         self.fronts: dict[int, Haproxy] = {}
@@ -81,25 +91,26 @@ class Machines:
         if kind == "front":
             return self.fronts[machine].words
         if kind == "etcd":
-            return self.etcd_words(name, here, f"{self.network.etcd_address(machine)}:{ETCD_PORT}", self.folder(machine))
+            return ["etcd", "--logger", "zap", "--log-level", "error", "--snapshot-count", "5000"]
         words = ["/usr/bin/python3", self.replica, name, self.desk(machine), "--listen", f"{here}:{PORT}", "--program"]
         words += [self.program, "--etcd", f"{self.network.etcd_address(machine)}:{ETCD_PORT}", "--log", self.log]
         words += ["--pid", f"{self.folder(machine)}/pid", "--mark-lines", str(self.mark_lines)]
-        return [*words, *self.replica_words.get(machine, [])]
+        return words
 
-    def etcd_words(self, name: str, here: str, client: str, folder: str) -> list[str]:
-        members = ",".join(f"m{each}=https://{self.address(each)}:{PEER_PORT}" for each in MACHINES)
-        words = f"etcd --name {name} --data-dir {folder}/etcd --listen-peer-urls https://{here}:{PEER_PORT}"
-        words += f" --initial-advertise-peer-urls https://{here}:{PEER_PORT} --listen-client-urls http://{client}"
-        words += f" --advertise-client-urls http://{client} --initial-cluster {members} --initial-cluster-state {self.state}"
-        words += f" --peer-client-cert-auth --peer-trusted-ca-file {self.root}/ca.pem --peer-cert-file {self.root}/{name}.pem"
-        words += f" --peer-key-file {self.root}/{name}.key --pre-vote --experimental-initial-corrupt-check"
-        return f"{words} --logger zap --log-level error --snapshot-count 5000".split()
+    def environment(self, kind: str, machine: int) -> dict[str, str]:
+        if kind == "front":
+            return self.fronts[machine].environment
+        if kind == "replica":
+            return dict(os.environ)
+        found = settings_of(machine, self.network.net, self.root) | {"ETCD_DATA_DIR": f"{self.folder(machine)}/etcd"}
+        client = f"http://{self.network.etcd_address(machine)}:{ETCD_PORT}"
+        found |= {"ETCD_LISTEN_CLIENT_URLS": client, "ETCD_ADVERTISE_CLIENT_URLS": client}
+        return {**os.environ, **found, "ETCD_INITIAL_CLUSTER_STATE": self.state}
 
     # ---- up and down
 
     def make(self) -> None:
-        make_certificates(self.root, [self.address(each) for each in MACHINES])
+        make_certificates(self.root, self.network.net)
         for machine in MACHINES:
             self.make_desk(machine)
             if "front" in self.kinds:
@@ -111,7 +122,7 @@ class Machines:
                 self.start(kind, machine)
 
     def start(self, kind: str, machine: int) -> None:
-        environment = self.fronts[machine].environment if kind == "front" else None
+        environment = self.environment(kind, machine)
         with open(os.path.join(self.root, f"{kind}{machine}.log"), "ab") as log:
             words = [*self.network.inside(machine), *self.words(kind, machine)]
             process = subprocess.Popen(words, stdin=subprocess.DEVNULL, stdout=log, stderr=log, env=environment)
@@ -200,6 +211,11 @@ class Machines:
         """The revision and the machine of each mark that was told."""
         keys = self.etcdctl(machine, "get", "--prefix", f"{self.log}/marks/", "--keys-only").split()
         return [(int(key.split("/")[-2]), key.split("/")[-1]) for key in keys]
+
+    async def begin_log(self) -> None:
+        """Has the log begin with the first machine's desk."""
+        words = [*self.network.inside(1), *self.words("replica", 1), "--begin"]
+        await asyncio.to_thread(run, *words)
 
     def compact(self) -> int:
         """The log goes up to the newest mark that all machines have told; which that is, or 0."""
