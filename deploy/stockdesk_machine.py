@@ -157,12 +157,14 @@ class Machine:
         await self.desk.commands.at_most(UNANSWERED)
 
     def judged(self, asks: list[Ask], revision: int) -> list[Ask]:
-        """Those that are not late so far, as if asked for at this revision. The others are told so, but those who are gone."""
-        here = [ask for ask in asks if not ask.is_gone()]
-        for ask in here:
-            if self.past.is_late(ask.line, ask.base):
+        """Those that are waited for and not late so far, as if asked for at this revision. The others are told that they are."""
+        found = []
+        for ask in asks:
+            if ask.is_gone() or self.past.is_late(ask.line, ask.base):
                 ask.tell(LATE)
-        return [replace(ask, base=revision) for ask in here if not self.past.is_late(ask.line, ask.base)]
+            else:
+                found.append(replace(ask, base=revision))
+        return found
 
     async def try_put(self, value: bytes) -> int | None:
         clock = asyncio.get_running_loop()

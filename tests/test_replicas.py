@@ -13,7 +13,7 @@ from support.cases import ProgramCase, needs, needs_sqlite
 from support.disks import small_disk
 from support.histories import History, judged
 from support.programs import expect, note
-from support.replica_clients import ARTICLES, BRANCHES, Client, Known, Stock, Wire, wait_until_well
+from support.replica_clients import ARTICLES, BRANCHES, Client, Known, Stock, Wire, asked, wait_until_well
 from support.replica_faults import Faults
 from support.replica_network import MACHINES
 from support.replicas import FRONT_PORT, PORT, UP_SECONDS, Machines
@@ -62,7 +62,9 @@ async def lived(machines: Machines, history: History, small: str | None) -> Faul
     await faults.settle()
     for place in places:
         # behind a view each machine has carried all out
-        await Wire(place).ask("GET", "/v1/desk", "", LAST_SECONDS)
+        await asked(place, "/v1/desk", seconds=LAST_SECONDS)
+    for wire in [each for client in clients for each in client.wires]:
+        wire.close()
     keeper.cancel()
     return faults
 

@@ -2,6 +2,7 @@
 desks that are another log's or go astray; a client that knows several machines; bad messages."""
 
 import asyncio
+import json
 import os
 import shutil
 import signal
@@ -14,7 +15,7 @@ from importlib.util import find_spec
 from support import DEPLOY, TOP
 from support.cases import ProgramCase, needs, needs_sqlite
 from support.programs import done, expect, new_desk
-from support.replica_clients import Known, Wire, body_of, wait_until_well
+from support.replica_clients import Known, Wire, asked, commanded, wait_until_well
 from support.replica_network import MACHINES
 from support.replica_wrong import changed_tools
 from support.replicas import PORT, UP_SECONDS, Machines
@@ -31,11 +32,11 @@ SECONDS = 60
 
 async def told(machines: Machines, machine: int, key: str, command: str) -> tuple[int, dict]:
     """The answer of a machine, which at a mark is asked again."""
-    wire = Wire((machines.address(machine), PORT), Known())
-    while (answer := await wire.command(key, command, SECONDS)) == (503, '{"error":"late"}'):
+    known = Known()
+    place = machines.address(machine), PORT
+    while (answer := await commanded(place, key, command, known)) == (503, '{"error":"late"}'):
         pass
-    wire.close()
-    return answer[0], body_of(answer)
+    return answer[0], json.loads(answer[1])
 
 
 async def all_told(machines: Machines, asks: list[tuple[int, str, str]]) -> list[tuple[int, dict]]:
@@ -43,7 +44,7 @@ async def all_told(machines: Machines, asks: list[tuple[int, str, str]]) -> list
 
 
 async def shown(machines: Machines, machine: int, target: str) -> tuple[int, str]:
-    return await Wire((machines.address(machine), PORT)).ask("GET", target, "", SECONDS)
+    return await asked((machines.address(machine), PORT), target)
 
 
 async def well(machines: Machines, *numbers: int) -> None:
@@ -220,5 +221,6 @@ class ReplicasLife(ProgramCase):
                 wire.known = Known(known)
                 answer = await wire.command("K1", "expire 0")
                 expect(answer[0] == 200, f"{known}: {answer}")
+            wire.close()
 
         self.run_machines(live)

@@ -1,7 +1,6 @@
 """Clients of a desk on three machines: each asks, here and there, until it is answered or gives up, and notes what it is told."""
 
 import asyncio
-import json
 import random
 import ssl
 import time
@@ -222,14 +221,24 @@ async def wait_until_well(places: list[Place], seconds: float) -> None:
 
 
 async def is_well(place: Place) -> bool:
-    wire = Wire(place)
     try:
-        return (await wire.ask("GET", "/health", "", 3))[0] == 200
+        return (await asked(place, "/health", seconds=3))[0] == 200
     except NO_ANSWER:
         return False
+
+
+async def asked(place: Place, target: str, body: str = "", seconds: float = 60) -> tuple[int, str]:
+    """The answer on a connection of its own to a view, or to a message with a body."""
+    wire = Wire(place)
+    try:
+        return await wire.ask("POST" if body else "GET", target, body, seconds)
     finally:
         wire.close()
 
 
-def body_of(answer: tuple[int, str]) -> dict:
-    return json.loads(answer[1])
+async def commanded(place: Place, key: str, command: str, known: Known | None = None) -> tuple[int, str]:
+    wire = Wire(place, known)
+    try:
+        return await wire.command(key, command, 60)
+    finally:
+        wire.close()

@@ -13,7 +13,7 @@ SECONDS = 300
 LATE = "return base < self.mark or self.recent.get(key_of(line), 0) > base"
 TOLD_LATE = "tell(ENDED if self.has_ended else LATE)\n"
 SAME = "if self.rows[0] == line:"
-REST = " for ask in here if not self.past.is_late(ask.line, ask.base)]"
+REST = "if ask.is_gone() or self.past.is_late(ask.line, ask.base):"
 WALK = """        if not self.rows:
             return False
         if self.rows[0] == line:
@@ -34,7 +34,7 @@ STEPS, WALKS = ("support.replica_steps", "150"), ("support.replica_walks", "2000
 WRONG = {
     "older copies count": (STEPS, "stockdesk_walk", LATE, "return base < self.mark"),
     "older copies count behind a mark": (STEPS, "stockdesk_walk", LATE, "return self.recent.get(key_of(line), 0) > base"),
-    "what has waited is not judged": (STEPS, "stockdesk_machine", REST, " for ask in here]"),
+    "what has waited is not judged": (STEPS, "stockdesk_machine", REST, "if ask.is_gone():"),
     "what the client knows is not looked at": (STEPS, "stockdesk_machine", "min(known, self.revision)", "self.revision"),
     "views of what this desk has": (STEPS, "stockdesk_machine", "not await self.reach(await looker)", "await looker is None"),
     "views before what the desk was given": (STEPS, "stockdesk_desk", "self.commands.behind_all(", "(lambda act: act())("),

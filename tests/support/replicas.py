@@ -61,7 +61,7 @@ class Machines:
         self.processes: dict[Part, subprocess.Popen] = {}
         self.wanted: set[Part] = set()
         self.state, self.log, self.restart_seconds = "new", "desk/1", (0.1, 1.0)
-        self.replica = REPLICA
+        self.interpreter, self.replica = ["/usr/bin/python3"], REPLICA
         self.ends: list[tuple[str, int]] = []
         self.fronts: dict[int, Haproxy] = {}
 
@@ -92,7 +92,7 @@ class Machines:
             return self.fronts[machine].words
         if kind == "etcd":
             return ["etcd", "--logger", "zap", "--log-level", "error", "--snapshot-count", "5000"]
-        words = ["/usr/bin/python3", self.replica, name, self.desk(machine), "--listen", f"{here}:{PORT}", "--program"]
+        words = [*self.interpreter, self.replica, name, self.desk(machine), "--listen", f"{here}:{PORT}", "--program"]
         words += [self.program, "--etcd", f"{self.network.etcd_address(machine)}:{ETCD_PORT}", "--log", self.log]
         words += ["--pid", f"{self.folder(machine)}/pid", "--mark-lines", str(self.mark_lines)]
         return words
@@ -156,11 +156,11 @@ class Machines:
                 process.kill()
         for process in self.processes.values():
             process.wait()
+        self.network.down()
         for machine in MACHINES:
             # a desk ends with its replica, and has the lock until then
             with contextlib.suppress(FileNotFoundError):
                 run("flock", f"{self.desk(machine)}.lock", "true")
-        self.network.down()
 
     def said(self, kind: str, machine: int) -> list[str]:
         with open(os.path.join(self.root, f"{kind}{machine}.log"), encoding="utf-8", errors="replace") as log:
