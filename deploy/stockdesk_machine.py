@@ -71,15 +71,16 @@ class Machine:
     # ---- the log, carried out
 
     async def carry_out(self) -> None:
-        async for entry in self.log.follow(self.revision + 1):
+        # the mark at which it begins comes again: it may be the log's end
+        async for entry in self.log.follow(max(self.revision, 1)):
             told = read_value(entry.value)
             if isinstance(told, Lines):
                 self.carry_out_lines(entry.revision, told)
             elif isinstance(told, End):
                 await self.set_mark(entry.revision)
                 self.has_ended = True
-            # another machine may have set one meanwhile
-            elif isinstance(told, Mark) and told.base >= self.past.mark:
+            # another machine may have set one meanwhile; behind the end there is none
+            elif isinstance(told, Mark) and told.base >= self.past.mark and not self.has_ended:
                 await self.set_mark(entry.revision)
             self.revision = entry.revision
             self.moves.set()
@@ -177,6 +178,8 @@ class Machine:
 
     async def command(self, line: bytes, known: int | None, is_gone: Callable[[], bool]) -> Answer:
         """The answer to a command of a client that knows so much of the log."""
+        if self.has_ended:
+            return ENDED
         waiter: asyncio.Future[Answer] = asyncio.get_running_loop().create_future()
         base = self.revision if known is None else min(known, self.revision)
         self.waiting.append(Ask(line, base, teller(waiter), is_gone))

@@ -92,7 +92,7 @@ class Replicas(ProgramCase):
             if os.environ.get("REPLICA_KEEP"):
                 keep_logs(machines)
         wrong, counts = judged(history, tables)
-        count = sum(faults.counts.values())
+        count = faults.count()
         note(f"{count} faults in {time.monotonic() - began:.0f} s, {counts}")
         if not machines.network.can_cut:
             note("no namespaces here, so no way is cut")

@@ -15,7 +15,7 @@ from importlib.util import find_spec
 from support import DEPLOY, TOP
 from support.cases import ProgramCase, needs, needs_sqlite
 from support.programs import done, expect, new_desk
-from support.replica_clients import Known, Wire, asked, commanded, wait_until_well
+from support.replica_clients import NO_ANSWER, Known, Wire, asked, commanded, wait_until_well
 from support.replica_network import MACHINES
 from support.replica_wrong import changed_tools
 from support.replicas import PORT, UP_SECONDS, Machines
@@ -49,6 +49,14 @@ async def shown(machines: Machines, machine: int, target: str) -> tuple[int, str
 
 async def well(machines: Machines, *numbers: int) -> None:
     await wait_until_well([(machines.address(each), PORT) for each in numbers or MACHINES], UP_SECONDS)
+
+
+async def answer_of_any(machines: Machines, machine: int) -> tuple[int, str] | None:
+    """What a machine answers to a command, or None where it is not there."""
+    try:
+        return await commanded((machines.address(machine), PORT), "E4", "deliver N1 A-1 1")
+    except NO_ANSWER:
+        return None
 
 
 async def ended(machines: Machines, kind: str, machine: int) -> tuple[int | None, str]:
@@ -146,6 +154,12 @@ class ReplicasLife(ProgramCase):
         ]
         expect(answers == [ENDED] * 3, f"{answers}")
         await machines.try_until(lambda: machines.compact() > 0 and len(machines.marks(1)) >= 4)
+        # one that starts behind the end knows it, too
+        await machines.stop("replica", 2)
+        machines.start("replica", 2)
+        while (answer := await answer_of_any(machines, 2)) is None:
+            await asyncio.sleep(0.1)
+        expect(answer == ENDED, f"{answer}")
         await expect_refused_desk(machines, lambda: machines.make_desk(3), "start from a newer copy")
         for machine in MACHINES:
             await machines.stop("replica", machine)

@@ -134,6 +134,10 @@ class Faults:
 
     # ---- all of it
 
+    def count(self) -> int:
+        """How many faults there were, without copies and compactions."""
+        return sum(count for kind, count in self.counts.items() if not kind.startswith(("copy", "compaction")))
+
     def planned(self) -> list[Fault]:
         """The faults, in any order, but that the log is compacted behind the machine that needs all of it."""
         early = [*self.kills(), *self.pauses(), *[self.back_up] * 3, *([self.fill_disk] * 2 if self.small_disk else [])]
@@ -143,20 +147,20 @@ class Faults:
         return [*early[:half], partial(self.wipe, False), self.compact, partial(self.wipe, True), *early[half:]]
 
     def kills(self) -> list[Fault]:
-        found: list[Fault] = [partial(self.kill, part, who) for part in PARTS for who in ["any", "any", "any", "leader"]]
+        found: list[Fault] = [partial(self.kill, part, who) for part in PARTS for who in ["any", "any", "any", "any", "leader"]]
         found += [partial(self.kill, "etcd", "follower"), partial(self.kill_machine, "leader"), *[self.kill_machine] * 2]
         found += [partial(self.kill_on_all, [part]) for part in PARTS]
         return [*found, partial(self.kill_on_all, ["etcd", "replica", "front"])]
 
     def pauses(self) -> list[Fault]:
-        found: list[Fault] = [partial(self.pause, part) for part in PARTS for _ in range(2)]
+        found: list[Fault] = [partial(self.pause, part) for part in PARTS for _ in range(3)]
         return [*found, *[partial(self.pause, part, "leader") for part in ["etcd", "replica", "desk"]]]
 
     def cuts(self) -> list[Fault]:
         both = ["in", "out"]
         kinds = [("peers", both), ("all", both), ("peers", ["in"]), ("peers", ["out"]), ("pair", both)]
         found: list[Fault] = [partial(self.cut, kind, who, ways) for who in ["leader", "follower"] for kind, ways in kinds]
-        found += [partial(self.cut, kind, "any", both) for kind in ["peers", "all", "pair"]]
+        found += [partial(self.cut, kind, "any", both) for kind in ["peers", "all", "pair"] for _ in range(2)]
         return [*found, *[partial(self.cut, "all", who, both, 40) for who in ["leader", "follower", "any"]]]
 
     async def live(self) -> None:
