@@ -39,7 +39,9 @@ def told_to_operators(part: str) -> str:
 
 def make_certificates(folder: str, net: str) -> None:
     """An authority, and of each machine a certificate with its key, as the guide tells."""
-    script = told_to_operators("-subj /CN=members").replace("10.0.0.", f"{net}.")
+    # on the loopback a member comes from another address than its own
+    names = "subjectAltName=IP:127.0.0.1,IP:" if net.startswith("127.") else "subjectAltName=IP:"
+    script = told_to_operators("-subj /CN=members").replace("10.0.0.", f"{net}.").replace("subjectAltName=IP:", names)
     subprocess.run(["sh", "-ec", script], cwd=folder, check=True, capture_output=True)
 
 
