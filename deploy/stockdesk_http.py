@@ -15,6 +15,9 @@ from stockdesk_machine import LATE, Machine
 KEY, COMMAND, TARGET = re.compile("[A-Za-z0-9-]{1,36}"), re.compile("[A-Za-z0-9 -]{1,4096}"), re.compile("/v1/[A-Za-z0-9/-]+")
 REVISION = re.compile("0|[1-9][0-9]{0,18}")
 
+# the front keeps its connections for an hour, and none may end just when it sends
+KEPT_SECONDS = 7_200
+
 BAD_COMMAND = Answer(400, "application/json", b'{"code":20,"line":0,"refused":"BadCommand"}')
 NONE = Answer(404, "application/json", b'{"error":"none"}')
 
@@ -69,6 +72,6 @@ def is_gone(request: web.BaseRequest) -> Callable[[], bool]:
 async def listen(address: str, machine: Machine) -> None:
     """Serves the machine at ADDRESS:PORT."""
     host, _, port = address.rpartition(":")
-    runner = web.ServerRunner(web.Server(Http(machine).answer))
+    runner = web.ServerRunner(web.Server(Http(machine).answer, keepalive_timeout=KEPT_SECONDS))
     await runner.setup()
     await web.TCPSite(runner, host, int(port), reuse_address=True).start()
