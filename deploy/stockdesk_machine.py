@@ -135,9 +135,9 @@ class Machine:
     # ---- the log, added to
 
     async def add(self) -> None:
-        """Has etcd keep what has come meanwhile, one entry after the other: with several under way at once, each is smaller, and
-        the desk syncs more often. One that etcd may have kept is tried again as it is:
-        where it was kept, the lines of the second are late."""
+        """Has etcd keep what has come meanwhile, one entry after the other: were several under way, each would be smaller, and the
+        desk would sync more often. One that etcd may have kept is tried again as it is: where it was kept, the lines of the
+        second are late."""
         for number in itertools.count():
             await self.comes.wait()
             if self.lines > self.mark_lines:
