@@ -3,6 +3,8 @@ entry is a head line and, behind `lines`, the commands, each a line KEY COMMAND:
 
     lines RUN NUMBER BASE    RUN and NUMBER name the entry; BASE is the revision that its machine had come to, up to which none of
                              the lines was late
+    begin PLACES DIGEST      the first entry of a log that begins with a desk that is not empty: the desk has so many places, and
+                             what is kept at them has that digest
     mark BASE                nothing behind it that was asked for before it counts; BASE is the mark before
     end                      nothing behind it counts: the desk is rolled over, or its program changed
 
@@ -27,7 +29,7 @@ OPTIONS = [
     ("grpc.max_reconnect_backoff_ms", 500),
 ]
 
-HEAD = re.compile(rb"lines ([0-9a-f]+) ([0-9]+) ([0-9]+)|mark ([0-9]+)|(end)")
+HEAD = re.compile(rb"lines ([0-9a-f]+) ([0-9]+) ([0-9]+)|mark ([0-9]+)|begin ([0-9]+) ([0-9a-f]*)|(end)")
 
 
 class Entry(NamedTuple):
@@ -48,6 +50,11 @@ class Mark(NamedTuple):
     base: int
 
 
+class Begin(NamedTuple):
+    places: int
+    digest: str
+
+
 class End(NamedTuple):
     pass
 
@@ -65,7 +72,7 @@ def value_of(run: bytes, number: int, base: int, lines: Sequence[bytes]) -> byte
     return b"\n".join([b"lines %s %d %d" % (run, number, base), *lines])
 
 
-def read_value(value: bytes) -> Lines | Mark | End | None:
+def read_value(value: bytes) -> Lines | Mark | Begin | End | None:
     """What a value says, or None where it is no entry."""
     first, *lines = value.split(b"\n")
     head = HEAD.fullmatch(first)
@@ -73,6 +80,8 @@ def read_value(value: bytes) -> Lines | Mark | End | None:
         return None
     if head[1]:
         return Lines(head[1], int(head[2]), int(head[3]), lines)
+    if head[5]:
+        return Begin(int(head[5]), head[6].decode())
     return Mark(int(head[4])) if head[4] else End()
 
 
@@ -108,6 +117,13 @@ class Log:
         """The revision of the last entry of all, as a majority knows it; None where there is no majority."""
         found = await self.try_call(self.store.Range, rpc_pb2.RangeRequest(key=self.name + b"/log", keys_only=True))
         return max((int(pair.mod_revision) for pair in found.kvs), default=0) if found else None
+
+    async def first(self) -> int:
+        """The revision of the first entry, or one before which none is where there is none yet. It is asked for until there is an
+        answer."""
+        while not (found := await self.try_call(self.store.Range, rpc_pb2.RangeRequest(key=self.name + b"/log", keys_only=True))):
+            pass
+        return int(found.kvs[0].create_revision if found.kvs else found.header.revision + 1)
 
     async def marks(self) -> list[ToldMark]:
         """What machines have told at marks. It is asked for until there is an answer."""

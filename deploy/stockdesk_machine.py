@@ -11,7 +11,7 @@ from collections.abc import Callable
 from dataclasses import dataclass, replace
 
 from stockdesk_desk import Answer, Desk, Tell, command_message
-from stockdesk_log import End, Lines, Log, Mark, ToldMark, read_value, value_of
+from stockdesk_log import Begin, End, Lines, Log, Mark, ToldMark, read_value, value_of
 from stockdesk_tools import Fault, say
 from stockdesk_walk import Past, Walk
 
@@ -54,7 +54,7 @@ class Machine:
         self.past = Past()
         self.run = uuid.uuid4().hex[:8].encode()
         # how many lines stand behind the last mark
-        self.revision, self.lines, self.has_ended = 0, 0, False
+        self.revision, self.first, self.lines, self.has_ended = 0, 0, 0, False
         self.waiting: list[Ask] = []
         self.mine: dict[int, list[Ask]] = {}
         self.comes, self.moves, self.wants = asyncio.Event(), asyncio.Event(), asyncio.Event()
@@ -64,22 +64,26 @@ class Machine:
     # ---- the place to go on from
 
     async def find_mark(self) -> None:
-        """Begins at the newest mark at which a desk stood that had the first of this one's rows and no others."""
+        """Begins at the newest mark at which a desk stood that had the first of this one's rows and no others, else where the log
+        does."""
         self.revision = self.walk.go_to_mark(await self.log.marks())
+        self.first = self.revision or await self.log.first()
         self.past.set_mark(self.revision)
 
     # ---- the log, carried out
 
     async def carry_out(self) -> None:
-        # the mark at which it begins comes again: it may be the log's end
-        async for entry in self.log.follow(max(self.revision, 1)):
+        # the mark at which it begins comes again, since it may be the end; another machine may have set one meanwhile
+        async for entry in self.log.follow(self.first):
             told = read_value(entry.value)
             if isinstance(told, Lines):
                 self.carry_out_lines(entry.revision, told)
             elif isinstance(told, End):
                 await self.set_mark(entry.revision)
                 self.has_ended = True
-            # another machine may have set one meanwhile; behind the end there is none
+            elif isinstance(told, Begin) and self.revision == 0:
+                self.walk.begin(told.places, told.digest)
+                await self.set_mark(entry.revision)
             elif isinstance(told, Mark) and told.base >= self.past.mark and not self.has_ended:
                 await self.set_mark(entry.revision)
             self.revision = entry.revision
@@ -135,9 +139,9 @@ class Machine:
     # ---- the log, added to
 
     async def add(self) -> None:
-        """Has etcd keep what has come meanwhile, one entry after the other: were several under way, each would be smaller, and the
-        desk would sync more often. One that etcd may have kept is tried again as it is: where it was kept, the lines of the
-        second are late."""
+        """Has etcd keep what has come meanwhile, one entry after the other: were several under way, each would be smaller, and
+        the desk would sync more often. One that etcd may have kept is tried again as it is: where it was kept, the lines of
+        the second are late."""
         for number in itertools.count():
             await self.comes.wait()
             if self.lines > self.mark_lines:

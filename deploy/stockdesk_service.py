@@ -13,7 +13,7 @@ import stockdesk_http
 import stockdesk_tools as tools
 import stockdesk_walk
 import uvloop
-from stockdesk_log import Log, ToldMark
+from stockdesk_log import Log
 from stockdesk_machine import Machine
 from stockdesk_tools import Fault
 from stockdesk_walk import Walk
@@ -56,9 +56,8 @@ async def begin(options: argparse.Namespace) -> None:
         stockdesk_walk.copy_desk(path, copy)
         digests = stockdesk_walk.digests_of(stockdesk_walk.kept_lines(copy))
     log = Log(options.etcd, options.log)
-    if await log.head() != 0 or not (revision := await log.put(b"mark 0")):
+    if await log.head() != 0 or not await log.put(f"begin {len(digests) - 1} {digests[-1].hex()}".encode()):
         raise Fault("the log has begun, or cannot be reached")
-    await log.tell_mark(ToldMark(revision, options.machine, len(digests) - 1, digests[-1].hex()))
     tools.say(f"the log {options.log} begins with {len(digests) - 1} places")
 
 

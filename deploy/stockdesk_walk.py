@@ -46,6 +46,11 @@ def digests_of(rows: Iterable[bytes]) -> list[bytes]:
     return list(itertools.accumulate(rows, link, initial=b""))
 
 
+def has_place(digests: list[bytes], place: int, digest: str) -> bool:
+    """Whether of the rows of these digests the first ones, so many, have this one."""
+    return place < len(digests) and digests[place].hex() == digest
+
+
 class Walk:
     """A desk's way along the log: how many places the ledger has behind what was passed over or answered, their digest, and the
     rows that the log has not come to yet."""
@@ -56,13 +61,24 @@ class Walk:
 
     def go_to_mark(self, marks: Iterable[ToldMark]) -> int:
         """Goes to the newest mark at which a desk had the first of these rows and no others, and returns its revision, or 0."""
-        digests, found = digests_of(self.rows), 0
-        for mark in sorted(marks):
-            if mark.place < len(digests) and digests[mark.place].hex() == mark.digest:
-                found, self.place, self.digest = mark.revision, mark.place, digests[mark.place]
-        for _ in range(self.place):
+        digests = digests_of(self.rows)
+        fitting = [mark for mark in sorted(marks) if has_place(digests, mark.place, mark.digest)]
+        if not fitting:
+            return 0
+        self.go_to(fitting[-1].place, digests)
+        return fitting[-1].revision
+
+    def begin(self, places: int, digest: str) -> None:
+        """Goes to where the log began. Fault: the desk is none that it began with."""
+        digests = digests_of(self.rows)
+        if not has_place(digests, places, digest):
+            raise Fault(f"the log begins with {places} places that the desk has not: start from a copy of another machine's")
+        self.go_to(places, digests)
+
+    def go_to(self, place: int, digests: list[bytes]) -> None:
+        self.place, self.digest = place, digests[place]
+        for _ in range(place):
             self.rows.popleft()
-        return found
 
     def passes_over(self, line: bytes) -> bool:
         """Whether the desk has carried a line out: so it has as long as rows are left, of which each was the first such line

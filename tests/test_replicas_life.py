@@ -128,6 +128,8 @@ class ReplicasLife(ProgramCase):
             expect([body.get("place") for _, body in answers] == [3, 5, None], f"{answers}")
             expect((await shown(machines, 2, "/v1/keys/D"))[1] == '{"command":"deliver N1 A-1 5","place":5}', "not kept so")
             await expect_refused_desk(machines, lambda: self.put_other(machines, OLD + "Y deliver N1 A-1 6\n"), "another log's")
+            # one that has nothing is none with which the log began
+            await expect_refused_desk(machines, lambda: machines.make_desk(3), "begins with 4 places")
             await well(machines)
             await self.end(machines)
             new = os.path.join(self.folder, "new.db")

@@ -234,6 +234,7 @@ async def asked(place: Place, target: str, body: str = "", seconds: float = 60) 
         return await wire.ask("POST" if body else "GET", target, body, seconds)
     finally:
         wire.close()
+        await asyncio.sleep(0)
 
 
 async def commanded(place: Place, key: str, command: str, known: Known | None = None) -> tuple[int, str]:
@@ -242,3 +243,4 @@ async def commanded(place: Place, key: str, command: str, known: Known | None = 
         return await wire.command(key, command, 60)
     finally:
         wire.close()
+        await asyncio.sleep(0)

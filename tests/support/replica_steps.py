@@ -90,6 +90,9 @@ class ModelLog(Log):
         await self.chance.turns(3)
         return revision if self.chance.random() > 0.05 else None
 
+    async def first(self) -> int:
+        return 1
+
     async def marks(self) -> list[ToldMark]:
         await self.chance.turns(3)
         return list(self.kept.marks)

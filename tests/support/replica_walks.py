@@ -41,6 +41,9 @@ class WrittenLog(Log):
             if entry.revision >= first:
                 yield entry
 
+    async def first(self) -> int:
+        return 1
+
     async def marks(self) -> list[ToldMark]:
         return list(self.told)
 
