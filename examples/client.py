@@ -49,8 +49,9 @@ class Desk:
             status, body = self.ask_once(key, command)
             if status not in AGAIN:
                 return status, body
-            self.addresses.append(self.addresses.pop(0))
-            time.sleep(0.5)
+            if "late" not in body:
+                self.addresses.append(self.addresses.pop(0))
+                time.sleep(0.5)
         sys.exit(f"{key} has no answer: call again")
 
 
