@@ -196,21 +196,22 @@ class Deal:
         first, *others = self.sides
         early = [self.seen(side) for side in others]
         first.order = self.seen(first)
+        self.expect_ours(first)
         for side, before in zip(others, early):
             side.order = self.seen(side) if first.order else before
             if why := fault_of(before, first.order, side.order):
                 raise self.foreign(side, why)
-        self.expect_ours()
+            self.expect_ours(side)
 
-    def expect_ours(self) -> None:
-        """Foreign: an order of this number is another deal's."""
-        for side in self.sides:
-            if side.order and not side.is_ours:
-                key = self.key_of(side)
-                is_other = side.lines is not None and side.lines != side.order.lines
-                if is_other or (key and not side.desk.has_kept(key)):
-                    raise self.foreign(side, "is another deal's")
-                side.is_ours = True
+    def expect_ours(self, side: Side) -> None:
+        """Foreign: its order of this number is another deal's."""
+        if side.order is None or side.is_ours:
+            return
+        key = self.key_of(side)
+        is_other = side.lines is not None and side.lines != side.order.lines
+        if is_other or (key and not side.desk.has_kept(key)):
+            raise self.foreign(side, "is another deal's")
+        side.is_ours = True
 
     def key_of(self, side: Side) -> str | None:
         """The key under which its order is opened; none at the first desk, where it is not known what the deal is to do."""
@@ -302,7 +303,7 @@ class Deal:
 
 
 def found_deal(number: int, desks: Sequence[Desk]) -> Deal | None:
-    """The deal that some of these desks have orders of, or None where none has. Foreign: none of them is its first, or two are."""
+    """The deal that some of these desks have orders of, or None where none has. Foreign: none of them is its first, or two."""
     sides: list[Side] = []
     # again where the first was not there yet when it was asked
     for _ in range(2):
