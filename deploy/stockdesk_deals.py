@@ -277,6 +277,8 @@ class Deal:
             refusal = self.send(step)
             if refusal is None:
                 self.note(step)
+                if step == Step(0, "abort"):
+                    why = why or "it was given up, since not all desks were ready"
                 continue
             if refusal["refused"] not in LOOK_AGAIN:
                 why = why or self.told(step, refusal)
@@ -298,7 +300,7 @@ class Deal:
         if first is None:
             return End("not moved", "no desk has begun it")
         if first.state == ABORTED:
-            return End("not moved", why or "it was given up, or its moment has come")
+            return End("not moved", why or "somebody gave it up, or its moment has come")
         return End("moved" if first.state == COMMITTED else "held")
 
 

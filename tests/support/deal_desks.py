@@ -2,12 +2,17 @@
 
 import json
 from collections.abc import Iterable, Sequence
+from random import Random
 from typing import Any
 
 from support.messages import answer_to
 from support.rules import ABORTED, COMMITTED, FIRM, OPEN, Effect, Order, Rules, refuse
 
+# a deal, the moment until which its first desk may wait for it, and the upper bound of its fields
 NUMBER = 900_000_001
+MOMENT = 500
+ROOM = 100
+
 PLACES = 200_000
 NONE = 404, {"error": "none"}
 SHOWN_AT_ONCE = 50
@@ -106,3 +111,24 @@ def bounds_fault(desks: Iterable[Rules]) -> str | None:
             if not field.lo <= inf <= value <= sup <= field.hi:
                 return f"{name}: {field} {inf} {value} {sup}"
     return None
+
+
+def words_of(number: int, article: int) -> str:
+    """A desk's field."""
+    return f"N{number} A-{article}"
+
+
+def others_command(chance: Random, number: int, expires: bool) -> str:
+    """A command of somebody else on the fields that a deal has at a desk, or an expiry, but of the moment that nobody sends."""
+    words, order = words_of(number, chance.choice([1, 1, 2])), chance.randint(1, 4)
+    moves = [f"{verb} {words} {chance.randint(1, 9)}" for verb in ("deliver", "writeoff")]
+    opens = [f"open {order} 3999999999 {way} {words} {chance.randint(1, 4)}" for way in ("take", "add")]
+    ends = [f"use {order} {words} 1", f"commit {order}", f"abort {order}", f"firm {order}"]
+    expiries = [f"expire {chance.choice([MOMENT - 1, MOMENT, 3_999_999_999])}"]
+    return chance.choice(moves + opens + ends + expiries * expires)
+
+
+def fill(desk: Any, words: str, chance: Random) -> None:
+    """Takes all places of a desk that are not set aside."""
+    while desk.does(f"L{chance.getrandbits(60)}", f"rebound {words} 0 {ROOM}")[0] == 200:
+        pass

@@ -11,15 +11,26 @@ from dataclasses import dataclass, field
 from types import ModuleType
 from typing import Any
 
-from support.deal_desks import NUMBER, Places, Told, bounds_fault, fault, is_moved
+from support.deal_desks import (
+    MOMENT,
+    NUMBER,
+    PLACES,
+    ROOM,
+    Places,
+    Told,
+    bounds_fault,
+    fault,
+    fill,
+    is_moved,
+    others_command,
+    words_of,
+)
 from support.programs import expect
 from support.rules import ABORTED, COMMITTED
 
 import stockdesk_deals
 from stockdesk_remote import Desk
 
-MOMENT = 500
-ROOM = 100
 # a run that goes on for so many messages has no end
 MOST_MESSAGES = 3_000
 SECONDS = 60
@@ -111,10 +122,10 @@ class Run:
 
     def desk(self, number: int) -> Places:
         """With room for the deal, or nearly so, and with places, or few of them."""
-        desk = Places(places=self.chance.choice([200_000] * 3 + [self.chance.randint(4, 12)]))
+        desk = Places(places=self.chance.choice([PLACES] * 3 + [self.chance.randint(4, 12)]))
         for article in (1, 2):
             start = self.chance.choice([4, 8, 40, 40, 40, 92, 96])
-            expect(desk.does(f"F{article}", f"field N{number} A-{article} 0 {ROOM} {start}")[0] == 200, "no field")
+            expect(desk.does(f"F{article}", f"field {words_of(number, article)} 0 {ROOM} {start}")[0] == 200, "no field")
         return desk
 
     # ---- who is at work
@@ -132,22 +143,12 @@ class Run:
         return deal.carry() if deal else None
 
     def others(self) -> None:
-        """Somebody else's command on the deal's fields, an expiry, or all places taken."""
+        """Somebody else's command, or all places of a desk that has few."""
         number = self.chance.randrange(len(self.desks))
-        desk, words = self.desks[number], f"N{number} A-{self.chance.choice([1, 1, 2])}"
-        order = self.chance.randint(1, 4)
-        key = f"K{self.chance.getrandbits(60)}"
-        expiry = self.chance.choice([MOMENT - 1, MOMENT, stockdesk_deals.LATEST])
-        command = self.chance.choice(
-            [f"{verb} {words} {self.chance.randint(1, 9)}" for verb in ("deliver", "writeoff")]
-            + [f"open {order} 3999999999 {way} {words} {self.chance.randint(1, 4)}" for way in ("take", "add")]
-            + [f"use {order} {words} 1", f"commit {order}", f"abort {order}", f"firm {order}"]
-            + [f"expire {expiry}"] * (self.chance.random() < 0.3)
-        )
-        desk.does(key, command)
-        if self.chance.random() < 0.02 and desk.places < 100:
-            while desk.does(f"L{self.chance.getrandbits(60)}", f"rebound {words} 0 {ROOM}")[0] == 200:
-                pass
+        desk = self.desks[number]
+        desk.does(f"K{self.chance.getrandbits(60)}", others_command(self.chance, number, self.chance.random() < 0.3))
+        if self.chance.random() < 0.02 and desk.places < PLACES:
+            fill(desk, words_of(number, 1), self.chance)
 
     # ---- what becomes of messages
 
