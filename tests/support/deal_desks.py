@@ -58,6 +58,10 @@ class Places(Rules):
         if view == "keys":
             place, words = self.kept.get(names[0], (0, ""))
             return (200, {"command": words, "place": place}) if place else NONE
+        if view == "desk":
+            open_now = sum(order.state in (OPEN, FIRM) for order in self.orders.values())
+            counts = {"fields": len(self.fields), "open": open_now, "orders": len(self.orders), "places": len(self.kept)}
+            return 200, {"clock": self.clock, **counts}
         if view == "open":
             return 200, {"orders": self.open_above(int(names[0]))}
         return answer_to(self.reply(" ".join(["?", view.removesuffix("s"), *names])))
