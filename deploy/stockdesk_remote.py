@@ -15,7 +15,7 @@ from typing import Any
 AGAIN = {408, 429, 500, 502, 503, 504}
 
 # statuses of a front that does not let the caller through
-REFUSED = {401: "knows no such user and password", 403: "does not let this user do that"}
+REFUSED = {401: "knows no such user and password", 403: "does not let this user do what deals need"}
 
 # the seconds that an answer may take, and between two askings
 ANSWER_SECONDS = 20
@@ -103,6 +103,9 @@ class HttpDesk(Desk):
         else:
             self.connection = http.client.HTTPConnection(parts.netloc, timeout=ANSWER_SECONDS)
 
+    def close(self) -> None:
+        self.connection.close()
+
     def ask_once(self, method: str, target: str, body: str | None) -> tuple[int, Told]:
         try:
             self.connection.request(method, self.prefix + target, body, self.headers)
@@ -115,6 +118,8 @@ class HttpDesk(Desk):
             raise Unanswered(str(fault) or type(fault).__name__) from fault
         if answer.status in AGAIN:
             raise Unanswered(f"status {answer.status}")
+        if answer.status in REFUSED:
+            raise NotServed(f"{self.name} {REFUSED[answer.status]} (status {answer.status})")
         try:
             told = json.loads(text)
         except ValueError:

@@ -130,7 +130,7 @@ class Package(ProgramCase):
             told = run([self.program, command, "--help"])
             first = (told.stdout + told.stderr).splitlines()[0]
             expect(first in page, f"nothing is said of {command}: {first}")
-        for tool in ["backup", "restore", "rollover"]:
+        for tool in ["backup", "between", "restore", "rollover"]:
             expect(f"usage: stockdesk-{tool}" in page, f"nothing is said of {tool}")
             expect(os.path.exists(os.path.join(self.folder, f"usr/share/man/man1/stockdesk-{tool}.1.gz")), f"no page of {tool}")
         for line in ["not a desk", "old version", "damaged", "store", "memory", "io", "usage", "record N", "csv"]:
