@@ -22,6 +22,7 @@ ROLLOVER = os.path.join(DEPLOY, "stockdesk-rollover")
 UNITS = sorted(glob.glob(os.path.join(DEPLOY, "*.service")) + glob.glob(os.path.join(DEPLOY, "*.timer")))
 # a unit of a service, and below what its exposure is
 EXPOSED = {"stockdesk@.service": 2.0, "stockdesk-backup@.service": 2.5, "stockdesk-check@.service": 2.5}
+EXPOSED["stockdesk-between.service"] = 2.5
 SHARED = [
     "User=stockdesk",
     "CapabilityBoundingSet=",
