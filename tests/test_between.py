@@ -1,5 +1,6 @@
 """Tests of `stockdesk-between` before the built program: deals between two and three desks, at each of whose messages carriers
-and desks are killed. BETWEEN_RUNS in the environment says how many runs there are by chance, beside those by rule."""
+and desks are killed. BETWEEN_RUNS in the environment says how many runs there are by chance, beside those by rule, BETWEEN_SEED
+which: `BETWEEN_RUNS=5000 ./check tests between.Deals.test_by_chance` has 5,000."""
 
 import os
 from collections.abc import Iterable

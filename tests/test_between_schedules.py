@@ -4,6 +4,7 @@ others at work. Carriers that are wrong in one thing are found out so. BETWEEN_S
 import os
 import unittest
 from collections.abc import Callable
+from dataclasses import astuple
 from types import ModuleType
 
 from support.deal_desks import NUMBER, Places, is_moved
@@ -12,12 +13,13 @@ from support.programs import expect, note
 from support.wrong_carriers import WRONG, edited
 
 import stockdesk_deals as deals
-from stockdesk_deals import Deal, Foreign, Line, Side
+from stockdesk_deals import Foreign, Line
 
 RUNS = 300
-# within so many runs each wrong carrier is found out, but for the one that only rare turns find out
+# within so many runs each wrong carrier is found out, but for one that rare turns find out, and one that another deal does
 MOST = 3_000
 RARE = "aborts at another desk before the first's is aborted"
+MIXED = "takes another deal's order for its own"
 
 
 def until(run: Run, carrier: Carrier, fact: Callable[[Message], bool]) -> None:
@@ -68,10 +70,11 @@ class Direct(Wire):
         return self.desk.answers(method, target, body)
 
 
-def begun(desks: list[Places], *sides: tuple[int, Line], holds: bool = False) -> deals.End:
+def begun(desks: list[Places], *sides: tuple[int, Line], holds: bool = False, module: ModuleType = deals) -> deals.End:
     """A deal of that number at some of the desks, carried as far as it goes."""
-    there = [Side(Direct(f"desk {number}", desks[number]), (line,)) for number, line in sides]
-    return Deal(NUMBER, there, 500 if holds else deals.LATEST, holds).carry()
+    lines = [(module.Line(*astuple(line)),) for _, line in sides]
+    there = [module.Side(Direct(f"desk {number}", desks[number]), each) for (number, _), each in zip(sides, lines)]
+    return module.Deal(NUMBER, there, 500 if holds else deals.LATEST, holds).carry()
 
 
 def three_desks() -> list[Places]:
@@ -93,7 +96,7 @@ class Schedules(unittest.TestCase):
     def test_wrong_carriers_are_found_out(self):
         """Each within some runs, by what it moves, or since it takes what others do for another hand's."""
         for name in WRONG:
-            if name == RARE:
+            if name in (RARE, MIXED):
                 continue
             module, counts = edited(name), Counts()
             with self.assertRaises(AssertionError, msg=name):
@@ -120,6 +123,15 @@ class Numbers(unittest.TestCase):
             with self.assertRaisesRegex(Foreign, "another deal's"):
                 begun(desks, take, (2, Line("add", "N2", "A-1", 7)))
             expect(NUMBER not in desks[2].orders, "opened at the third desk")
+
+    def test_who_takes_another_deals_order_for_its_own_doubles_goods(self):
+        desks, module = three_desks(), edited(MIXED)
+        take, adds = (0, Line("take", "N0", "A-1", 7)), [(number, Line("add", f"N{number}", "A-1", 7)) for number in (1, 2)]
+        begun(desks, take, adds[0], holds=True, module=module)
+        begun(desks, take, adds[1], holds=True, module=module)
+        for add in adds:
+            begun(desks, take, add, module=module)
+        expect([desk.numbers((f"N{number}", "A-1"))[0] for number, desk in enumerate(desks)] == [33, 47, 47], "not doubled")
 
     def test_a_number_that_another_deal_has_at_one_desk_is_left_alone(self):
         """Of deals with other first desks each finds the other's order at the desk that they share."""

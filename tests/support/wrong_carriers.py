@@ -1,6 +1,7 @@
 """Carriers of deals that are wrong, each in one thing: edits of the carrier's module."""
 
 import os
+import sys
 import types
 
 from support import DEPLOY
@@ -52,6 +53,7 @@ WRONG: dict[str, list[tuple[str, str]]] = {
     "sees the others only behind the first desk": [
         (FIRST_LOOK, "        first.order = self.seen(first)\n        early = [self.seen(side) for side in others]\n"),
     ],
+    "takes another deal's order for its own": [("if is_other or (key and not side.desk.has_kept(key)):", "if is_other:")],
     "leaves the orders of a deal that is given up": [
         ("left = [side for side, order in enumerate(orders) if order and order.state == OPEN]", "left = []"),
     ],
@@ -67,8 +69,6 @@ def edited(name: str) -> types.ModuleType:
         text = text.replace(old, new)
     module = types.ModuleType(f"wrong_{list(WRONG).index(name)}")
     # dataclasses look their module up
-    import sys
-
     sys.modules[module.__name__] = module
     exec(compile(text, SOURCE, "exec"), module.__dict__)
     return module
