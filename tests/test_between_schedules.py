@@ -129,6 +129,9 @@ class Numbers(unittest.TestCase):
         take, adds = (0, Line("take", "N0", "A-1", 7)), [(number, Line("add", f"N{number}", "A-1", 7)) for number in (1, 2)]
         begun(desks, take, adds[0], holds=True, module=module)
         begun(desks, take, adds[1], holds=True, module=module)
+        for number in (1, 2):
+            # as each carrier has done before the other decides
+            expect(desks[number].does("U", f"use {NUMBER} N{number} A-1 7")[0] == 200, "not used")
         for add in adds:
             begun(desks, take, add, module=module)
         expect([desk.numbers((f"N{number}", "A-1"))[0] for number, desk in enumerate(desks)] == [33, 47, 47], "not doubled")
