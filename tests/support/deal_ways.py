@@ -27,6 +27,7 @@ class Templates:
     def __init__(self, program: str, folder: str):
         self.program, self.folder = program, folder
         self.made: dict[int | None, str] = {}
+        self.desks: Desks | None = None
 
     def made_for(self, left: int | None) -> str:
         """The path of one with so many places left, or with all."""
@@ -39,9 +40,9 @@ class Templates:
         if left is None:
             done(self.program, ["init", self.made[left]])
             return
-        desks, taken = Desks(self.program, self.folder), PLACES - left
-        desks.put([f"desk,1,2,0,{taken}", *(f"kept,R{number},{number},expire 0" for number in range(1, taken + 1))])
-        os.rename(desks.path, self.made[left])
+        self.desks, taken = self.desks or Desks(self.program, self.folder), PLACES - left
+        self.desks.put([f"desk,1,2,0,{taken}", *(f"kept,R{number},{number},expire 0" for number in range(1, taken + 1))])
+        os.rename(self.desks.path, self.made[left])
 
 
 class Served:
