@@ -1,7 +1,6 @@
 """Tests of how `stockdesk-between` is called, before the built program: words, each way that a deal ends, what is taken up, and
 through the front."""
 
-import contextlib
 import json
 import os
 import random
@@ -9,13 +8,12 @@ import subprocess
 import sys
 import time
 import unittest
-from collections.abc import Iterator
 
 from support.cases import ProgramCase
 from support.deal_runs import CARRIER, KILLED
-from support.fronts import TOGETHER, Front, FrontCase
-from support.programs import SECONDS, done, expect, new_desk, note
-from support.service import Service, ask, post
+from support.deal_chains import Chain, chain
+from support.fronts import Front, FrontCase
+from support.programs import SECONDS, expect, note
 
 from stockdesk_deals import LATEST, Deal, Line, Side
 from stockdesk_remote import HttpDesk
@@ -24,7 +22,7 @@ NUMBER = 900_000_001
 NEVER = 4_000_000_000
 # with more than twice as many as a view shows at once
 LEFT = 120
-TRANSFERS = 12
+TRANSFERS = 16
 URLS = ["http://127.0.0.1:1", "http://127.0.0.1:2"]
 MOVE = ["--move", "A-1", "7", "N0", "N1"]
 
@@ -92,60 +90,6 @@ def called(*words: str, environment: dict[str, str] | None = None) -> tuple[int,
         [sys.executable, CARRIER, *words], capture_output=True, text=True, timeout=4 * SECONDS, env=environment
     )
     return ended.returncode, ended.stdout + ended.stderr
-
-
-class Chain:
-    """Desks that are served: each with two articles at one branch; the clock is at 10."""
-
-    def __init__(self, program: str, folder: str, count: int, start: int, room: int):
-        self.program, self.keys = program, 0
-        self.files = [new_desk(program, folder, f"desk{number}.db") for number in range(count)]
-        for number, file in enumerate(self.files):
-            done(
-                program,
-                ["run", file],
-                "".join(f"F{n} field N{number} A-{n} 0 {room} {start}\n" for n in (1, 2)) + "C expire 10\n",
-            )
-        self.services = [self.serve(number) for number in range(count)]
-
-    def serve(self, number: int, port: int = 0) -> Service:
-        return Service(self.program, self.files[number], 1_000_000, port, options=TOGETHER, seconds=10 * SECONDS)
-
-    def urls(self) -> list[str]:
-        return [f"http://127.0.0.1:{service.port}" for service in self.services]
-
-    def tell(self, number: int, command: str) -> None:
-        self.keys += 1
-        with contextlib.closing(self.services[number].connect()) as connection:
-            status, _, body = post(connection, f"K{self.keys}", command)
-        expect(status == 200, f"{command}: {status} {body}")
-
-    def shown(self, number: int, target: str) -> dict:
-        with contextlib.closing(self.services[number].connect()) as connection:
-            return json.loads(ask(connection, "GET", target)[2])
-
-    def values(self, article: int = 1) -> list[int]:
-        return [self.shown(number, f"/v1/fields/N{number}/A-{article}")["value"] for number in range(len(self.services))]
-
-    def free(self) -> bool:
-        """Whether no order holds anything."""
-        fields = [self.shown(number, f"/v1/fields/N{number}/A-1") for number in range(len(self.services))]
-        return all(field["inf"] == field["value"] == field["sup"] for field in fields)
-
-    def stop(self, number: int) -> None:
-        self.services[number].process.kill()
-        self.services[number].end()
-
-
-@contextlib.contextmanager
-def chain(program: str, folder: str, count: int = 2, start: int = 40, room: int = 78) -> Iterator[Chain]:
-    """By default with room for 38 pieces more on each field."""
-    desks = Chain(program, folder, count, start, room)
-    try:
-        yield desks
-    finally:
-        for number in range(count):
-            desks.stop(number)
 
 
 class Words(unittest.TestCase):
@@ -271,9 +215,13 @@ class All(ProgramCase):
                 left(desks, number, stage)
             urls = [desks.urls()[each] for each in (2, 1, 0)]
             words = [sys.executable, CARRIER, "--resume-all", *urls, "--idle", "0"]
-            with subprocess.Popen(words, stdout=subprocess.DEVNULL) as first:
-                time.sleep(0.5)
+            pipe = subprocess.PIPE
+            with subprocess.Popen(words, stdout=pipe) as first, subprocess.Popen(words, stdout=pipe) as second:
+                # when it has told of some
+                lines = [first.stdout and first.stdout.readline() for _ in range(10)]
                 first.kill()
+                second.communicate(timeout=4 * SECONDS)
+            expect(second.returncode in (0, 1) and all(lines), f"{second.returncode}, {lines}")
             status, told = called("--resume-all", *urls, "--idle", "0")
             expect(status == 0, f"{status} {told}")
             expect(called("--resume-all", *urls) == (0, ""), "something is open")
@@ -284,7 +232,7 @@ class All(ProgramCase):
                 stages = [stage for number, stage in numbers.items() if 1 + number % 2 == article]
                 count = sum(STAGES[stage] == "committed" for stage in stages)
                 expect(desks.values(article) == [400 - count, 400 + count, 400], f"A-{article}: {desks.values(article)}")
-            note(f"{told.count(' moved')} of {LEFT} deals were left to the second")
+            note(f"{told.count(' moved')} of {LEFT} deals were left to the last")
 
     def test_what_is_held_or_under_way_is_left(self):
         """A deal that waits for a moment, unless it is asked for, and one at which somebody is."""
@@ -364,12 +312,12 @@ class Fronted(FrontCase):
             status = KILLED
             while status == KILLED:
                 with subprocess.Popen([sys.executable, CARRIER, *words], env=self.environment(), stdout=subprocess.PIPE) as call:
-                    time.sleep(chance.uniform(0.05, 0.5))
-                    victim = chance.choice([None, *self.fronts])
+                    time.sleep(chance.uniform(0.05, 0.2))
+                    victim = chance.choice([None, None, *self.fronts])
                     if victim:
                         victim.desk_kill()
                         victim.desk_start()
-                    elif chance.random() < 0.5:
+                    else:
                         call.kill()
                     call.communicate(timeout=4 * SECONDS)
                 status = call.returncode

@@ -13,6 +13,8 @@ import unittest
 from support import DEPLOY, TOP
 from support.cases import ProgramCase, needs
 from support.copies import BACKUP, alone
+from support.deal_chains import chain
+from support.deal_runs import CARRIER
 from support.fronts import TOGETHER
 from support.programs import done, expect, note
 from support.service import Service, post
@@ -243,6 +245,17 @@ class Units(ProgramCase):
         connection.close()
         service.expect_end()
         expect_allowed(log, "accept4")
+
+    @needs("strace")
+    def test_the_carrier_needs_no_call_that_its_unit_refuses(self):
+        """A deal between two desks, under strace."""
+        with chain(self.program, self.folder) as desks:
+            wrapper, log = traced(self.folder, CARRIER)
+            told = run([wrapper, "900000001", *desks.urls(), "--move", "A-1", "7", "N0", "N1"])
+            expect(told.returncode == 0, f"not moved: {told}")
+            told = run([wrapper, "--resume-all", *desks.urls()])
+            expect(told.returncode == 0, f"not looked at: {told}")
+            expect_allowed(log, "connect")
 
     @needs("strace")
     def test_the_tools_need_no_call_that_their_units_refuse(self):

@@ -57,6 +57,8 @@ class Case:
     left: tuple[tuple[int, int], ...] = ()
     carriers: int = 1
     takes_up: bool = False
+    # the last call takes up all that is open
+    resumes_all: bool = False
 
 
 @dataclass
@@ -208,11 +210,12 @@ class Run:
 
     def take_up(self, was_told_moved: bool) -> None:
         """The last carrier: behind it no order is open, and all is moved or nothing."""
-        last = self.call(str(NUMBER))
+        resumes_all = self.case.resumes_all
+        last = self.call("--resume-all", "--held", "--idle", "0") if resumes_all else self.call(str(NUMBER))
         out, errors = last.communicate(timeout=4 * SECONDS)
         self.expect_well([(last.returncode, out, errors)])
         moved = is_moved([desk.rules for desk in self.desks])
-        expect(last.returncode == (0 if moved else 1), f"status {last.returncode}: {out}{errors}")
+        expect(last.returncode == (0 if moved or resumes_all else 1), f"status {last.returncode}: {out}{errors}")
         expect(moved or not was_told_moved, "told as moved")
         self.counts.found["runs moved" if moved else "runs not moved"] += 1
         for desk in self.desks:
@@ -298,4 +301,5 @@ def by_chance(count: int, seed: object) -> Iterator[Case]:
             left=((chance.randrange(desks), chance.randint(3, 14)),) if chance.random() < 0.03 else (),
             carriers=chance.choice([1, 1, 2, 3]),
             takes_up=chance.random() < 0.5,
+            resumes_all=chance.random() < 0.5,
         )
