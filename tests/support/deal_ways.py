@@ -138,8 +138,10 @@ class Way:
                 """Nothing is logged."""
 
             def do_POST(self) -> None:
-                body = self.rfile.read(int(self.headers.get("Content-Length", 0))) or None
-                told = deliver(number, self.command, self.path, body)
+                length = int(self.headers.get("Content-Length", 0))
+                body = self.rfile.read(length)
+                # a carrier may be killed within a message
+                told = deliver(number, self.command, self.path, body or None) if len(body) == length else None
                 if told is None:
                     self.close_connection = True
                 else:
