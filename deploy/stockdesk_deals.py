@@ -87,7 +87,7 @@ def order_of(told: Told) -> Order:
     lines = told["lines"]
     is_a_deals = told["kind"] == "plain" and told["state"] in (OPEN, COMMITTED, ABORTED)
     if not is_a_deals or any(line["used"] not in (0, line["held"]) for line in lines):
-        raise Foreign(f"it is no deal's order: {told}")
+        raise Foreign(f"is no deal's: {told}")
     holds = tuple(Line(line["way"], line["branch"], line["article"], line["held"]) for line in lines)
     return Order(told["state"], told["until"], holds, tuple(line["used"] == line["held"] for line in lines))
 

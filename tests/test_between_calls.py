@@ -68,8 +68,8 @@ OTHER_HANDS = [
     ((1, f"expire {NEVER}"), 1, "it was given up"),
     ((0, "commit {n}"), 4, "has not used all"),
     ((1, "commit {n}"), 4, "is committed, but open at the first desk"),
-    ((1, "firm {n}"), 4, "is no deal's order"),
-    ((0, "use {n} N0 A-1 3"), 4, "is no deal's order"),
+    ((1, "firm {n}"), 4, "is no deal's: "),
+    ((0, "use {n} N0 A-1 3"), 4, "is no deal's: "),
     ((1, "more {n} add N1 A-1 1"), 4, "is another deal's"),
     ((0, "release {n} N0 A-1 1"), 4, "is another deal's"),
 ]
@@ -240,8 +240,8 @@ class All(ProgramCase):
             left(desks, NUMBER, "held")
             left(desks, NUMBER + 1, "opened")
             words = ["--resume-all", *desks.urls()]
-            with subprocess.Popen([sys.executable, CARRIER, *words, "--idle", "4"], stdout=subprocess.PIPE, text=True) as call:
-                time.sleep(1.5)
+            with subprocess.Popen([sys.executable, CARRIER, *words, "--idle", "8"], stdout=subprocess.PIPE, text=True) as call:
+                time.sleep(3)
                 desks.tell(1, f"use {NUMBER + 1} N1 A-1 1")
                 told = call.communicate(timeout=4 * SECONDS)[0].splitlines()
             expect(call.returncode == 1 and len(told) == 2, f"{call.returncode} {told}")
@@ -251,14 +251,19 @@ class All(ProgramCase):
             status, text = called(*words, "--idle", "0.1", "--held")
             expect(status == 0 and f"{NUMBER} not moved" in text and desks.free(), f"{status} {text}")
 
-    def test_another_hand_stops_one_deal_alone(self):
+    def test_other_hands_stop_their_deals_alone(self):
+        """One is committed by hand at its other desk, one made firm there, and an order of such a number opened by hand."""
         with chain(self.program, self.folder) as desks:
-            for number in range(NUMBER, NUMBER + 3):
+            for number in range(NUMBER, NUMBER + 4):
                 left(desks, number, "used")
-            desks.tell(1, f"commit {NUMBER + 1}")
+            hands = [f"commit {NUMBER + 1}", f"firm {NUMBER + 2}", f"open {NUMBER + 4} {NEVER} take N1 A-1 1"]
+            for command in hands:
+                desks.tell(1, command)
             status, told = called("--resume-all", *desks.urls(), "--idle", "0")
-            expect(status == 4 and told.count(" moved") == 2 and f"order {NUMBER + 1}" in told, f"{status} {told}")
-            expect(desks.shown(0, f"/v1/orders/{NUMBER + 1}")["state"] == "open", "something was done")
+            expect(status == 4 and told.count(" moved") == 2, f"{status} {told}")
+            expect(all(f"order {number} " in told for number in (NUMBER + 1, NUMBER + 2, NUMBER + 4)), told)
+            for number in (NUMBER + 1, NUMBER + 2):
+                expect(desks.shown(0, f"/v1/orders/{number}")["state"] == "open", "something was done")
 
 
 class Fronted(FrontCase):
