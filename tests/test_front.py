@@ -2,7 +2,7 @@
 and what a browser is told."""
 
 import base64
-import hashlib
+import glob
 import json
 import os
 import re
@@ -12,8 +12,8 @@ import ssl
 import subprocess
 import time
 import warnings
+from http.client import HTTPMessage
 
-from support import DEPLOY
 from support.fronts import NO_LIMITS, OFFICE, PAGE, SHOP, WAREHOUSE, Front, FrontCase, credentials, head_of, message
 from support.programs import SECONDS, expect
 
@@ -58,9 +58,15 @@ class Users(FrontCase):
                 for target in ["/figures", "/figures;csv", "/metrics"]:
                     want = 200 if user == OFFICE else 403
                     expect(front.ask(user, "GET", target)[0] == want, f"{user}, {target}")
-            groups = {SHOP: "shops", WAREHOUSE: "warehouse", OFFICE: "office"}
-            for user, group in groups.items():
-                expect(json.loads(front.ask(user, "GET", "/user")[1]) == {"user": user, "group": group}, user)
+
+    def test_a_user_is_told_who_he_is(self):
+        """His name, his group, and of a shop what stands behind the name in the list of shops, in any blanks."""
+        groups = {SHOP: ("shops", "0"), WAREHOUSE: ("warehouse", ""), OFFICE: ("office", "")}
+        groups |= {"n2": ("shops", "1 N2 N3"), "n3": ("shops", ""), "n4": ("shops", "899\tN4")}
+        with Front(self.program, self.folder, shops=["n2 1 N2 N3", "n3", "n4 899\tN4"]) as front:
+            for user, (group, shop) in groups.items():
+                want = {"user": user, "group": group, "shop": shop}
+                expect(json.loads(front.ask(user, "GET", "/user")[1]) == want, user)
 
     def test_nobody_else_is_answered(self):
         """No user, another password, none, the words of another scheme: 401 for whatever is asked, and nothing is done."""
@@ -218,13 +224,10 @@ class Limits(FrontCase):
 # ---- the log, and what a browser is told
 
 
-def hashes_of_page() -> list[str]:
-    """The hashes of what stands within the page's one style and its one script."""
-    with open(PAGE, encoding="utf-8") as file:
-        text = file.read()
-    parts = [re.findall(f"<{name}>(.*?)</{name}>", text, re.DOTALL) for name in ["style", "script"]]
-    expect([len(part) for part in parts] == [1, 1], "more than one style or script")
-    return ["sha256-" + base64.b64encode(hashlib.sha256(part[0].encode()).digest()).decode() for part in parts]
+def policy_of(headers: HTTPMessage) -> dict[str, str]:
+    """Each part of the policy by which a browser takes an answer, by its name."""
+    parts = [part.split(" ", 1) for part in str(headers["Content-Security-Policy"]).split("; ")]
+    return {name: value for name, value in parts}
 
 
 class Configuration(FrontCase):
@@ -248,20 +251,40 @@ class Configuration(FrontCase):
             expect(all(re.match(r"\d{4}-\d\d-\d\dT\d\d:\d\d:\d\dZ ", line) for line in front.log() if "/v1/" in line), "no time")
 
     def test_a_browser_is_told_to_be_careful(self):
-        style, script = hashes_of_page()
-        with open(os.path.join(DEPLOY, "haproxy.cfg"), encoding="utf-8") as file:
-            text = file.read()
-        expect(f"style-src '{style}'" in text and f"script-src '{script}'" in text, f"haproxy.cfg lacks {style} and {script}")
+        """Nothing comes from elsewhere, no script or style stands within the page, and no page has this one in it."""
+        nothing = ["default-src", "frame-ancestors", "base-uri", "form-action"]
+        want = {**dict.fromkeys(nothing, "'none'"), **dict.fromkeys(["connect-src", "style-src", "script-src"], "'self'")}
+        targets = [(SHOP, "/"), (SHOP, "/desk.js"), (SHOP, "/v1/sheets/N1"), (SHOP, "/none"), (None, "/"), (SHOP, "/metrics")]
         with Front(self.program, self.folder) as front:
-            for user, target in [(SHOP, "/"), (SHOP, "/v1/sheets/N1"), (SHOP, "/none"), (None, "/"), (SHOP, "/metrics")]:
+            for user, target in targets:
                 connection = front.connect()
                 connection.request("GET", target, None, credentials(user) if user else {})
                 answer = connection.getresponse()
                 answer.read()
                 expect(answer.getheader("Strict-Transport-Security") == "max-age=31536000", f"{target}: no HSTS")
                 expect(answer.getheader("X-Content-Type-Options") == "nosniff", f"{target}: its type may be guessed")
-                expect("default-src 'none'" in str(answer.getheader("Content-Security-Policy")), f"{target}: no policy")
+                expect(policy_of(answer.headers) == want, f"{target}: {policy_of(answer.headers)}")
                 connection.close()
+
+    def test_the_page_is_served_to_users_alone(self):
+        """Each of its files, as it lies there and with its type; nothing else of the folder's name is."""
+        types = {"html": "text/html; charset=utf-8", "css": "text/css; charset=utf-8", "js": "text/javascript; charset=utf-8"}
+        with Front(self.program, self.folder) as front:
+            for path in sorted(glob.glob(os.path.join(PAGE, "*"))):
+                name = os.path.basename(path)
+                target = "/" if name == "desk.html" else f"/{name}"
+                with open(path, encoding="utf-8") as file:
+                    want = file.read()
+                for user, status in [(SHOP, 200), (None, 401)]:
+                    connection = front.connect()
+                    connection.request("GET", target, None, credentials(user) if user else {})
+                    answer = connection.getresponse()
+                    body = answer.read().decode()
+                    connection.close()
+                    expect(answer.status == status and (body == want) == (status == 200), f"{target}: {answer.status}")
+                    expect(user is None or answer.getheader("Content-Type") == types[name.split(".")[1]], f"{target}: its type")
+            for target in ["/desk.html", "/desk", "/words.js/", "/../shops.map", "/shops.map"]:
+                expect(front.ask(SHOP, "GET", target)[0] == 404, f"{target} is there")
 
     def test_the_configuration_is_taken_without_a_warning(self):
         with Front(self.program, self.folder) as front:

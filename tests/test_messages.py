@@ -17,6 +17,11 @@ STOPPED = '{"error":"stopped"}'
 UNREADABLE = '{"error":"message"}'
 FIRM = '{"code":19,"line":0,"refused":"Firm"}'
 BAD_COMMAND = '{"code":20,"line":0,"refused":"BadCommand"}'
+NO_ORDERS = '{"orders":[]}'
+ORDER_8_LISTED = (
+    '{"orders":[{"kind":"plain","lines":[{"article":"A-1","branch":"N1","held":35,"used":0,"way":"take"}],'
+    '"number":8,"state":"open","until":120}]}'
+)
 
 
 # a method and a target, a body, and the status and the body of the answer, on one desk
@@ -57,6 +62,8 @@ WORKED = [
     ("GET /v1/keys/K1", "", 200, '{"command":"field N1 A-1 0 100 40","place":1}'),
     # a refused command's key is not kept
     ("GET /v1/keys/K2", "", 404, NONE),
+    ("GET /v1/open/0", "", 200, NO_ORDERS),
+    ("GET /v1/due/4000000000", "", 200, NO_ORDERS),
     (COMMANDS, '{"command":"open 8 120 take N1 A-1 35","key":"K4"}', 200, '{"place":2}'),
     (
         "GET /v1/orders/8",
@@ -65,6 +72,13 @@ WORKED = [
         '{"kind":"plain","lines":[{"article":"A-1","branch":"N1","held":35,"used":0,"way":"take"}],'
         '"number":8,"state":"open","until":120}',
     ),
+    # an order is listed above each smaller number, and is due from its moment on
+    ("GET /v1/open/0", "", 200, ORDER_8_LISTED),
+    ("GET /v1/open/7", "", 200, ORDER_8_LISTED),
+    ("GET /v1/open/8", "", 200, NO_ORDERS),
+    ("GET /v1/open/999999999", "", 200, NO_ORDERS),
+    ("GET /v1/due/119", "", 200, NO_ORDERS),
+    ("GET /v1/due/120", "", 200, ORDER_8_LISTED),
     # an order that is firm is shown so, and is not aborted
     (COMMANDS, '{"command":"firm 8","key":"K5"}', 200, '{"place":3}'),
     (
@@ -74,6 +88,8 @@ WORKED = [
         '{"kind":"plain","lines":[{"article":"A-1","branch":"N1","held":35,"used":0,"way":"take"}],'
         '"number":8,"state":"firm","until":120}',
     ),
+    ("GET /v1/open/0", "", 200, ORDER_8_LISTED.replace('"open"', '"firm"')),
+    ("GET /v1/due/4000000000", "", 200, NO_ORDERS),
     (COMMANDS, '{"command":"abort 8","key":"K6"}', 409, FIRM),
     (COMMANDS, '{"command":"firm 8","key":"K6"}', 409, FIRM),
     (COMMANDS, '{"command":"more 8 take N1 A-1 1","key":"K6"}', 409, FIRM),
@@ -108,6 +124,15 @@ WORKED = [
     ("GET /v1/keys/", "", 404, NONE),
     ("GET /v1/keys/K%31", "", 404, NONE),
     (f"GET /v1/keys/{'K' * 37}", "", 404, NONE),
+    ("GET /v1/open/", "", 404, NONE),
+    ("GET /v1/open/00", "", 404, NONE),
+    ("GET /v1/open/07", "", 404, NONE),
+    ("GET /v1/open/1000000000", "", 404, NONE),
+    ("GET /v1/open/-1", "", 404, NONE),
+    ("GET /v1/due/", "", 404, NONE),
+    ("GET /v1/due/00", "", 404, NONE),
+    ("GET /v1/due/4000000001", "", 404, NONE),
+    ("POST /v1/open/0", "", 404, NONE),
     ("GET /", "", 404, NONE),
     # bodies that are no commands
     (COMMANDS, "", 400, BAD_COMMAND),
@@ -121,6 +146,7 @@ WORKED = [
         '{"kind":"plain","lines":[{"article":"A-1","branch":"N1","held":35,"used":12,"way":"take"}],'
         '"number":8,"state":"committed","until":120}',
     ),
+    ("GET /v1/open/0", "", 200, NO_ORDERS),
     (COMMANDS, '{"command":"commit 8","key":5}', 400, BAD_COMMAND),
     # branches by their bytes, each once; orders that ended are counted among all
     (COMMANDS, '{"command":"field S1 A-1 0 9 9","key":"K8"}', 200, '{"place":6}'),
@@ -141,6 +167,8 @@ ON_A_STOPPED_DESK = [
     ("GET /v1/branches", "", 503, STOPPED),
     ("GET /v1/desk", "", 503, STOPPED),
     ("GET /v1/keys/K1", "", 503, STOPPED),
+    ("GET /v1/open/0", "", 503, STOPPED),
+    ("GET /v1/due/0", "", 503, STOPPED),
     ("GET /v1/keys/", "", 404, NONE),
     ("GET /v1/sheets/n1", "", 404, NONE),
     (COMMANDS, "[]", 400, BAD_COMMAND),

@@ -15,16 +15,18 @@ from support.cases import ProgramCase, needs
 from support.copies import BACKUP, alone
 from support.deal_chains import chain
 from support.deal_runs import CARRIER
-from support.fronts import TOGETHER
+from support.fronts import PAGE, TOGETHER
 from support.programs import done, expect, note
 from support.service import Service, post
 
 PACKAGE = os.path.join(DEPLOY, "package")
 ROLLOVER = os.path.join(DEPLOY, "stockdesk-rollover")
+CLOCK = os.path.join(DEPLOY, "stockdesk-clock")
 UNITS = sorted(glob.glob(os.path.join(DEPLOY, "*.service")) + glob.glob(os.path.join(DEPLOY, "*.timer")))
 # a unit of a service, and below what its exposure is
 EXPOSED = {"stockdesk@.service": 2.0, "stockdesk-backup@.service": 2.5, "stockdesk-check@.service": 2.5}
 EXPOSED["stockdesk-between.service"] = 2.5
+EXPOSED["stockdesk-clock@.service"] = 2.5
 SHARED = [
     "User=stockdesk",
     "CapabilityBoundingSet=",
@@ -105,6 +107,8 @@ class Package(ProgramCase):
         run(["dpkg-deb", "--extract", path, os.path.join(self.folder, "tree")])
         with open(os.path.join(self.folder, "tree/usr/bin/stockdesk"), "rb") as packed, open(self.program, "rb") as own:
             expect(packed.read() == own.read(), "another program")
+        packed_page = os.listdir(os.path.join(self.folder, "tree/usr/share/stockdesk/page"))
+        expect(sorted(packed_page) == sorted(os.listdir(PAGE)), f"another page: {packed_page}")
         copy = os.path.join(self.folder, "copy")
         for name in ["deploy", "docs"]:
             shutil.copytree(os.path.join(TOP, name), os.path.join(copy, name))
@@ -133,7 +137,7 @@ class Package(ProgramCase):
             told = run([self.program, command, "--help"])
             first = (told.stdout + told.stderr).splitlines()[0]
             expect(first in page, f"nothing is said of {command}: {first}")
-        for tool in ["backup", "between", "restore", "rollover"]:
+        for tool in ["backup", "between", "clock", "restore", "rollover"]:
             expect(f"usage: stockdesk-{tool}" in page, f"nothing is said of {tool}")
             expect(os.path.exists(os.path.join(self.folder, f"usr/share/man/man1/stockdesk-{tool}.1.gz")), f"no page of {tool}")
         for line in ["not a desk", "old version", "damaged", "store", "memory", "io", "usage", "record N", "csv"]:
@@ -233,6 +237,12 @@ class Units(ProgramCase):
             expect(set(SHARED) <= set(kept), f"{name} lacks {set(SHARED) - set(kept)}")
             note(f"{name} {found[1]}")
 
+    def test_the_guide_switches_on_each_timer(self):
+        with open(os.path.join(TOP, "docs", "OPERATING.md"), encoding="utf-8") as file:
+            [words] = re.findall(r"^systemctl enable --now (.*)$", file.read(), re.MULTILINE)
+        timers = [os.path.basename(unit).replace("@", "@shop") for unit in UNITS if unit.endswith("@.timer")]
+        expect(sorted(words.split()) == sorted(["stockdesk@shop", *timers]), f"{words}")
+
     @needs("strace")
     def test_the_service_needs_no_call_that_its_unit_refuses(self):
         """A service under strace that makes, fills and serves a desk."""
@@ -271,3 +281,25 @@ class Units(ProgramCase):
             told = run([wrapper, "--check", path])
             expect(told.returncode == 0, f"not looked at: {told}")
             expect_allowed(log, "openat")
+
+    @needs("strace")
+    def test_the_tools_that_ask_a_desk_need_no_call_that_their_units_refuse(self):
+        """The look at how full it is, and the end of what is due; both have no socket but of AF_INET."""
+        path = os.path.join(self.folder, "desk.db")
+        done(self.program, ["init", path])
+        done(self.program, ["run", path], "F1 field N1 A-1 0 100 40\nO1 open 1 1 take N1 A-1 1\n")
+        service = Service(self.program, path, 3, options=TOGETHER)
+        place = os.path.join(self.folder, "clock")
+        os.mkdir(place)
+        for tool, words, told_of in [
+            (ROLLOVER, ["--check", path, "--port", str(service.port)], "orders: 1 of"),
+            (CLOCK, [str(service.port), "--seen", os.path.join(place, "seen"), "--jump"], "): 1; `expire "),
+        ]:
+            wrapper, log = traced(self.folder, tool)
+            told = run([wrapper, *words])
+            expect((told.returncode, told.stderr) == (0, "") and told_of in told.stdout, f"{told}")
+            expect_allowed(log, "connect")
+            with open(log, encoding="utf-8") as file:
+                families = set(re.findall(r"socket\((\w+),", file.read()))
+            expect(families == {"AF_INET"}, f"{families}")
+        service.expect_end()

@@ -2,10 +2,12 @@
 commands, orders by forms and buttons, what each group is offered, a keyboard alone, a phone's width, and colours. They have
 branches of a letter and a digit, and orders from 8,000 on."""
 
+import glob
+import os
 import re
 
-from support.browser import FOREVER, NARROW, THUMB, WIDE, WORDS, Keys, Page, PageCase, row, tell_all, without
-from support.forms import ARTICLE, BRANCH, LEVEL, MOMENT, ORDER, QUANTITY
+from support.browser import FOREVER, NARROW, THUMB, WIDE, WORDS, Keys, Page, PageCase, local, row, tell_all, without
+from support.forms import ARTICLE, BRANCH, LEVEL, ORDER, QUANTITY
 from support.fronts import PAGE
 from support.programs import expect
 
@@ -30,12 +32,16 @@ INPUTS = {
     "to": (BRANCH, ["9", "ABCDEFGHI", "É"]),
     "article": (ARTICLE, ["A-1", "-A", "A" * 16, "A" * 17, "A_1", "0-", "a"]),
     "number": (ORDER, ["0", "1", "999999999", "1000000000", "-1"]),
-    "until": (MOMENT, ["0", "4000000000", "4000000001", "1.5"]),
     "quantity": (QUANTITY, ["0", "1", "1000000", "1000001"]),
     "lower": (LEVEL, ["0", "1000000000", "1000000001", "-1"]),
     "start": (LEVEL, ["0", "1000000000", "1000000001"]),
-    "now": (MOMENT, ["0", "4000000000", "4000000001"]),
 }
+
+# a moment far from now
+UNTIL = 50_000_000
+
+# the inputs of a moment, and the minutes about the edge of what they take
+MOMENTS = {name: {-1: False, 0: True, FOREVER: True, FOREVER + 1: False} for name in ["until", "now"]}
 
 # texts and grounds, by the names of their colours, and how much they have to differ
 CONTRASTS = [
@@ -111,27 +117,32 @@ FILLED = [
 
 
 class Pages(PageCase):
-    def test_the_file_is_plain(self):
-        """One script and one style, which the front names by their hashes; nothing is put in as markup, asked of another origin,
-        or run by an attribute."""
-        with open(PAGE, encoding="utf-8") as file:
-            text = file.read()
-        lines = text.splitlines()
-        expect(len(lines) < 500 and max(map(len, lines)) <= 120, "it is longer or wider")
-        for tag in ["script", "style"]:
-            expect(text.count(f"<{tag}") == text.count(f"<{tag}>") == 1, f"there is another {tag}")
-        for pattern in [
-            "innerHTML",
-            "outerHTML",
-            "insertAdjacent",
-            r"document\.write",
-            r"\seval\b",
-            r"\sstyle=",
-            r"<[^>]*\son[a-z]+=",
-        ]:
-            expect(not re.search(pattern, text), f"there is {pattern}")
-        others = set(re.findall(r"[a-z]+://[^\"'` ]*", text)) - {"http://www.w3.org/2000/svg", "http://www.w3.org/1999/xhtml"}
-        expect(not others, f"addresses: {others}")
+    def test_the_files_are_plain(self):
+        """The page names its style and its first script, and has none itself; nothing is put in as markup, asked of another
+        origin, or run by an attribute."""
+        texts = {}
+        for path in glob.glob(os.path.join(PAGE, "*")):
+            with open(path, encoding="utf-8") as file:
+                texts[os.path.basename(path)] = file.read()
+        for name, text in texts.items():
+            lines = text.splitlines()
+            expect(len(lines) < 500 and max(map(len, lines)) <= 120, f"{name} is longer or wider")
+            for pattern in [
+                "innerHTML",
+                "outerHTML",
+                "insertAdjacent",
+                r"document\.write",
+                r"\seval\b",
+                r"\sstyle=",
+                r"<[^>]*\son[a-z]+=",
+                "<style",
+            ]:
+                expect(not re.search(pattern, text), f"there is {pattern} in {name}")
+            others = set(re.findall(r"[a-z]+://[^\"'` ]*", text)) - {"http://www.w3.org/2000/svg", "http://www.w3.org/1999/xhtml"}
+            expect(not others, f"addresses in {name}: {others}")
+        html = texts["desk.html"]
+        expect(re.findall("<script.*", html) == ['<script type="module" src="desk.js"></script>'], "there is another script")
+        expect(re.findall("<link.*", html) == ['<link rel="stylesheet" href="desk.css">'], "there is another style")
 
     def test_a_branch_is_shown(self):
         """Its fields with the numbers and the pictures that the rules make of the commands, all of them or those that are looked
@@ -174,9 +185,14 @@ class Pages(PageCase):
             a, b = ["take", "O1", "A", "30", "0", "30"], ["add", "O1", "B", "20", "0", "20"]
             stock |= {"A": row(0, 100, 50, 20, 50), "B": row(0, 100, 50, 50, 70)}
             expect_both(page, stock, [a, b])
-            expect(page.texts("#open legend") == ["Line 1"] and page.text("#open code").startswith("open NUMBER"), "not emptied")
+            unused = "Nothing of it was used: Commit now gives all back."
+            expect(unused in page.text("#order") and "one of yours (range 0)" in page.text("#order"), "less is told of it")
+            # order 1 is the first of the range, and free
+            emptied = "open 1 UNTIL take O1 ARTICLE QUANTITY"
+            page.wait(lambda: page.texts("#open legend") == ["Line 1"] and page.text("#open code") == emptied, "not emptied")
             page.tell("#use", verb="use", line="O1 A", quantity=12)
             expect_both(page, stock, [[*a[:4], "12", "18"], b])
+            expect("Commit settles what was used" in page.text("#order"), "it is not told what a commit does")
             page.tell("#use", verb="release", line="O1 B", quantity=5)
             stock["B"] = row(0, 100, 50, 50, 65)
             expect_both(page, stock, [[*a[:4], "12", "18"], ["add", "O1", "B", "15", "0", "15"]])
@@ -287,6 +303,13 @@ class Pages(PageCase):
                     return fits && input.checkValidity()"""
                     takes = page.run(script, name, value)
                     expect(takes == bool(re.fullmatch(form, value)), f"{name} takes {value}: {takes}")
+            for name, minutes in MOMENTS.items():
+                for minute, want in minutes.items():
+                    script = """const input = document.querySelector(`#commands [name=${arguments[0]}]`);
+                    input.value = arguments[1];
+                    return input.checkValidity()"""
+                    takes = page.run(script, name, f"{local(minute):%Y-%m-%dT%H:%M}")
+                    expect(takes == want, f"{name} takes {minute}: {takes}")
             controls = "return [...document.querySelectorAll('main input, main select')]"
             unnamed = page.run(f"{controls}.filter(each => !each.labels.length).length")
             expect(unnamed == 0, f"{unnamed} have no label")
@@ -313,7 +336,7 @@ class Pages(PageCase):
             keys.tab_to("#open [name=number]")
             keys.press("8501")
             keys.tab_to("#open [name=until]")
-            keys.press(str(FOREVER))
+            keys.write_moment(UNTIL)
             keys.tab_to("#open [name=way]")
             keys.press(keys.names.ARROW_DOWN)
             keys.tab_to("#open [name=article]")
@@ -326,7 +349,7 @@ class Pages(PageCase):
             keys.tab_to("#open fieldset:nth-child(2) > button")
             keys.press(keys.names.ENTER)
             keys.tab_to("#open .sends")
-            expect(page.text("#open .spelled code") == f"open 8501 {FOREVER} add K1 A-1 30", page.text("#open .spelled code"))
+            expect(page.text("#open .spelled code") == f"open 8501 {UNTIL} add K1 A-1 30", page.text("#open .spelled code"))
             keys.press(keys.names.ENTER)
             page.wait_said("Done")
             page.wait_rows("stock", {"A-1": row(0, 100, 50, 50, 80)})

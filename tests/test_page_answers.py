@@ -59,7 +59,7 @@ class PageAnswers(PageCase):
         self.front.tell("ho", "expire 1")
         names = REFUSALS[1:]
         with Page(self.front, "ho") as page:
-            told = page.run("return Object.entries(REFUSALS)")
+            told = page.run("return import('/words.js').then(({ REFUSALS }) => Object.entries(REFUSALS))")
             expect([name for name, _ in told] == names, "the page knows other refusals")
             for name, words in told:
                 expect(WORDS[name] in words and name not in words, f"{name} is told as {words!r}")

@@ -18,7 +18,7 @@ from support import DEPLOY
 from support.cases import ProgramCase, needs, path_of
 from support.programs import SECONDS, done, expect, new_desk
 
-CONFIGURATION, PAGE = os.path.join(DEPLOY, "haproxy.cfg"), os.path.join(DEPLOY, "page", "desk.html")
+CONFIGURATION, PAGE = os.path.join(DEPLOY, "haproxy.cfg"), os.path.join(DEPLOY, "page")
 FIELDS = "".join(f"F{n} field N1 A-{n} 0 1000000 500\n" for n in range(1, 9))
 
 # a user of each group

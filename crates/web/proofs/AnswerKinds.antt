@@ -14,7 +14,8 @@ use Rattle.web.specs.Answers.{Answer, json_answer, memory_answer, none_answer, r
 use Rattle.web.specs.declared.ask.Ask.{Ask}
 use Rattle.web.specs.declared.ask.Ask.TheVariants as ask
 use Rattle.web.specs.Messages.{Part, unreadable, whole}
-use Rattle.web.specs.Objects.{branches_object, desk_object, kept_object, order_object}
+use Rattle.web.specs.Objects.{branches_object, desk_object, kept_object, order_object, orders_object}
+use Rattle.web.specs.Orders.{due, open_above}
 use Rattle.web.specs.Replies.{AnswersView, Replies, TellsField, TellsFound, TellsText, reply_of_stopped}
 
 status_of : (x : Answer) (n : ℕ) (y : Answer) → x ≡ y → y.status ≡ n → x.status ≡ n
@@ -67,6 +68,8 @@ view_other A (ask.Order n) x h = found_other order_object (order_numbered A n) x
 view_other A (ask.Sheet b) x h = text_other (IsBranchSheet A b) x h
 view_other A (ask.Article a) x h = text_other (IsArticleSheet A a) x h
 view_other A (ask.Kept key) x h = found_other kept_object (kept_under A key) x h
+view_other A (ask.Open floor) x h = made_other x (orders_object (open_above A floor)) h
+view_other A (ask.Due moment) x h = made_other x (orders_object (due A moment)) h
 view_other A ask.BadCall x h = λ e. let s = ap (λ (a : Answer). a.status) h in absurd (omega (arith, s, e))
 view_other A ask.Nothing x h = λ e. let s = ap (λ (a : Answer). a.status) h in absurd (omega (arith, s, e))
 view_other A (ask.Call r) x h = absurd h

@@ -17,6 +17,7 @@ mod FieldBranches
 mod TwoMembers
 mod Bodies
 mod OrderObject
+mod OrderLists
 mod BranchesObject
 mod AnswerBytes
 mod RouteSearch

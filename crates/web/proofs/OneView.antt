@@ -1,15 +1,16 @@
 -- A target has no two views, and it is known whether it has one.
-use Rattle.std.proofs.Common.{◌≡◌, ◌∙◌, ℕ, List, Option, Some, None, ap, arith, codes, decimal, inl, inr, refl, subst, sym}
+use Rattle.std.proofs.Common.{◌≡◌, ◌∙◌, ◌<◌, ◌^◌, ℕ, List, Option, Some, None, ap, arith, codes, decimal, inl, inr, refl, subst, sym}
 use Rattle.std.proofs.lemmas.Fmt.{decimal_injective, decimal_is_IsNumeral}
 use Rattle.std.specs.Str.Parse.{digits_value}
 use Rattle.escrow.specs.Codes.{IsArticle, IsBranch, IsKey}
-use Rattle.escrow.specs.Ranges.{IsOrderNo}
-use Rattle.words.proofs.Decisions.{Decided, decided_article, decided_both, decided_branch, decided_by, decided_key, decided_order_no, decided_word}
+use Rattle.escrow.specs.Ranges.{IsMoment, IsOrderNo}
+use Rattle.words.proofs.Decisions.{Decided, decided_article, decided_both, decided_branch, decided_by, decided_key, decided_le, decided_order_no, decided_word}
+use Rattle.web.specs.Asks.{IsFloor}
 use Rattle.web.specs.Routes.{IsView, part_of, resource_of}
 use Rattle.web.specs.declared.ask.Ask.{Ask}
 use Rattle.web.specs.declared.ask.Ask.TheVariants as ask
 use Rattle.web.specs.declared.route.Resource.{Resource}
-use Rattle.web.specs.declared.route.Resource.TheVariants.{Article, Branches, Commands, Desk, Field, Key, Order, Sheet}
+use Rattle.web.specs.declared.route.Resource.TheVariants.{Article, Branches, Commands, Desk, Due, Field, Key, Open, Order, Sheet}
 
 abbrev resource_for : Ask → Resource
 resource_for ask.Desk = Desk
@@ -19,6 +20,8 @@ resource_for (ask.Order n) = Order
 resource_for (ask.Sheet branch) = Sheet
 resource_for (ask.Article article) = Article
 resource_for (ask.Kept key) = Key
+resource_for (ask.Open floor) = Open
+resource_for (ask.Due moment) = Due
 resource_for ask = Commands
 
 view_resource : (target : List ℕ) (a : Ask) → IsView target a → resource_of target ≡ Some (resource_for a)
@@ -29,6 +32,8 @@ view_resource target (ask.Order n) h = h.0
 view_resource target (ask.Sheet branch) h = h.0
 view_resource target (ask.Article article) h = h.0
 view_resource target (ask.Kept key) h = h.0
+view_resource target (ask.Open floor) h = h.0
+view_resource target (ask.Due moment) h = h.0
 view_resource target a h = absurd h
 
 -- what is found is one
@@ -46,6 +51,8 @@ one_view target (ask.Order n) (ask.Order m) h g = ap ask.Order (decimal_injectiv
 one_view target (ask.Sheet b) (ask.Sheet c) h g = ap ask.Sheet (same h.1 g.1)
 one_view target (ask.Article a) (ask.Article b) h g = ap ask.Article (same h.1 g.1)
 one_view target (ask.Kept j) (ask.Kept k) h g = ap ask.Kept (same h.1 g.1)
+one_view target (ask.Open n) (ask.Open m) h g = ap ask.Open (decimal_injective n m (omega (arith, h.2)) (omega (arith, g.2)) (same h.1 g.1))
+one_view target (ask.Due n) (ask.Due m) h g = ap ask.Due (decimal_injective n m (omega (arith, h.2)) (omega (arith, g.2)) (same h.1 g.1))
 one_view target (ask.Call r) q h g = absurd h
 one_view target ask.BadCall q h g = absurd h
 one_view target ask.Nothing q h g = absurd h
@@ -60,20 +67,20 @@ part_decided : (P : List ℕ → Type 0) → ((part : List ℕ) → Decided (P p
 part_decided P decide None = inr (λ h. let e = h.1 in cc e)
 part_decided P decide (Some part) = decided_by {P = P part} (λ p. (part, refl, p)) (λ h. let e : h.0 ≡ part = let f = h.1 in cc f in subst P e h.2) (decide part)
 
--- the bytes are an order's number
-abbrev IsNumber : List ℕ → Type 0
-IsNumber part = (n : ℕ) × IsOrderNo n × (part ≡ decimal n)
+-- the bytes are a number in that range
+abbrev IsNumber : (ℕ → Type 0) → List ℕ → Type 0
+IsNumber P part = (n : ℕ) × P n × (part ≡ decimal n)
 
-number_decided : (part : List ℕ) → Decided (IsNumber part)
-number_decided part = decided_by to from (decided_both (decided_order_no (digits_value 10 part)) (decided_word part (decimal (digits_value 10 part))))
+number_decided : (P : ℕ → Type 0) → ((n : ℕ) → P n → n < 2 ^ 64) → ((n : ℕ) → Decided (P n)) → (part : List ℕ) → Decided (IsNumber P part)
+number_decided P small decide part = decided_by to from (decided_both (decide (digits_value 10 part)) (decided_word part (decimal (digits_value 10 part))))
   where
-    to : IsOrderNo (digits_value 10 part) × (part ≡ decimal (digits_value 10 part)) → IsNumber part
+    to : P (digits_value 10 part) × (part ≡ decimal (digits_value 10 part)) → IsNumber P part
     to h = (digits_value 10 part, h.0, h.1)
 
-    from : IsNumber part → IsOrderNo (digits_value 10 part) × (part ≡ decimal (digits_value 10 part))
+    from : IsNumber P part → P (digits_value 10 part) × (part ≡ decimal (digits_value 10 part))
     from (n, range, e) =
-        let same : n ≡ digits_value 10 part = sym (decimal_is_IsNumeral n (omega (arith, range.1))).1 ∙ ap (digits_value 10) (sym e) in
-        (subst IsOrderNo same range, e ∙ ap decimal same)
+        let same : n ≡ digits_value 10 part = sym (decimal_is_IsNumeral n (small n range)).1 ∙ ap (digits_value 10) (sym e) in
+        (subst P same range, e ∙ ap decimal same)
 
 -- some view is that of the target
 abbrev pub HasView : List ℕ → Type 0
@@ -86,7 +93,9 @@ AreParts target Desk = Unit {0}
 AreParts target Branches = Unit {0}
 AreParts target Field =
     ((part : List ℕ) × (part_of (codes "branch") target ≡ Some part) × IsBranch part) × ((part : List ℕ) × (part_of (codes "article") target ≡ Some part) × IsArticle part)
-AreParts target Order = (part : List ℕ) × (part_of (codes "number") target ≡ Some part) × IsNumber part
+AreParts target Order = (part : List ℕ) × (part_of (codes "number") target ≡ Some part) × IsNumber IsOrderNo part
+AreParts target Open = (part : List ℕ) × (part_of (codes "number") target ≡ Some part) × IsNumber IsFloor part
+AreParts target Due = (part : List ℕ) × (part_of (codes "moment") target ≡ Some part) × IsNumber IsMoment part
 AreParts target Article = (part : List ℕ) × (part_of (codes "article") target ≡ Some part) × IsArticle part
 AreParts target Key = (part : List ℕ) × (part_of (codes "key") target ≡ Some part) × IsKey part
 AreParts target Sheet = (part : List ℕ) × (part_of (codes "branch") target ≡ Some part) × IsBranch part
@@ -97,7 +106,12 @@ parts_decided target Desk = inl tt
 parts_decided target Branches = inl tt
 parts_decided target Field =
     decided_both (part_decided IsBranch decided_branch (part_of (codes "branch") target)) (part_decided IsArticle decided_article (part_of (codes "article") target))
-parts_decided target Order = part_decided IsNumber number_decided (part_of (codes "number") target)
+parts_decided target Order =
+    part_decided (IsNumber IsOrderNo) (number_decided IsOrderNo (λ n h. omega (arith, h.1)) decided_order_no) (part_of (codes "number") target)
+parts_decided target Open =
+    part_decided (IsNumber IsFloor) (number_decided IsFloor (λ n h. omega (arith, h)) (λ n. decided_le n 999999999)) (part_of (codes "number") target)
+parts_decided target Due =
+    part_decided (IsNumber IsMoment) (number_decided IsMoment (λ n h. omega (arith, h)) (λ n. decided_le n 4000000000)) (part_of (codes "moment") target)
 parts_decided target Article = part_decided IsArticle decided_article (part_of (codes "article") target)
 parts_decided target Key = part_decided IsKey decided_key (part_of (codes "key") target)
 parts_decided target Sheet = part_decided IsBranch decided_branch (part_of (codes "branch") target)
@@ -108,6 +122,8 @@ view_by_parts target Desk e h = (ask.Desk, e)
 view_by_parts target Branches e h = (ask.Branches, e)
 view_by_parts target Field e ((b, f, branch), (a, g, article)) = (ask.Field b a, (e, f, g, branch, article))
 view_by_parts target Order e (part, f, (n, range, g)) = (ask.Order n, (e, f ∙ ap Some g, range))
+view_by_parts target Open e (part, f, (n, range, g)) = (ask.Open n, (e, f ∙ ap Some g, range))
+view_by_parts target Due e (part, f, (n, range, g)) = (ask.Due n, (e, f ∙ ap Some g, range))
 view_by_parts target Article e (a, f, article) = (ask.Article a, (e, f, article))
 view_by_parts target Key e (k, f, key) = (ask.Kept k, (e, f, key))
 view_by_parts target Sheet e (b, f, branch) = (ask.Sheet b, (e, f, branch))
@@ -120,6 +136,8 @@ parts_of target (ask.Order n) h = (decimal n, h.1, (n, h.2, refl))
 parts_of target (ask.Sheet b) h = (b, h.1, h.2)
 parts_of target (ask.Article a) h = (a, h.1, h.2)
 parts_of target (ask.Kept k) h = (k, h.1, h.2)
+parts_of target (ask.Open n) h = (decimal n, h.1, (n, h.2, refl))
+parts_of target (ask.Due n) h = (decimal n, h.1, (n, h.2, refl))
 parts_of target a h = absurd h
 
 -- a target whose parts are of no view has none

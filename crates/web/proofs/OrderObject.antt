@@ -3,7 +3,7 @@ use Rattle.std.proofs.Common.{◌≡◌, ◌∙◌, ℕ, false, List, [], ◌∷
 use Rattle.serde_json.specs.Data.{Data}
 use Rattle.serde_json.specs.View.{items_of}
 use Rattle.serde_json.specs.Written.{compact_text, has_float, items_have_float}
-use Rattle.book.specs.Ledger.{Order}
+use Rattle.book.specs.Ledger.{Order, shown_state}
 use Rattle.book.specs.Views.{ShowsOrder}
 use Rattle.book.specs.declared.book.views.OrderView.{OrderView}
 use Rattle.book.specs.declared.order.Kind.{Kind}
@@ -20,6 +20,9 @@ shown_has_no_float_in number kind until state lines = rw (lines_have_no_float li
 
 shown_one : (o : Order) (view : OrderView) → ShowsOrder o view → view_object view ≡ order_object o
 shown_one o view h = λ i. shown_object (h.number i) (h.kind i) (h.until i) (h.state i) (h.lines i)
+
+pub order_has_none : (o : Order) → has_float (order_object o) ≡ false
+order_has_none o = shown_has_no_float_in o.number o.kind o.until (shown_state o.state o.firm) o.lines
 
 pub shown_has_no_float : (view : OrderView) (value : Data) → value ≡ view_object view → has_float value ≡ false
 shown_has_no_float view value e = ap has_float e ∙ shown_has_no_float_in view.number view.kind view.until view.state view.lines.now

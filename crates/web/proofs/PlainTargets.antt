@@ -1,5 +1,5 @@
 -- What a message says is what is read in it: the bytes of its target are those that its route is found for.
-use Rattle.std.proofs.Common.{◌≡◌, ◌∙◌, ◌<◌, ℕ, List, [], ◌∷◌, ◌++◌, Option, Some, None, Bool, true, false, ap, append_assoc, arith, codes, decimal, inl, inr, length, refl, subst, sym, ◌==◌}
+use Rattle.std.proofs.Common.{◌≡◌, ◌∙◌, ◌<◌, ◌^◌, ℕ, List, [], ◌∷◌, ◌++◌, Option, Some, None, Bool, true, false, ap, append_assoc, arith, codes, decimal, inl, inr, length, refl, subst, sym, ◌==◌}
 use Rattle.std.proofs.lemmas.Bool.{cases_Bool}
 use Rattle.std.proofs.lemmas.Bool.Decides.{nat_tests}
 use Rattle.std.proofs.lemmas.Fmt.{decimal_is_IsNumeral}
@@ -7,18 +7,18 @@ use Rattle.std.proofs.lemmas.Str.Parse.{digit_from_value}
 use Rattle.std.specs.List.{list_all}
 use Rattle.std.specs.Str.Parse.{AllDigits}
 use Rattle.escrow.specs.Codes.{IsArticle, IsBranch, IsKey, is_article_byte, is_branch_byte, is_key_byte}
-use Rattle.escrow.specs.Ranges.{IsOrderNo}
+use Rattle.escrow.specs.Ranges.{IsMoment, IsOrderNo}
 use Rattle.matchit.specs.Params.{named}
 use Rattle.matchit.specs.Router.{RouteOf}
 use Rattle.matchit.specs.Seek.{first, has_slash, same_text, slash}
-use Rattle.web.specs.Asks.{Says}
+use Rattle.web.specs.Asks.{IsFloor, Says}
 use Rattle.web.specs.Messages.{Message}
 use Rattle.web.specs.Reads.{IsRead}
 use Rattle.web.specs.Routes.{IsView, part_of, parts_on, resource_of, routes}
 use Rattle.web.specs.declared.ask.Ask.{Ask}
 use Rattle.web.specs.declared.ask.Ask.TheVariants as ask
 use Rattle.web.specs.declared.route.Resource.{Resource}
-use Rattle.web.specs.declared.route.Resource.TheVariants.{Article, Branches, Commands, Desk, Field, Key, Order, Sheet}
+use Rattle.web.specs.declared.route.Resource.TheVariants.{Article, Branches, Commands, Desk, Due, Field, Key, Open, Order, Sheet}
 use Rattle.web.proofs.RouteResult.{IsPart, is_found}
 use Rattle.web.proofs.RouteShapes.{Alone, Before, IsAsciiShape, IsAsciiText, IsTarget, OfField, Shape, ascii_shape, route_of, route_to, routed, shape}
 use Rattle.web.proofs.OneView.{same}
@@ -119,8 +119,8 @@ digits_part (b ∷ bytes) some each = (omega (arith, digit_from_value b each.0),
         let e : (b == slash) ≡ false = grind (arith, nat_tests) in
         rw e (plain bytes each.1)
 
-number_part : (n : ℕ) → IsOrderNo n → IsPart (decimal n)
-number_part n h = let digits = decimal_is_IsNumeral n (omega (arith, h.1)) in digits_part (decimal n) digits.0.0 digits.0.1
+number_part : (n : ℕ) → n < 2 ^ 64 → IsPart (decimal n)
+number_part n h = let digits = decimal_is_IsNumeral n h in digits_part (decimal n) digits.0.0 digits.0.1
 
 part_plain : (bytes : List ℕ) → IsPart bytes → has_slash bytes ≡ false
 part_plain [] h = refl
@@ -152,6 +152,10 @@ view_said m (ask.Article article) get h =
     ((get, text_of (codes "/v1/articles/") (codes "article") m.head.target article (plain_of m.head.target Article h.0) h.1), h.2)
 view_said m (ask.Kept key) get h =
     ((get, text_of (codes "/v1/keys/") (codes "key") m.head.target key (plain_of m.head.target Key h.0) h.1), h.2)
+view_said m (ask.Open floor) get h =
+    ((get, text_of (codes "/v1/open/") (codes "number") m.head.target (decimal floor) (plain_of m.head.target Open h.0) h.1), h.2)
+view_said m (ask.Due moment) get h =
+    ((get, text_of (codes "/v1/due/") (codes "moment") m.head.target (decimal moment) (plain_of m.head.target Due h.0) h.1), h.2)
 view_said m (ask.Call r) get h = absurd h
 view_said m ask.BadCall get h = absurd h
 view_said m ask.Nothing get h = absurd h
@@ -189,7 +193,7 @@ is_read m (ask.Field branch article) ((get, e), is_branch, is_article) =
     let view : IsView target (ask.Field branch article) = (resource_is target (route_to Field) found, plain.3, plain.4, is_branch, is_article) in
     inr (get, subst (λ (t : List ℕ). IsView t (ask.Field branch article)) (sym (e ∙ field_text branch article)) view)
 is_read m (ask.Order n) ((get, e), h) =
-    let found = is_found Order (decimal n) (number_part n h) in
+    let found = is_found Order (decimal n) (number_part n (omega (arith, h.1))) in
     let (to, part) = before_read (codes "/v1/orders/") (codes "number") m.head.target (decimal n) Order refl found e in
     inr (get, (to, part, h))
 is_read m (ask.Sheet branch) ((get, e), h) =
@@ -203,5 +207,13 @@ is_read m (ask.Article article) ((get, e), h) =
 is_read m (ask.Kept key) ((get, e), h) =
     let found = is_found Key key (key_part key h) in
     let (to, part) = before_read (codes "/v1/keys/") (codes "key") m.head.target key Key refl found e in
+    inr (get, (to, part, h))
+is_read m (ask.Open floor) ((get, e), h) =
+    let found = is_found Open (decimal floor) (number_part floor (omega (arith, h))) in
+    let (to, part) = before_read (codes "/v1/open/") (codes "number") m.head.target (decimal floor) Open refl found e in
+    inr (get, (to, part, h))
+is_read m (ask.Due moment) ((get, e), h) =
+    let found = is_found Due (decimal moment) (number_part moment (omega (arith, h))) in
+    let (to, part) = before_read (codes "/v1/due/") (codes "moment") m.head.target (decimal moment) Due refl found e in
     inr (get, (to, part, h))
 is_read m ask.Nothing h = absurd h

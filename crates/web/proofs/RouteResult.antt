@@ -9,7 +9,7 @@ use Rattle.matchit.specs.Rows.{RowsOf, param_token, catch_all_token}
 use Rattle.matchit.specs.Seek.{cuts, first, has_slash, or_else, own, param_step, seek, slash, step}
 use Rattle.web.specs.Routes.{routes}
 use Rattle.web.specs.declared.route.Resource.{Resource}
-use Rattle.web.specs.declared.route.Resource.TheVariants.{Article, Branches, Commands, Desk, Field, Key, Order, Sheet}
+use Rattle.web.specs.declared.route.Resource.TheVariants.{Article, Branches, Commands, Desk, Due, Field, Key, Open, Order, Sheet}
 use Rattle.web.proofs.RouteShapes.{Alone, Before, OfField, Shape, route_to, routes_are, shape, table}
 use Rattle.web.proofs.TargetParts.{segment_is}
 
@@ -148,7 +148,9 @@ is_found Article = before_found (codes "/v1/articles/") (route_to Article) refl 
 is_found Branches = refl
 is_found Commands = refl
 is_found Desk = refl
+is_found Due = before_found (codes "/v1/due/") (route_to Due) refl refl
 is_found Field = field_found
 is_found Key = before_found (codes "/v1/keys/") (route_to Key) refl refl
+is_found Open = before_found (codes "/v1/open/") (route_to Open) refl refl
 is_found Order = before_found (codes "/v1/orders/") (route_to Order) refl refl
 is_found Sheet = before_found (codes "/v1/sheets/") (route_to Sheet) refl refl

@@ -12,7 +12,7 @@ use Rattle.matchit.specs.Rows.{RowsOf, param_token, catch_all_token}
 use Rattle.matchit.specs.Seek.{first, has_slash, slash}
 use Rattle.web.specs.Routes.{AllFit, route_texts, routes}
 use Rattle.web.specs.declared.route.Resource.{Resource}
-use Rattle.web.specs.declared.route.Resource.TheVariants.{Article, Branches, Commands, Desk, Field, Key, Order, Sheet}
+use Rattle.web.specs.declared.route.Resource.TheVariants.{Article, Branches, Commands, Desk, Due, Field, Key, Open, Order, Sheet}
 use Rattle.web.proofs.RouteSearch.{Each, found_fits}
 
 -- ---- the routes
@@ -28,8 +28,10 @@ shape Article = Before (codes "/v1/articles/") (codes "article")
 shape Branches = Alone (codes "/v1/branches")
 shape Commands = Alone (codes "/v1/commands")
 shape Desk = Alone (codes "/v1/desk")
+shape Due = Before (codes "/v1/due/") (codes "moment")
 shape Field = OfField
 shape Key = Before (codes "/v1/keys/") (codes "key")
+shape Open = Before (codes "/v1/open/") (codes "number")
 shape Order = Before (codes "/v1/orders/") (codes "number")
 shape Sheet = Before (codes "/v1/sheets/") (codes "branch")
 
@@ -60,7 +62,7 @@ row value = ((route_to value).pattern, route_to value)
 
 -- in the order of their rows
 abbrev in_order : List Resource
-in_order = Article ∷ Branches ∷ Commands ∷ Desk ∷ Field ∷ Key ∷ Order ∷ Sheet ∷ []
+in_order = Article ∷ Branches ∷ Commands ∷ Desk ∷ Due ∷ Field ∷ Key ∷ Open ∷ Order ∷ Sheet ∷ []
 
 abbrev pub table : RowsOf (RouteOf Resource)
 table = map row in_order
@@ -71,7 +73,7 @@ routes_are = refl
 
 pub all_fit : AllFit route_texts []
 unfolding matchit_on_literals
-all_fit = (refl, (refl, (refl, (refl, (refl, (refl, (refl, (refl, tt))))))))
+all_fit = (refl, (refl, (refl, (refl, (refl, (refl, (refl, (refl, (refl, (refl, tt))))))))))
 
 -- its bytes are ASCII
 abbrev pub IsAsciiText : List ℕ → Type 0
@@ -87,8 +89,10 @@ ascii_shape Article = (refl, refl)
 ascii_shape Branches = refl
 ascii_shape Commands = refl
 ascii_shape Desk = refl
+ascii_shape Due = (refl, refl)
 ascii_shape Field = tt
 ascii_shape Key = (refl, refl)
+ascii_shape Open = (refl, refl)
 ascii_shape Order = (refl, refl)
 ascii_shape Sheet = (refl, refl)
 

@@ -11,7 +11,8 @@ use Rattle.book.specs.declared.order.Kind.TheVariants.{Plain, Transfer}
 use Rattle.book.specs.declared.order.Line.{Line}
 use Rattle.book.specs.declared.order.State.TheVariants.{Aborted, Committed, Open}
 use Rattle.web.specs.Answers.{Answer, answer_bytes, bad_answer, head_line, json_answer, memory_answer, message_answer, none_answer, reply_answer, stopped_answer, text_answer}
-use Rattle.web.specs.Objects.{branches_object, desk_object, field_object, kept_object, order_object}
+use Rattle.web.specs.Objects.{branches_object, desk_object, field_object, kept_object, order_object, orders_object}
+use Rattle.web.specs.Orders.{due, open_above}
 
 -- the answer is this status line, its two header lines, an empty line and this body
 abbrev pub IsBytesOf : Answer → List ℕ → List ℕ → List ℕ → List ℕ → Type 0
@@ -99,6 +100,13 @@ pub record WorkedAnswers : Type 0 where
       (codes "{\"kind\":\"plain\",\"lines\":[],\"number\":9,\"state\":\"aborted\",\"until\":0}")
   pub desk : IsBytes (json_answer 200 (desk_object small)) (codes "HTTP/1.1 200 OK") (codes "53")
       (codes "{\"clock\":5,\"fields\":1,\"open\":1,\"orders\":3,\"places\":1}")
+  pub listed : IsBytes (json_answer 200 (orders_object (open_above small 0))) (codes "HTTP/1.1 200 OK") (codes "141")
+      (codes "{\"orders\":[{\"kind\":\"plain\",\"lines\":[{\"article\":\"A-1\",\"branch\":\"N1\",\"held\":35,\"used\":0,\"way\":\"take\"}],\"number\":7,\"state\":\"open\",\"until\":120}]}")
+  pub none_open : IsBytes (json_answer 200 (orders_object (open_above small 7))) (codes "HTTP/1.1 200 OK") (codes "13")
+      (codes "{\"orders\":[]}")
+  pub none_due : IsBytes (json_answer 200 (orders_object (due small 119))) (codes "HTTP/1.1 200 OK") (codes "13")
+      (codes "{\"orders\":[]}")
+  pub one_due : due small 120 ≡ opened ∷ []
   pub branches : IsBytes (json_answer 200 (branches_object (codes "N1" ∷ codes "N2" ∷ []))) (codes "HTTP/1.1 200 OK")
       (codes "24") (codes "{\"branches\":[\"N1\",\"N2\"]}")
   pub kept : IsBytes (json_answer 200 (kept_object made_firm)) (codes "HTTP/1.1 200 OK")

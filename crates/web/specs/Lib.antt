@@ -1,6 +1,7 @@
 pub mod Messages
 pub mod Routes
 pub mod Branches
+pub mod Orders
 pub mod Objects
 pub mod Bodies
 pub mod Asks

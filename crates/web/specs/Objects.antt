@@ -1,12 +1,12 @@
 -- The JSON objects of bodies, their members in the order of their names.
-use Rattle.std.specs.Prelude.{ℕ, List, [], ◌∷◌, codes, length, map}
-use Rattle.serde_json.specs.Data.{Data, Members, array, member, no_members, number, object, string, unsigned}
+use Rattle.std.specs.Prelude.{ℕ, List, [], ◌∷◌, codes, length, map, option_map, unwrap_or}
+use Rattle.serde_json.specs.Data.{Data, Members, array, member, no_members, null, number, object, string, unsigned}
 use Rattle.serde_json.specs.View.{items_of}
 use Rattle.words.specs.OpenLines.{way_word}
 use Rattle.words.specs.Spelling.{spelling}
 use Rattle.words.specs.Replies.{refusal_code, refusal_name}
 use Rattle.words.specs.declared.reply.Refusal.{Refusal}
-use Rattle.book.specs.Ledger.{Kept, Ledger, Order, open_orders, places, shown_state}
+use Rattle.book.specs.Ledger.{Kept, Ledger, Order, open_orders, order_numbered, places, shown_state}
 use Rattle.book.specs.declared.book.views.FieldView.{FieldView}
 use Rattle.book.specs.declared.book.views.OrderView.{OrderView}
 use Rattle.book.specs.declared.order.Kind.{Kind}
@@ -98,3 +98,19 @@ order_object o = shown_object o.number o.kind o.until (shown_state o.state o.fir
 -- what the view shows
 abbrev pub view_object : OrderView → Data
 view_object v = shown_object v.number v.kind v.until v.state v.lines.now
+
+-- {"orders":[ORDER,..]}
+abbrev pub orders_object : List Order → Data
+orders_object orders = object_of ((codes "orders", array (items_of (map order_object orders))) ∷ [])
+
+-- ---- how they are written (private)
+
+-- the object of the order of that number, or null
+abbrev pub numbered_object : Ledger → ℕ → Data
+numbered_object A n = unwrap_or (option_map order_object (order_numbered A n)) null
+
+abbrev pub listed_objects : Ledger → List ℕ → Data
+listed_objects A numbers = array (items_of (map (numbered_object A) numbers))
+
+abbrev pub listed_object : Ledger → List ℕ → Data
+listed_object A numbers = object_of ((codes "orders", listed_objects A numbers) ∷ [])

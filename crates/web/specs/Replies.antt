@@ -9,9 +9,10 @@ use Rattle.book.specs.declared.book.views.FieldView.{FieldView}
 use Rattle.files.specs.Sheets.{IsArticleSheet, IsBranchSheet}
 use Rattle.web.specs.Answers.{Answer, bad_answer, json_answer, none_answer, reply_answer, stopped_answer, text_answer}
 use Rattle.web.specs.Branches.{AreBranches}
+use Rattle.web.specs.Orders.{due, open_above}
 use Rattle.web.specs.declared.ask.Ask.{Ask}
 use Rattle.web.specs.declared.ask.Ask.TheVariants as ask
-use Rattle.web.specs.Objects.{branches_object, desk_object, field_object, kept_object, order_object}
+use Rattle.web.specs.Objects.{branches_object, desk_object, field_object, kept_object, order_object, orders_object}
 
 -- the object of what is found, or that nothing is there
 abbrev pub TellsFound : {X : Type 0} → (X → Data) → Option X → Answer → Type 0
@@ -40,6 +41,8 @@ AnswersView A (ask.Order number) answer = TellsFound order_object (order_numbere
 AnswersView A (ask.Sheet branch) answer = TellsText (IsBranchSheet A branch) answer
 AnswersView A (ask.Article article) answer = TellsText (IsArticleSheet A article) answer
 AnswersView A (ask.Kept key) answer = TellsFound kept_object (kept_under A key) answer
+AnswersView A (ask.Open floor) answer = answer ≡ json_answer 200 (orders_object (open_above A floor))
+AnswersView A (ask.Due moment) answer = answer ≡ json_answer 200 (orders_object (due A moment))
 AnswersView A ask.BadCall answer = answer ≡ bad_answer
 AnswersView A ask.Nothing answer = answer ≡ none_answer
 AnswersView A (ask.Call request) answer = ⊥

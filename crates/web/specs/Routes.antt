@@ -2,7 +2,7 @@
 -- read).
 use Rattle.std.specs.Prelude.{◌≡◌, ℕ, List, [], ◌∷◌, Option, None, Some, codes, decimal, option_and_then, option_map, Result, Ok, Err}
 use Rattle.escrow.specs.Codes.{IsArticle, IsBranch, IsKey}
-use Rattle.escrow.specs.Ranges.{IsOrderNo}
+use Rattle.escrow.specs.Ranges.{IsMoment, IsOrderNo}
 use Rattle.matchit.specs.Order.{placed}
 use Rattle.matchit.specs.Params.{named, walk}
 use Rattle.matchit.specs.Route.{Scan, parse_route}
@@ -11,10 +11,11 @@ use Rattle.matchit.specs.Rows.{RowsOf}
 use Rattle.matchit.specs.Seek.{first}
 use Rattle.matchit.specs.declared.error.InsertError.{InsertError}
 use Rattle.matchit.specs.declared.params.Params.{Params}
+use Rattle.web.specs.Asks.{IsFloor}
 use Rattle.web.specs.declared.ask.Ask.{Ask}
 use Rattle.web.specs.declared.ask.Ask.TheVariants as ask
 use Rattle.web.specs.declared.route.Resource.{Resource}
-use Rattle.web.specs.declared.route.Resource.TheVariants.{Article, Branches, Commands, Desk, Field, Key, Order, Sheet}
+use Rattle.web.specs.declared.route.Resource.TheVariants.{Article, Branches, Commands, Desk, Due, Field, Key, Open, Order, Sheet}
 
 -- ---- routes
 
@@ -25,8 +26,10 @@ route_texts =
     ∷ (codes "/v1/branches", Branches)
     ∷ (codes "/v1/commands", Commands)
     ∷ (codes "/v1/desk", Desk)
+    ∷ (codes "/v1/due/{moment}", Due)
     ∷ (codes "/v1/fields/{branch}/{article}", Field)
     ∷ (codes "/v1/keys/{key}", Key)
+    ∷ (codes "/v1/open/{number}", Open)
     ∷ (codes "/v1/orders/{number}", Order)
     ∷ (codes "/v1/sheets/{branch}", Sheet)
     ∷ []
@@ -89,6 +92,10 @@ IsView target (ask.Kept key) =
     (resource_of target ≡ Some Key) × (part_of (codes "key") target ≡ Some key) × IsKey key
 IsView target (ask.Order number) =
     (resource_of target ≡ Some Order) × (part_of (codes "number") target ≡ Some (decimal number)) × IsOrderNo number
+IsView target (ask.Open floor) =
+    (resource_of target ≡ Some Open) × (part_of (codes "number") target ≡ Some (decimal floor)) × IsFloor floor
+IsView target (ask.Due moment) =
+    (resource_of target ≡ Some Due) × (part_of (codes "moment") target ≡ Some (decimal moment)) × IsMoment moment
 IsView target (ask.Sheet branch) =
     (resource_of target ≡ Some Sheet) × (part_of (codes "branch") target ≡ Some branch) × IsBranch branch
 IsView target (ask.Call request) = ⊥

@@ -5,13 +5,14 @@ ghost use Rattle.std.specs.Str.{IsUtf8};
 ghost use Rattle.book.specs.Ledger.{Order};
 ghost use Rattle.book.specs.Views.{ShowsOrder};
 ghost use Rattle.web.specs.Answers.{Answer, answer_bytes, header_line, json_answer, json_of, reply_answer, status_line, text_answer};
-ghost use Rattle.web.specs.Objects.{branches_object, desk_object, field_object, order_object, place_object, placed_object, refused_object};
+ghost use Rattle.web.specs.Objects.{branches_object, desk_object, field_object, listed_object, order_object, place_object, placed_object, refused_object};
 
 use crate::objects::{
-    branches_json, desk_json, field_json, kept_json, order_json, place_json, refused_json,
+    branches_json, desk_json, field_json, kept_json, order_json, orders_json, place_json,
+    refused_json,
 };
 use book::{Book, FieldView, KeptView, OrderView};
-use escrow::Branch;
+use escrow::{Branch, OrderNo};
 use http::StatusCode;
 use itoa::Buffer;
 use std::alloc::{AllocError, Global};
@@ -105,6 +106,14 @@ pub fn order_answer(alloc: Global, view: &OrderView) -> Result<Vec<u8>, AllocErr
         (λ out. out.items ≡ answer_bytes (json_answer 200 (order_object order))) }
 {
     json_answer(alloc, StatusCode::OK, &order_json(alloc, view)?)
+}
+
+/// The answer that tells the orders of these numbers.
+pub fn orders_answer(alloc: Global, book: &Book, numbers: &[OrderNo]) -> Result<Vec<u8>, AllocError>
+    ensures { IfOk result (λ out. out.items ≡ answer_bytes
+        (json_answer 200 (listed_object book.now.ledger numbers.now))) }
+{
+    json_answer(alloc, StatusCode::OK, &orders_json(alloc, book, numbers)?)
 }
 
 /// The answer that tells what is kept under a key.

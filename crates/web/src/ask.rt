@@ -10,7 +10,7 @@ use crate::body::read_request;
 use crate::intake::Found;
 use crate::route::Routes;
 use crate::target::{takes_commands, view_of};
-use escrow::{Article, Branch, Key, OrderNo};
+use escrow::{Article, Branch, Key, Moment, OrderNo};
 use std::alloc::{AllocError, Global};
 use std::str;
 use words::Request;
@@ -36,6 +36,10 @@ pub enum Ask {
     Article(Article),
     /// What is kept under a key.
     Kept(Key),
+    /// The first open orders above a number, which is 0 or an order's.
+    Open(u64),
+    /// The first orders that are due at a moment.
+    Due(Moment),
     /// Nothing that is there.
     Nothing,
 }

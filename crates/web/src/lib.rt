@@ -14,6 +14,7 @@ mod head;
 mod intake;
 mod laws;
 mod objects;
+mod orders;
 mod route;
 mod served;
 mod size;

@@ -6,11 +6,11 @@ ghost use Rattle.serde_json.specs.View.{view as data_of};
 ghost use Rattle.serde_json.specs.Written.{compact_text};
 ghost use Rattle.book.specs.Ledger.{Order};
 ghost use Rattle.book.specs.Views.{ShowsOrder};
-ghost use Rattle.web.specs.Objects.{branches_object, desk_object, field_object, line_object, line_objects, order_object, view_object, place_object, placed_object, refused_object, texts};
+ghost use Rattle.web.specs.Objects.{branches_object, desk_object, field_object, line_object, line_objects, listed_object, listed_objects, numbered_object, order_object, view_object, place_object, placed_object, refused_object, texts};
 
 use crate::word::{article_text, branch_text, kind_text, state_text, utf8_text, way_text};
 use book::{Book, FieldView, KeptView, Line, OrderView};
-use escrow::Branch;
+use escrow::{Branch, OrderNo};
 use serde_json::{Value, json};
 use std::alloc::{AllocError, Global};
 use words::Refusal;
@@ -171,4 +171,40 @@ pub fn order_json(alloc: Global, view: &OrderView) -> Result<Vec<u8>, AllocError
         (λ text. text.items ≡ compact_text (order_object order)) }
 {
     order_value(alloc, view)?.to_vec(alloc)
+}
+
+/// The object of the order of that number, or `null` where there is none.
+fn numbered_value(alloc: Global, book: &Book, number: OrderNo) -> Result<Value, AllocError>
+    ensures { IfOk result (λ value. data_of value ≡ numbered_object book.now.ledger number) }
+{
+    match book.order(number) {
+        Some(view) => order_value(alloc, &view),
+        None => Ok(Value::Null),
+    }
+}
+
+/// The objects of the orders of these numbers.
+fn listed_values(alloc: Global, book: &Book, numbers: &[OrderNo]) -> Result<Value, AllocError>
+    ensures { IfOk result (λ value. data_of value ≡ listed_objects book.now.ledger numbers.now) }
+{
+    let mut values = Vec::new(alloc);
+    for number in numbers {
+        values.push(numbered_value(alloc, book, *number)?)?;
+    }
+    Ok(Value::Array(values))
+}
+
+/// The object of a list of orders.
+fn listed_value(alloc: Global, book: &Book, numbers: &[OrderNo]) -> Result<Value, AllocError>
+    ensures { IfOk result (λ value. data_of value ≡ listed_object book.now.ledger numbers.now) }
+{
+    let orders = listed_values(alloc, book, numbers)?;
+    json!(in alloc; {"orders": orders})
+}
+
+/// The text of the object of a list of the orders of these numbers.
+pub fn orders_json(alloc: Global, book: &Book, numbers: &[OrderNo]) -> Result<Vec<u8>, AllocError>
+    ensures { IfOk result (λ text. text.items ≡ compact_text (listed_object book.now.ledger numbers.now)) }
+{
+    listed_value(alloc, book, numbers)?.to_vec(alloc)
 }

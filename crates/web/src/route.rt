@@ -9,13 +9,15 @@ use std::alloc::Global;
 use std::marker::Model;
 
 /// The routes, each with what it leads to.
-const ROUTES: [(&str, Resource); 8] = [
+const ROUTES: [(&str, Resource); 10] = [
     ("/v1/articles/{article}", Resource::Article),
     ("/v1/branches", Resource::Branches),
     ("/v1/commands", Resource::Commands),
     ("/v1/desk", Resource::Desk),
+    ("/v1/due/{moment}", Resource::Due),
     ("/v1/fields/{branch}/{article}", Resource::Field),
     ("/v1/keys/{key}", Resource::Key),
+    ("/v1/open/{number}", Resource::Open),
     ("/v1/orders/{number}", Resource::Order),
     ("/v1/sheets/{branch}", Resource::Sheet),
 ];
@@ -27,8 +29,10 @@ pub enum Resource {
     Branches,
     Commands,
     Desk,
+    Due,
     Field,
     Key,
+    Open,
     Order,
     Sheet,
 }

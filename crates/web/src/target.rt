@@ -3,14 +3,15 @@
 
 ghost use Rattle.std.specs.Prelude.{◌≡◌, ◌≢◌, ◌↔◌, ℕ, IfNone, IfSome, IsTrue, List, MatchOption, Some, codes, decimal};
 ghost use Rattle.escrow.specs.Codes.{IsArticle, IsBranch, IsKey};
-ghost use Rattle.escrow.specs.Ranges.{IsOrderNo};
+ghost use Rattle.escrow.specs.Ranges.{IsMoment, IsOrderNo};
 ghost use Rattle.matchit.specs.Params.{AllText, named};
+ghost use Rattle.web.specs.Asks.{IsFloor};
 ghost use Rattle.web.specs.Routes.{IsView, resource_of, routes, taken};
 ghost use Rattle.web.specs.declared.ask.Ask.{Ask as AskOf};
 
 use crate::ask::Ask;
 use crate::route::Resource;
-use escrow::{Article, Branch, Key, OrderNo};
+use escrow::{Article, Branch, Key, MAX_ORDER_NO, Moment, OrderNo};
 use matchit::{Params, Router};
 use words::read_number;
 
@@ -36,6 +37,8 @@ pub fn view_of(router: &Router<Resource>, target: &str) -> Option<Ask>
         Resource::Sheet => Some(Ask::Sheet(branch_of(&found.params)?)),
         Resource::Article => Some(Ask::Article(article_of(&found.params)?)),
         Resource::Key => Some(Ask::Kept(key_of(&found.params)?)),
+        Resource::Open => Some(Ask::Open(floor_of(&found.params)?)),
+        Resource::Due => Some(Ask::Due(moment_of(&found.params)?)),
     }
 }
 
@@ -86,6 +89,24 @@ fn order_of(params: &Params) -> Option<OrderNo>
     number_of(params.get("number")?)
 }
 
+// The number that is named in a target, above which orders are asked for.
+fn floor_of(params: &Params) -> Option<u64>
+    ensures { AllText (taken params.now) → MatchOption result
+        ((n : ℕ) → IsFloor n → named (codes "number") (taken params.now) ≢ Some (decimal n))
+        (λ n. (named (codes "number") (taken params.now) ≡ Some (decimal n)) × IsFloor n) }
+{
+    floor_in(params.get("number")?)
+}
+
+// The moment that is named in a target.
+fn moment_of(params: &Params) -> Option<Moment>
+    ensures { AllText (taken params.now) → MatchOption result
+        ((n : ℕ) → IsMoment n → named (codes "moment") (taken params.now) ≢ Some (decimal n))
+        (λ n. (named (codes "moment") (taken params.now) ≡ Some (decimal n)) × IsMoment n) }
+{
+    moment_in(params.get("moment")?)
+}
+
 // The order of a number that is written in decimal with no zero in front.
 fn number_of(text: &str) -> Option<OrderNo>
     ensures some { IfSome result (λ n. (text.now ≡ decimal n) × IsOrderNo n) }
@@ -93,4 +114,26 @@ fn number_of(text: &str) -> Option<OrderNo>
 {
     let number = read_number(text.as_bytes())?;
     OrderNo::new(number)
+}
+
+// The number that is written in decimal with no zero in front, where it is 0 or an order's.
+fn floor_in(text: &str) -> Option<u64>
+    ensures some { IfSome result (λ n. (text.now ≡ decimal n) × IsFloor n) }
+    ensures none { IfNone result ((n : ℕ) → IsFloor n → text.now ≢ decimal n) }
+{
+    let number = read_number(text.as_bytes())?;
+    if number <= MAX_ORDER_NO {
+        Some(number)
+    } else {
+        None
+    }
+}
+
+// The moment that is written in decimal with no zero in front.
+fn moment_in(text: &str) -> Option<Moment>
+    ensures some { IfSome result (λ n. (text.now ≡ decimal n) × IsMoment n) }
+    ensures none { IfNone result ((n : ℕ) → IsMoment n → text.now ≢ decimal n) }
+{
+    let number = read_number(text.as_bytes())?;
+    Moment::new(number)
 }

@@ -6,14 +6,16 @@ ghost use Rattle.web.specs.Turns.{IsNoCall, ShowsView};
 ghost use Rattle.web.specs.declared.ask.Ask.TheVariants as ask;
 
 use crate::answer::{
-    branches_answer, desk_answer, field_answer, kept_answer, order_answer, text_answer,
+    branches_answer, desk_answer, field_answer, kept_answer, order_answer, orders_answer,
+    text_answer,
 };
 use crate::ask::Ask;
 use crate::branches::branches_of;
 use crate::fixed::Fixed;
+use crate::orders::{due_numbers, open_numbers};
 use book::Book;
 use desk::Answer;
-use escrow::{Article, Branch, Key, OrderNo};
+use escrow::{Article, Branch, Key, Moment, OrderNo};
 use files::{article_sheet, branch_sheet};
 use std::alloc::{AllocError, Global};
 
@@ -83,6 +85,22 @@ fn show_kept(alloc: Global, book: &Book, key: Key) -> Result<Answer, AllocError>
     }
 }
 
+fn show_open(alloc: Global, book: &Book, floor: u64) -> Result<Answer, AllocError>
+    requires { Good book.now.ledger }
+    ensures { IfOk result (λ shown. ShowsView book.now.ledger (ask.Open floor) shown) }
+{
+    let numbers = open_numbers(alloc, book, floor)?;
+    Ok(Answer::Made(orders_answer(alloc, book, &numbers)?))
+}
+
+fn show_due(alloc: Global, book: &Book, moment: Moment) -> Result<Answer, AllocError>
+    requires { Good book.now.ledger }
+    ensures { IfOk result (λ shown. ShowsView book.now.ledger (ask.Due moment) shown) }
+{
+    let numbers = due_numbers(alloc, book, moment)?;
+    Ok(Answer::Made(orders_answer(alloc, book, &numbers)?))
+}
+
 /// What is shown where nothing is called.
 pub fn show_view(alloc: Global, book: &Book, ask: &Ask) -> Result<Answer, AllocError>
     requires good { Good book.now.ledger }
@@ -99,6 +117,8 @@ pub fn show_view(alloc: Global, book: &Book, ask: &Ask) -> Result<Answer, AllocE
         Ask::Sheet(branch) => show_sheet(alloc, book, *branch),
         Ask::Article(article) => show_article(alloc, book, *article),
         Ask::Kept(key) => show_kept(alloc, book, *key),
+        Ask::Open(floor) => show_open(alloc, book, *floor),
+        Ask::Due(moment) => show_due(alloc, book, *moment),
         Ask::Nothing => Ok(Fixed::Nothing.answer()),
     }
 }

@@ -1,5 +1,5 @@
 use Rattle.std.proofs.Common.{◌∙◌, Option, None, Some, IfNone, ap, codes, sym}
-use Rattle.web.specs.declared.route.Resource.TheVariants.{Article, Field, Key, Order, Sheet}
+use Rattle.web.specs.declared.route.Resource.TheVariants.{Article, Due, Field, Key, Open, Order, Sheet}
 use Rattle.web.proofs.OneView.{no_view}
 use Rattle.web.proofs.TargetText.{match_of}
 use Rattle.web.proofs.target.view_of.Goals as goal
@@ -74,3 +74,27 @@ returns-in_ok-key_of-in-Key-clause-some c =
     let m = match_of _ _ c.in-Ok.found.params _ c.requires c.utf8.target c.in-Ok.ensures.found c.in-Ok.ensures.path in
     let part = c.in_ok-key_of-in-Key.ensures m.text in
     (m.resource ∙ ap Some c.in-Key.is, m.part (codes "key") ∙ part.0, part.1)
+
+pub returns-in_err-floor_of-in-Open-clause-none : goal.returns-in_err-floor_of-in-Open-clause-none
+returns-in_err-floor_of-in-Open-clause-none c =
+    let m = match_of _ _ c.in-Ok.found.params _ c.requires c.utf8.target c.in-Ok.ensures.found c.in-Ok.ensures.path in
+    let none = c.in_err-floor_of-in-Open.ensures m.text in
+    if_none _ (no_view _ Open (m.resource ∙ ap Some c.in-Open.is) (λ (part, e, (n, is, written)). none n is (sym (m.part (codes "number")) ∙ e ∙ ap Some written)))
+
+pub returns-in_ok-floor_of-in-Open-clause-some : goal.returns-in_ok-floor_of-in-Open-clause-some
+returns-in_ok-floor_of-in-Open-clause-some c =
+    let m = match_of _ _ c.in-Ok.found.params _ c.requires c.utf8.target c.in-Ok.ensures.found c.in-Ok.ensures.path in
+    let part = c.in_ok-floor_of-in-Open.ensures m.text in
+    (m.resource ∙ ap Some c.in-Open.is, m.part (codes "number") ∙ part.0, part.1)
+
+pub returns-in_err-moment_of-in-Due-clause-none : goal.returns-in_err-moment_of-in-Due-clause-none
+returns-in_err-moment_of-in-Due-clause-none c =
+    let m = match_of _ _ c.in-Ok.found.params _ c.requires c.utf8.target c.in-Ok.ensures.found c.in-Ok.ensures.path in
+    let none = c.in_err-moment_of-in-Due.ensures m.text in
+    if_none _ (no_view _ Due (m.resource ∙ ap Some c.in-Due.is) (λ (part, e, (n, is, written)). none n is (sym (m.part (codes "moment")) ∙ e ∙ ap Some written)))
+
+pub returns-in_ok-moment_of-in-Due-clause-some : goal.returns-in_ok-moment_of-in-Due-clause-some
+returns-in_ok-moment_of-in-Due-clause-some c =
+    let m = match_of _ _ c.in-Ok.found.params _ c.requires c.utf8.target c.in-Ok.ensures.found c.in-Ok.ensures.path in
+    let part = c.in_ok-moment_of-in-Due.ensures m.text in
+    (m.resource ∙ ap Some c.in-Due.is, m.part (codes "moment") ∙ part.0, part.1)

@@ -1,0 +1,38 @@
+//! Laws of a desk that stopped while it carried out a log.
+
+ghost use Rattle.book.specs.Answers.{After, Runs};
+ghost use Rattle.book.specs.Good.{Good};
+ghost use Rattle.book.specs.Ledger.{Ledger, places};
+ghost use Rattle.laws.specs.Walks.{AreInRange, AreKeptBehind, GoesOnBehind};
+ghost use Rattle.std.specs.Prelude.{◌≡◌, ◌≢◌, ◌≤◌, ◌+◌, ◌∷◌, ℕ, List, [], drop};
+ghost use Rattle.words.specs.declared.command.Request.{Request};
+ghost use Rattle.words.specs.declared.reply.Reply.{Reply};
+
+/// A desk began at A, and stopped at B after some of the log's requests. Those that it keeps are one list, and stand in
+/// the log; the desk goes on behind the fewest requests of the log in which they stand. It had carried out so many at
+/// least, and what it carried out beyond them changed nothing. From there it replies as a desk that did not stop, and
+/// comes to that one's ledger.
+pub fn stopped_desks_find_where_to_go_on()
+    ensures kept { (A B : Ledger) (log : List Request) (i : ℕ) → Good A → AreInRange log → After A log i B
+        → (kept : List Request) × AreKeptBehind B (places A) kept }
+    ensures one { (B : Ledger) (place : ℕ) (kept others : List Request) → Good B → AreKeptBehind B place kept
+        → AreKeptBehind B place others → kept ≡ others }
+    ensures found { (A B : Ledger) (log : List Request) (i : ℕ) (kept : List Request) → Good A → AreInRange log
+        → After A log i B → AreKeptBehind B (places A) kept → (j : ℕ) × GoesOnBehind kept log j }
+    ensures stands { (A B : Ledger) (log : List Request) (i j : ℕ) (kept : List Request) → Good A → AreInRange log
+        → After A log i B → AreKeptBehind B (places A) kept → GoesOnBehind kept log j
+        → (j ≤ i) × ((k : ℕ) → j ≤ k → k ≤ i → After A log k B) }
+    ensures goes_on { (A B C : Ledger) (log : List Request) (j : ℕ) (replies : List Reply) → After A log j B
+        → Runs A log replies C → Runs B (drop j log) (drop j replies) C }
+{}
+
+/// One walk over the log finds where a desk goes on: it takes each kept request in turn where that first comes, and
+/// passes what comes between. Where the log ends before all are taken, it is not the log of that desk.
+pub fn one_walk_finds_the_place()
+    ensures taken { (n : Request) (kept log : List Request) (j : ℕ) → GoesOnBehind kept log j
+        → GoesOnBehind (n ∷ kept) (n ∷ log) (j + 1) }
+    ensures passed { (n r : Request) (kept log : List Request) (j : ℕ) → r ≢ n → GoesOnBehind (n ∷ kept) log j
+        → GoesOnBehind (n ∷ kept) (r ∷ log) (j + 1) }
+    ensures end { (log : List Request) → GoesOnBehind [] log 0 }
+    ensures other { (n : Request) (kept : List Request) (j : ℕ) → GoesOnBehind (n ∷ kept) [] j → ⊥ }
+{}

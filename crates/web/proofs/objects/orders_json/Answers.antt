@@ -1,0 +1,10 @@
+use Rattle.std.proofs.Common.{◌∙◌, ap}
+use Rattle.std.proofs.lemmas.Result.{IfOk-weaker}
+use Rattle.serde_json.specs.Written.{compact_text}
+use Rattle.web.proofs.OrderLists.{listed_has_no_float}
+use Rattle.web.proofs.objects.orders_json.Goals as goal
+
+pub returns : goal.returns
+returns c = IfOk-weaker c.to_vec.result _ _
+    (λ text e. e (listed_has_no_float c.args.book.now.ledger c.args.numbers.now _ c.in_ok-listed_value.ensures) ∙ ap compact_text c.in_ok-listed_value.ensures)
+    c.to_vec.ensures.text
