@@ -15,6 +15,8 @@ import unittest
 from support import DEPLOY, TOP
 from support.cases import ProgramCase, needs
 from support.copies import BACKUP, alone
+from support.deal_chains import chain
+from support.deal_runs import CARRIER
 from support.fronts import PAGE, TOGETHER
 from support.programs import done, expect, note
 from support.replica_clients import asked, commanded, wait_until_well
@@ -28,6 +30,7 @@ CLOCK = os.path.join(DEPLOY, "stockdesk-clock")
 UNITS = sorted(glob.glob(os.path.join(DEPLOY, "*.service")) + glob.glob(os.path.join(DEPLOY, "*.timer")))
 # a unit of a service, and below what its exposure is
 EXPOSED = {"stockdesk@.service": 2.0, "stockdesk-backup@.service": 2.5, "stockdesk-check@.service": 2.5}
+EXPOSED["stockdesk-between.service"] = 2.5
 EXPOSED["stockdesk-clock@.service"] = 2.5
 EXPOSED["stockdesk-replica@.service"] = 2.5
 SHARED = [
@@ -140,7 +143,7 @@ class Package(ProgramCase):
             told = run([self.program, command, "--help"])
             first = (told.stdout + told.stderr).splitlines()[0]
             expect(first in page, f"nothing is said of {command}: {first}")
-        for tool in ["backup", "clock", "replica", "restore", "rollover"]:
+        for tool in ["backup", "between", "clock", "replica", "restore", "rollover"]:
             expect(f"usage: stockdesk-{tool}" in page, f"nothing is said of {tool}")
             expect(os.path.exists(os.path.join(self.folder, f"usr/share/man/man1/stockdesk-{tool}.1.gz")), f"no page of {tool}")
         for line in ["not a desk", "old version", "damaged", "store", "memory", "io", "usage", "record N", "csv"]:
@@ -251,7 +254,7 @@ class Units(ProgramCase):
     def test_the_guide_switches_on_each_timer(self):
         with open(os.path.join(TOP, "docs", "OPERATING.md"), encoding="utf-8") as file:
             [words] = re.findall(r"^systemctl enable --now (.*)$", file.read(), re.MULTILINE)
-        timers = [os.path.basename(unit).replace("@", "@shop") for unit in UNITS if unit.endswith(".timer")]
+        timers = [os.path.basename(unit).replace("@", "@shop") for unit in UNITS if unit.endswith("@.timer")]
         expect(sorted(words.split()) == sorted(["stockdesk@shop", *timers]), f"{words}")
 
     @needs("strace")
@@ -266,6 +269,17 @@ class Units(ProgramCase):
         connection.close()
         service.expect_end()
         expect_allowed(log, "accept4")
+
+    @needs("strace")
+    def test_the_carrier_needs_no_call_that_its_unit_refuses(self):
+        """A deal between two desks, under strace."""
+        with chain(self.program, self.folder) as desks:
+            wrapper, log = traced(self.folder, CARRIER)
+            told = run([wrapper, "900000001", *desks.urls(), "--move", "A-1", "7", "N0", "N1"])
+            expect(told.returncode == 0, f"not moved: {told}")
+            told = run([wrapper, "--resume-all", *desks.urls()])
+            expect(told.returncode == 0, f"not looked at: {told}")
+            expect_allowed(log, "connect")
 
     @needs("strace")
     def test_the_tools_need_no_call_that_their_units_refuse(self):
