@@ -10,7 +10,7 @@ from contextlib import contextmanager
 
 from loads import PATIENCE, Load, Work, by_wrk
 from services import Pace, Service
-from support.fronts import CONFIGURATION, OFFICE, Haproxy, credentials, head_of
+from support.fronts import CONFIGURATION, OFFICE, PAGE, Haproxy, credentials, head_of
 
 SHEET = "/v1/sheets/N0"
 # as older fronts, whose buffers were larger, had it; the environment of the program is not the front's
@@ -31,7 +31,8 @@ class Fronted(Service):
             for name in MALLOC:
                 self.front.environment.pop(name, None)
             if self.configuration != CONFIGURATION:
-                self.front.environment.update(MALLOC)
+                # an older front's page is one file
+                self.front.environment.update(MALLOC, PAGE=os.path.join(PAGE, "desk.html"))
             self.front.start()
         except BaseException:
             self.end()

@@ -14,6 +14,9 @@ FIELDS = 10_000
 ORDERS = 100_000
 PIECES = 1_000_000
 
+# from this number on orders are those of deals between desks
+DEALS = 900_000_000
+
 KINDS = ["plain", "transfer"]
 WAYS = ["take", "add"]
 VERSION = 2
@@ -88,6 +91,7 @@ class Counts:
     committed: int
     aborted: int
     moves: int
+    ended_deals: int
 
 
 class Desk:
@@ -119,8 +123,9 @@ class Desk:
         [(places,)] = self.rows("SELECT places FROM desk")
         [(fields,)] = self.rows("SELECT count(*) FROM field")
         [(moves,)] = self.rows("SELECT count(*) FROM move")
+        [(deals,)] = self.rows(f"SELECT count(*) FROM orders WHERE state > 0 AND number >= {DEALS}")
         ends = [states.get(state, 0) for state in range(3)]
-        return Counts(places, ends[0], fields, sum(ends), ends[1], ends[2], moves)
+        return Counts(places, ends[0], fields, sum(ends), ends[1], ends[2], moves, deals)
 
     def fields(self) -> Iterator[Field]:
         """In the order of their names."""
@@ -170,6 +175,8 @@ class Roll:
     settled_pieces: int = 0
     empty_lines: int = 0
     empty_orders: int = 0
+    open_deals: int = 0
+    first_deal: int | None = None
     hindrance: str | None = None
 
     def places(self) -> int:
@@ -178,6 +185,9 @@ class Roll:
 
     def take(self, order: Order, clock: int) -> None:
         """Counts an order of the old desk."""
+        if order.number >= DEALS:
+            self.open_deals += 1
+            self.first_deal = self.first_deal or order.number
         rest = taken_over(order)
         pieces = sum(line.used for line in order.lines) if order.is_firm else 0
         self.settled_orders += pieces > 0

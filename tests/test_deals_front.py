@@ -7,7 +7,6 @@ import random
 import subprocess
 import sys
 import time
-import unittest
 
 from support import DEPLOY
 from support.chains import Chain
@@ -44,7 +43,6 @@ def values(front: Chain) -> list[int]:
     return [json.loads(body)["value"] for _, body in found]
 
 
-@unittest.skipUnless(os.path.exists(CARRIER), "stockdesk-between is not here")
 class DealsFront(FrontCase):
     def test_who_is_let_in(self):
         """The group between at both desks; the office, a shop, and who is at one desk alone begin nothing."""

@@ -1,19 +1,17 @@
 """The examples: a day of two shops, files of requests, and two clients, one in Python and one with curl. The answers follow from
 the rules. Between a client and the desk stands a relay that loses answers, or sends the client away."""
 
-import http.client
-import http.server
 import os
 import re
 import shutil
 import ssl
 import subprocess
 import sys
-import threading
 
 from support import TOP
 from support.blocks import PORT, Shell, blocks_of, free_port
 from support.cases import ProgramCase, needs
+from support.relays import Relay
 from support.service import Service
 
 EXAMPLES = os.path.join(TOP, "examples")
@@ -83,10 +81,10 @@ total                        52
 # the commands of commands.txt, and the status and the body of the answer to each
 COMMANDS = [
     ("field N1 TEA 5 60 15", 200, '{"place":1}'),
-    ("open 1 480 take N1 TEA 10", 200, '{"place":2}'),
-    ("open 2 480 take N1 TEA 1", 409, '{"code":13,"line":1,"refused":"TooLittle"}'),
+    ("open 1 40000000 take N1 TEA 10", 200, '{"place":2}'),
+    ("open 2 40000000 take N1 TEA 1", 409, '{"code":13,"line":1,"refused":"TooLittle"}'),
     ("deliver N1 TEA 40", 200, '{"place":3}'),
-    ("open 2 480 take N1 TEA 1", 200, '{"place":4}'),
+    ("open 2 40000000 take N1 TEA 1", 200, '{"place":4}'),
     ("use 1 N1 TEA 9", 200, '{"place":5}'),
     ("commit 1", 200, '{"place":6}'),
 ]
@@ -99,64 +97,6 @@ FOUND = "? field N1 TEA lo 5 hi 60 value 46 inf 45 sup 46\n"
 USER, SHOWN = "n1:n1", "Basic bjE6bjE="
 
 CLIENTS = {"py": [sys.executable, "client.py"], "sh": ["sh", "client.sh"]}
-
-
-class Relay(http.server.ThreadingHTTPServer):
-    """Hands each message on to a desk. One may have a fault, by its number from 1: `lost`, its answer does not come back; `away`,
-    it does not arrive; `busy`, a front answers in place of the desk; `killed`, the client is, before it has the answer."""
-
-    def __init__(self, port: int, faults: dict[int, str], context: ssl.SSLContext | None = None):
-        super().__init__(("127.0.0.1", 0), Handler)
-        if context:
-            self.socket = context.wrap_socket(self.socket, server_side=True)
-        self.desk, self.faults = port, faults
-        self.client: subprocess.Popen[str] | None = None
-        # what each message shows of its user
-        self.shown: list[str | None] = []
-        self.thread = threading.Thread(target=self.serve_forever, kwargs={"poll_interval": 0.01})
-        self.thread.start()
-
-    def end(self) -> None:
-        self.shutdown()
-        self.thread.join()
-        self.server_close()
-
-
-class Handler(http.server.BaseHTTPRequestHandler):
-    server: Relay
-
-    def do_POST(self) -> None:
-        self.server.shown.append(self.headers["Authorization"])
-        fault = self.server.faults.get(len(self.server.shown))
-        body = self.rfile.read(int(self.headers["Content-Length"]))
-        self.close_connection = True
-        if fault == "busy":
-            self.answer(503, b'{"error":"desk"}')
-        elif fault != "away":
-            answer = self.of_the_desk(body)
-            if fault == "killed":
-                assert self.server.client
-                self.server.client.kill()
-            elif fault != "lost":
-                self.answer(*answer)
-
-    def of_the_desk(self, body: bytes) -> tuple[int, bytes]:
-        connection = http.client.HTTPConnection("127.0.0.1", self.server.desk, timeout=SECONDS)
-        try:
-            connection.request("POST", self.path, body)
-            answer = connection.getresponse()
-            return answer.status, answer.read()
-        finally:
-            connection.close()
-
-    def answer(self, status: int, body: bytes) -> None:
-        self.send_response(status)
-        self.send_header("Content-Length", str(len(body)))
-        self.end_headers()
-        self.wfile.write(body)
-
-    def log_message(self, *_words) -> None:
-        pass
 
 
 class Examples(ProgramCase):

@@ -1,13 +1,16 @@
-"""Tests of how full a desk is told to be by `stockdesk-rollover --check`: at nine tenths of each limit, and in use."""
+"""Tests of how full a desk is told to be by `stockdesk-rollover --check`: at nine tenths of each limit, in use, and by itself."""
 
 import os
+import socket
 import subprocess
 import threading
 from unittest import mock
 
 from support.cases import ProgramCase, needs_strict_tables
+from support.copies import alone
 from support.desks import OPEN_ORDER, Desks, of_desk, of_fields, of_orders
 from support.programs import Session, bytes_of, expect, new_desk, note
+from support.relays import false_desk
 from support.rolled import SCRIPT, desk_of, lying, play_and_kill, tool_ended
 
 import stockdesk_files as files
@@ -23,6 +26,21 @@ NEARLY = [
     (of_orders, 89_999, [], 0),
     (of_orders, 90_000, [], 3),
 ]
+
+# how full the desk of SCRIPT is
+FULL = b"""places: 8 taken and 3 set aside of 200000, 0 percent
+fields: 2 of 10000, 0 percent
+orders: 3 of 100000, 0 percent
+"""
+
+# what is told by no desk, by one that has stopped, and by what is none
+TOLD: list[bytes | None] = [
+    b"",
+    b"SSH-2.0\r\n",
+    b'HTTP/1.1 503 Service Unavailable\r\ncontent-length: 19\r\n\r\n{"error":"stopped"}',
+]
+TOLD += [b'HTTP/1.1 404 Not Found\r\ncontent-length: 16\r\n\r\n{"error":"none"}', b"HTTP/1.1 200 OK\r\n\r\n[]", None]
+TOLD += [b"HTTP/1.1 200 OK\r\n\r\n" + b'{"clock":0,"fields":"x","open":0,"orders":0,"places":0}']
 
 
 def expect_places(program, path, places, words):
@@ -89,9 +107,32 @@ class Fullness(ProgramCase):
             status, out, errors = tool_ended(self.program, ["--check", desks.path])
             expect((status, errors, b"nearly full" in out) == (want, b"", want == 3), f"{count}: {status}, {out}, {errors}")
             expect(bytes_of(desks.path) == found and sorted(os.listdir(self.folder)) == sorted(names), "something was changed")
-        lines = tool_ended(self.program, ["--check", desk_of(self.program, self.folder)[0]])[1].decode().splitlines()
-        want = ["places: 8 taken and 3 set aside of 200000, 0 percent", "fields: 2 of 10000, 0 percent"]
-        expect(lines == [*want, "orders: 3 of 100000, 0 percent"], f"{lines}")
+        found = tool_ended(self.program, ["--check", desk_of(self.program, self.folder)[0]])
+        expect(found == (0, FULL, b""), f"{found}")
+
+    def test_a_desk_that_is_served_is_asked(self):
+        """On both sides of nine tenths; the file that is named beside the port is not read, and need not be there."""
+        desks, none = Desks(self.program, self.folder), os.path.join(self.folder, "none.db")
+        for make, count, others, want in NEARLY:
+            desks.put([*make(count), *others])
+            with alone(self.program, desks.path) as service:
+                status, out, errors = tool_ended(self.program, ["--check", none, "--port", str(service.port)])
+            expect((status, errors, b"nearly full" in out) == (want, b"", want == 3), f"{count}: {status}, {out}, {errors}")
+        with alone(self.program, desk_of(self.program, self.folder)[0]) as service:
+            found = tool_ended(self.program, ["--check", none, "--port", str(service.port)])
+        expect(found == (0, FULL, b""), f"{found}")
+
+    def test_where_no_desk_tells_the_file_is_read(self):
+        """Nobody listens, or what does is silent, has stopped, or tells something else."""
+        old, _ = desk_of(self.program, self.folder)
+        with socket.socket() as nobody:
+            nobody.bind(("127.0.0.1", 0))
+            found = tool_ended(self.program, ["--check", old, "--port", str(nobody.getsockname()[1])])
+        expect(found == (0, FULL, b""), f"{found}")
+        for told in TOLD:
+            with false_desk(told) as port:
+                found = tool_ended(self.program, ["--check", old, "--port", str(port)])
+            expect(found == (0, FULL, b""), f"{told}: {found}")
 
     def test_a_look_reads_the_log(self):
         """What a desk in use has done is in its log alone at first; it goes on, and so does one whose program was killed."""

@@ -1,9 +1,11 @@
 """Tests of the package, which comes, is upgraded and goes on a fresh Debian without touching a desk, of its manual page and of
 its units."""
 
+import asyncio
 import contextlib
 import glob
 import gzip
+import importlib.util
 import os
 import re
 import shutil
@@ -13,15 +15,24 @@ import unittest
 from support import DEPLOY, TOP
 from support.cases import ProgramCase, needs
 from support.copies import BACKUP, alone
+from support.deal_chains import chain
+from support.deal_runs import CARRIER
 from support.fronts import PAGE, TOGETHER
 from support.programs import done, expect, note
+from support.replica_clients import asked, commanded, wait_until_well
+from support.replica_network import MACHINES
+from support.replicas import PORT, REPLICA, UP_SECONDS, Machines
 from support.service import Service, post
 
 PACKAGE = os.path.join(DEPLOY, "package")
 ROLLOVER = os.path.join(DEPLOY, "stockdesk-rollover")
+CLOCK = os.path.join(DEPLOY, "stockdesk-clock")
 UNITS = sorted(glob.glob(os.path.join(DEPLOY, "*.service")) + glob.glob(os.path.join(DEPLOY, "*.timer")))
 # a unit of a service, and below what its exposure is
 EXPOSED = {"stockdesk@.service": 2.0, "stockdesk-backup@.service": 2.5, "stockdesk-check@.service": 2.5}
+EXPOSED["stockdesk-between.service"] = 2.5
+EXPOSED["stockdesk-clock@.service"] = 2.5
+EXPOSED["stockdesk-replica@.service"] = 2.5
 SHARED = [
     "User=stockdesk",
     "CapabilityBoundingSet=",
@@ -132,7 +143,7 @@ class Package(ProgramCase):
             told = run([self.program, command, "--help"])
             first = (told.stdout + told.stderr).splitlines()[0]
             expect(first in page, f"nothing is said of {command}: {first}")
-        for tool in ["backup", "restore", "rollover"]:
+        for tool in ["backup", "between", "clock", "replica", "restore", "rollover"]:
             expect(f"usage: stockdesk-{tool}" in page, f"nothing is said of {tool}")
             expect(os.path.exists(os.path.join(self.folder, f"usr/share/man/man1/stockdesk-{tool}.1.gz")), f"no page of {tool}")
         for line in ["not a desk", "old version", "damaged", "store", "memory", "io", "usage", "record N", "csv"]:
@@ -184,11 +195,11 @@ def allowed_calls() -> set[str]:
     return (calls_of("@system-service") - calls_of("@privileged") - calls_of("@resources")) | {"execve"} | as_root
 
 
-def traced(folder: str, program: str) -> tuple[str, str]:
+def traced(folder: str, program: str, option: str = "") -> tuple[str, str]:
     """What runs a program under strace, and the file of the calls that it and those that it begins make."""
     wrapper, log = os.path.join(folder, "traced"), os.path.join(folder, "calls")
     with open(wrapper, "w", encoding="ascii") as file:
-        file.write(f'#!/bin/sh\nexec strace -f -o {log} {program} "$@"\n')
+        file.write(f'#!/bin/sh\nexec strace {option} -f -o {log} {program} "$@"\n')
     os.chmod(wrapper, 0o755)
     return wrapper, log
 
@@ -201,6 +212,14 @@ def expect_allowed(log: str, some: str) -> None:
     expect(some in used, f"nothing was traced: {used}")
     expect(used <= allowed_calls(), f"refused by the unit: {used - allowed_calls()}")
     expect(not re.search(r"PROT_WRITE\|PROT_EXEC|mprotect\(.*PROT_EXEC", text), "memory is to be written and run")
+
+
+async def expect_served(machines: Machines) -> None:
+    """The first machine keeps and shows a field."""
+    place = (machines.address(1), PORT)
+    await wait_until_well([place], UP_SECONDS)
+    found = [await commanded(place, "K1", "field N1 A-1 0 100 40"), await asked(place, "/v1/keys/K1")]
+    expect(found == [(200, '{"place":1}'), (200, '{"command":"field N1 A-1 0 100 40","place":1}')], f"{found}")
 
 
 @needs("systemd-analyze")
@@ -232,6 +251,12 @@ class Units(ProgramCase):
             expect(set(SHARED) <= set(kept), f"{name} lacks {set(SHARED) - set(kept)}")
             note(f"{name} {found[1]}")
 
+    def test_the_guide_switches_on_each_timer(self):
+        with open(os.path.join(TOP, "docs", "OPERATING.md"), encoding="utf-8") as file:
+            [words] = re.findall(r"^systemctl enable --now (.*)$", file.read(), re.MULTILINE)
+        timers = [os.path.basename(unit).replace("@", "@shop") for unit in UNITS if unit.endswith("@.timer")]
+        expect(sorted(words.split()) == sorted(["stockdesk@shop", *timers]), f"{words}")
+
     @needs("strace")
     def test_the_service_needs_no_call_that_its_unit_refuses(self):
         """A service under strace that makes, fills and serves a desk."""
@@ -244,6 +269,17 @@ class Units(ProgramCase):
         connection.close()
         service.expect_end()
         expect_allowed(log, "accept4")
+
+    @needs("strace")
+    def test_the_carrier_needs_no_call_that_its_unit_refuses(self):
+        """A deal between two desks, under strace."""
+        with chain(self.program, self.folder) as desks:
+            wrapper, log = traced(self.folder, CARRIER)
+            told = run([wrapper, "900000001", *desks.urls(), "--move", "A-1", "7", "N0", "N1"])
+            expect(told.returncode == 0, f"not moved: {told}")
+            told = run([wrapper, "--resume-all", *desks.urls()])
+            expect(told.returncode == 0, f"not looked at: {told}")
+            expect_allowed(log, "connect")
 
     @needs("strace")
     def test_the_tools_need_no_call_that_their_units_refuse(self):
@@ -259,3 +295,45 @@ class Units(ProgramCase):
             told = run([wrapper, "--check", path])
             expect(told.returncode == 0, f"not looked at: {told}")
             expect_allowed(log, "openat")
+
+    @needs("strace")
+    def test_the_tools_that_ask_a_desk_need_no_call_that_their_units_refuse(self):
+        """The look at how full it is, and the end of what is due; both have no socket but of AF_INET."""
+        path = os.path.join(self.folder, "desk.db")
+        done(self.program, ["init", path])
+        done(self.program, ["run", path], "F1 field N1 A-1 0 100 40\nO1 open 1 1 take N1 A-1 1\n")
+        service = Service(self.program, path, 3, options=TOGETHER)
+        place = os.path.join(self.folder, "clock")
+        os.mkdir(place)
+        for tool, words, told_of in [
+            (ROLLOVER, ["--check", path, "--port", str(service.port)], "orders: 1 of"),
+            (CLOCK, [str(service.port), "--seen", os.path.join(place, "seen"), "--jump"], "): 1; `expire "),
+        ]:
+            wrapper, log = traced(self.folder, tool)
+            told = run([wrapper, *words])
+            expect((told.returncode, told.stderr) == (0, "") and told_of in told.stdout, f"{told}")
+            expect_allowed(log, "connect")
+            with open(log, encoding="utf-8") as file:
+                families = set(re.findall(r"socket\((\w+),", file.read()))
+            expect(families == {"AF_INET"}, f"{families}")
+        service.expect_end()
+
+    @needs("strace", "etcd", "etcdctl", "openssl")
+    def test_a_machine_of_three_needs_no_call_that_its_unit_refuses(self):
+        """A machine under strace, with its desk, takes a command and shows a field."""
+        lacking = [name for name in ["aiohttp", "etcd3", "grpc", "uvloop"] if importlib.util.find_spec(name) is None]
+        if lacking:
+            self.skipTest(f"{', '.join(lacking)} of Python not here")
+        # the machine is the process that is begun, so it can be ended
+        wrapper, log = traced(self.folder, f"/usr/bin/python3 {REPLICA}", "-D")
+        machines = Machines(self.program, self.folder, has_fronts=False)
+        try:
+            machines.make()
+            for machine in MACHINES:
+                machines.start("etcd", machine)
+            machines.interpreter, machines.replica = [], wrapper
+            machines.start("replica", 1)
+            asyncio.run(expect_served(machines))
+        finally:
+            machines.down()
+        expect_allowed(log, "prctl")

@@ -42,6 +42,8 @@ from support.sums import expect_sums
 from support.tables import sqlite3
 
 import stockdesk_files as files
+from stockdesk_deals import LEAST
+from stockdesk_rows import DEALS
 
 DESKS = 200
 KILLS = 30
@@ -90,6 +92,9 @@ NO_WORDS = [
     ["--check"],
     ["--check", "old.db", "new.db"],
     ["--check", "old.db", "--from", "1"],
+    ["old.db", "new.db", "--port", "8080"],
+    ["--check", "old.db", "--port", "0"],
+    ["--check", "old.db", "--port", "65536"],
     ["old.db", "new.db", "--from", "200001"],
     ["old.db", "new.db", "--from", "-1"],
     ["old.db", "new.db", "--from", "many"],
@@ -149,9 +154,9 @@ class RollOvers(ProgramCase):
         names = [f"BRANCH{n:02} ARTICLE-{n:08}" for n in range(64)]
         commands = [f"field {name} 1000000000 1000000000 1000000000" for name in names]
         commands += [f"rebound {name} 0 1000000000" for name in names]
-        commands.append("open 999999999 4000000000 " + " ".join(f"take {name} 1000000" for name in names))
-        commands += [f"more 999999999 take {name} 1000000" for name in names]
-        commands += [f"use 999999999 {name} 1000000" for name in names] * 2
+        commands.append("open 899999999 4000000000 " + " ".join(f"take {name} 1000000" for name in names))
+        commands += [f"more 899999999 take {name} 1000000" for name in names]
+        commands += [f"use 899999999 {name} 1000000" for name in names] * 2
         commands += [f"open 1 3999999999 take {names[0]} 1", f"use 1 {names[0]} 1", "firm 1", "expire 3999999999"]
         old, new = desk_of(self.program, self.folder, "".join(f"K{n} {command}\n" for n, command in enumerate(commands)))
         read = closed(self.program, old, os.path.join(self.folder, "closed.db"))
@@ -297,6 +302,21 @@ class Stops(ProgramCase):
 
 @needs_strict_tables
 class Refusals(ProgramCase):
+    def test_a_desk_with_an_open_deal_is_refused(self):
+        """The first is named, the others are counted; the order before the first deal's number hinders nothing, nor does a deal
+        that has ended, of which a word is said."""
+        expect(DEALS == LEAST, "deals have other numbers")
+        script = "K1 field N1 A-1 0 100 40\nK2 open 899999999 60 take N1 A-1 1\n"
+        script += "".join(f"D{n} open {900_000_000 + n} 4000000000 take N1 A-1 1\n" for n in (0, 1, 99_999_999))
+        old, new = desk_of(self.program, self.folder, script)
+        expect_refused(self.program, [old, new], "deal 900000000 is open, and 2 more, and its other desks wait")
+        done(self.program, ["run", old], "E0 abort 900000000\nE1 abort 900000001\n")
+        expect_refused(self.program, [old, new], "deal 999999999 is open, and its other desks wait")
+        expect(not os.path.exists(new), "something was done")
+        done(self.program, ["run", old], "E2 commit 999999999\n")
+        expect(any("ends of deals" in line for line in rolled(self.program, old, new)), "nothing is said of the ends")
+        expect(asked(new, "SELECT number FROM orders") == [(899_999_999,)], "other orders")
+
     def test_the_old_desk_is_kept_shut(self):
         """While it is read no program can open it; behind that it is as before."""
         old, new = desk_of(self.program, self.folder)

@@ -2,7 +2,7 @@
 import { ENDS, FORMS, PARTS, VERBS, numberAs } from "./words.js";
 import { FIRST_OF_DEALS, FIRST_OF_OFFICE, NO_END, RANGE, at, buttonOf, count, fetched, inputOf, isOwn, keep, kept,
   look, make, meaningOf, minuteNow, minuteOf, parsed, state, user } from "./tools.js";
-import { behind, isOpen } from "./views.js";
+import { behind, isOpen, tellClock } from "./views.js";
 
 const MOST_LINES = 64;
 // What sends a line, of a form or of none; the way to the desk puts it here.
@@ -167,7 +167,9 @@ function openForm(parts, button) {
 }
 function formFor(verb, parts, button) {
   if (verb === "open") return openForm(parts, button);
-  return formOf(verb, verb, parts, button, ...(verb === "expire" ? [make("p", { class: "clock soft" })] : []));
+  const form = formOf(verb, verb, parts, button, ...(verb === "expire" ? [make("p", { class: "clock soft" })] : []));
+  form.querySelectorAll(".clock").forEach(tellClock);
+  return form;
 }
 function ownForm() {
   const hint = `It begins with ${VERBS[user.group].join(", ")}, and is spelled as the forms spell it.`;

@@ -191,7 +191,10 @@ function fullWords({ title, taken, aside, most, stops }) {
   return [all < most ? `Nearly full: ${count(all)} of ${count(most)} ${title.toLowerCase()} are ${taking}.`
     : `Full: all ${title.toLowerCase()} are taken; the desk takes ${stops}.`];
 }
-function drawDesk({ clock, fields, open, orders, places }) {
+export function tellClock(note) {
+  if (seen.desk) note.textContent = `The desk's clock: ${clockWords(seen.desk.clock)}.`;
+}
+function drawDesk({ fields, open, orders, places }) {
   const parts = [
     { title: "Places", taken: places, aside: open, most: MOST.places, stops: "nothing but the ends of open orders" },
     { title: "Fields", taken: fields, aside: 0, most: MOST.fields, stops: "no new article at any branch" },
@@ -202,7 +205,7 @@ function drawDesk({ clock, fields, open, orders, places }) {
   at("desk-bars").replaceChildren(...parts.map(barOf));
   at("fullness").replaceChildren(...[...words, advice].map(each => make("p", {}, each)));
   at("fullness").hidden = !words.length;
-  for (const note of document.querySelectorAll(".clock")) note.textContent = `The desk's clock: ${clockWords(clock)}.`;
+  document.querySelectorAll(".clock").forEach(tellClock);
 }
 
 // ---- all of them

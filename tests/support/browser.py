@@ -57,10 +57,20 @@ THUMB = 44
 # be views
 WATCH = """
 const real = window.fetch;
-Object.assign(window, { sent: [], lose: 0, answers: [], views: {} });
+Object.assign(window, { sent: [], lose: 0, answers: [], views: {}, looks: 0 });
+// a look is under way until what it found is drawn
+const look = async (address, options, path) => {
+  looks += 1;
+  try {
+    const answer = path in views ? new Response(views[path]) : await real(address, options);
+    return new Response(await answer.text(), { status: answer.status });
+  } finally {
+    setTimeout(() => { looks -= 1; }, 50);
+  }
+};
 window.fetch = async (address, options) => {
   const path = new URL(address).pathname;
-  if (options.method !== "POST") return path in views ? new Response(views[path]) : real(address, options);
+  if (options.method !== "POST") return look(address, options, path);
   sent.push({ ...JSON.parse(options.body), type: options.headers["content-type"] });
   if (answers.length) return new Response(answers[0][1], { status: answers.shift()[0] });
   const answer = await real(address, options);
@@ -185,11 +195,12 @@ class Page:
         self.press(f"{form} .sends")
 
     def tell(self, form: str, words: str = "Done", **values: object) -> None:
-        """Sends a form, and waits for an answer of these words to that command."""
+        """Sends a form, and waits for an answer of these words to that command, and until what it changed is shown."""
         self.fill(form, **values)
         self.run("document.getElementById('said').textContent = ''")
         self.press(f"{form} .sends")
         self.wait_said(words)
+        self.wait(lambda: self.run("return looks") == 0, "what is there is not shown")
 
     def show(self, kind: str, name: str) -> None:
         """Shows the stock of a branch, an article or an order."""

@@ -61,7 +61,7 @@ def full_rows() -> list[str]:
     generator = random.Random(1986)
     fields = [(f"N{n % 20}", f"A{n // 20}") for n in range(FIELDS)]
     rows = Rows(fields)
-    for index, number in enumerate(generator.sample(range(1, 1_000_000_000), ORDERS)):
+    for index, number in enumerate(generator.sample(range(1, 900_000_000), ORDERS)):
         add_order(rows, generator, number, 0 if index < OPEN else generator.randint(1, 2))
     for place in range(1, 3_001):
         rows.move(place, generator.choice(fields), generator.choice([-50, 70]))

@@ -109,14 +109,14 @@ class Script:
         return self.random.choice(list(self.orders)[self.random.choice([-2, -2, -4, 0]) :] or [1])
 
     def open(self) -> None:
-        number, count = self.random.randint(1, 999_999_999), self.random.choice([1, 2, 3, 4, 64])
+        number, count = self.random.randint(1, 899_999_999), self.random.choice([1, 2, 3, 4, 64])
         these = self.random.sample(list(self.fields), min(count, len(self.fields)))
         self.orders[number] = [(self.random.choice(["take", "add"]), field, self.amount(field)) for field in these]
         lines = " ".join(f"{way} {field} {amount}" for way, field, amount in self.orders[number])
         self.lines.append(f"open {number} {self.until()} {lines}")
 
     def transfer(self) -> None:
-        number, amount = self.random.randint(1, 999_999_999), self.random.choice([1, 10, 1_000_000])
+        number, amount = self.random.randint(1, 899_999_999), self.random.choice([1, 10, 1_000_000])
         branches = self.random.sample(["N0", "N1", "N2"], 2)
         article = self.field().split()[1]
         self.orders[number] = [(None, f"{branch} {article}", amount) for branch in branches]

@@ -1,2 +1,12 @@
 pub mod Places
 pub mod Copies
+pub mod Zips
+pub mod OneOrder
+pub mod Together
+pub mod AllOrNothing
+pub mod Ends
+pub mod Uses
+pub mod Through
+pub mod Stock
+pub mod Even
+pub mod StillDesks

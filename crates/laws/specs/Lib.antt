@@ -1,2 +1,4 @@
 pub mod Walks
 pub mod Late
+pub mod Deals
+pub mod Still

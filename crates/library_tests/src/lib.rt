@@ -20,6 +20,8 @@ mod of_index;
 #[cfg(test)]
 mod of_keep;
 #[cfg(test)]
+mod of_laws;
+#[cfg(test)]
 mod of_rounds;
 #[cfg(test)]
 mod of_web;

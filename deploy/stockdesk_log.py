@@ -1,0 +1,168 @@
+"""The log of a desk that several machines hold: the values that one key of etcd takes, one after the other, each an entry. An
+entry is a head line and, behind `lines`, the commands, each a line KEY COMMAND:
+
+    lines RUN NUMBER BASE    RUN and NUMBER name the entry; BASE is the revision that its machine had come to, up to which none of
+                             the lines was late
+    begin PLACES DIGEST      the first entry of a log that begins with a desk that is not empty: the desk has so many places, and
+                             what is kept at them has that digest
+    mark BASE                nothing behind it that was asked for before it counts; BASE is the mark before
+    end                      nothing behind it counts: the desk is rolled over, or its program changed
+
+Any other value is none of these, and all machines pass over it."""
+
+import asyncio
+import contextlib
+import re
+from collections.abc import AsyncIterator, Sequence
+from typing import Any, NamedTuple
+
+import grpc
+from etcd3.etcdrpc import kv_pb2, rpc_pb2, rpc_pb2_grpc
+from stockdesk_tools import Fault, say
+
+# how long one call of etcd may take, and what is waited before the next behind one that failed, in seconds
+CALL_SECONDS, AGAIN_SECONDS = 1, 0.1
+
+OPTIONS = [
+    ("grpc.max_receive_message_length", -1),
+    ("grpc.initial_reconnect_backoff_ms", 100),
+    ("grpc.max_reconnect_backoff_ms", 500),
+]
+
+HEAD = re.compile(rb"lines ([0-9a-f]+) ([0-9]+) ([0-9]+)|mark ([0-9]+)|begin ([0-9]+) ([0-9a-f]*)|(end)")
+
+
+class Entry(NamedTuple):
+    """What stands at a revision of the log."""
+
+    revision: int
+    value: bytes
+
+
+class Lines(NamedTuple):
+    run: bytes
+    number: int
+    base: int
+    lines: list[bytes]
+
+
+class Mark(NamedTuple):
+    base: int
+
+
+class Begin(NamedTuple):
+    places: int
+    digest: str
+
+
+class End(NamedTuple):
+    pass
+
+
+class ToldMark(NamedTuple):
+    """Where a machine's desk stood at a mark: so many places, and the digest of what is kept at them."""
+
+    revision: int
+    machine: str
+    place: int
+    digest: str
+
+
+def value_of(run: bytes, number: int, base: int, lines: Sequence[bytes]) -> bytes:
+    return b"\n".join([b"lines %s %d %d" % (run, number, base), *lines])
+
+
+def read_value(value: bytes) -> Lines | Mark | Begin | End | None:
+    """What a value says, or None where it is no entry."""
+    first, *lines = value.split(b"\n")
+    head = HEAD.fullmatch(first)
+    if head is None or (lines and not head[1]):
+        return None
+    if head[1]:
+        return Lines(head[1], int(head[2]), int(head[3]), lines)
+    if head[5]:
+        return Begin(int(head[5]), head[6].decode())
+    return Mark(int(head[4])) if head[4] else End()
+
+
+class Log:
+    """The log, through the member of etcd on this machine."""
+
+    def __init__(self, address: str, name: str):
+        self.name = name.encode()
+        channel = grpc.aio.insecure_channel(address, OPTIONS)
+        self.store, self.watcher = rpc_pb2_grpc.KVStub(channel), rpc_pb2_grpc.WatchStub(channel)
+        self.is_well = True
+
+    async def try_call(self, call: Any, request: Any) -> Any:
+        """What a call gives, or None: then it may be done or not, now or later."""
+        try:
+            found = await call(request, timeout=CALL_SECONDS)
+            self.is_well = True
+            return found
+        except grpc.aio.AioRpcError as fault:
+            if self.is_well:
+                say(f"etcd: {fault.code().name}: {fault.details()}")
+            self.is_well = False
+            await asyncio.sleep(AGAIN_SECONDS)
+            return None
+
+    async def put(self, value: bytes, key: str = "log") -> int | None:
+        """The revision at which it is kept; None where that is not known."""
+        request = rpc_pb2.PutRequest(key=self.name + b"/" + key.encode(), value=value)
+        done = await self.try_call(self.store.Put, request)
+        return int(done.header.revision) if done else None
+
+    async def head(self) -> int | None:
+        """The revision of the last entry of all, as a majority knows it; None where there is no majority."""
+        found = await self.try_call(self.store.Range, rpc_pb2.RangeRequest(key=self.name + b"/log", keys_only=True))
+        return max((int(pair.mod_revision) for pair in found.kvs), default=0) if found else None
+
+    async def first(self) -> int:
+        """The revision of the first entry, or one before which none is where there is none yet. It is asked for until there is an
+        answer."""
+        while not (found := await self.try_call(self.store.Range, rpc_pb2.RangeRequest(key=self.name + b"/log", keys_only=True))):
+            pass
+        return int(found.kvs[0].create_revision if found.kvs else found.header.revision + 1)
+
+    async def marks(self) -> list[ToldMark]:
+        """What machines have told at marks. It is asked for until there is an answer."""
+        prefix = self.name + b"/marks/"
+        request = rpc_pb2.RangeRequest(key=prefix, range_end=prefix[:-1] + b"0")
+        while not (found := await self.try_call(self.store.Range, request)):
+            pass
+        told = [(*pair.key.decode().split("/")[-2:], *pair.value.decode().split()) for pair in found.kvs]
+        return [ToldMark(int(revision), machine, int(place), digest) for revision, machine, place, digest in told]
+
+    async def tell_mark(self, mark: ToldMark) -> None:
+        """It is told until etcd has it."""
+        value = f"{mark.place} {mark.digest}".encode()
+        while not await self.put(value, f"marks/{mark.revision:020}/{mark.machine}"):
+            pass
+
+    async def follow(self, first: int) -> AsyncIterator[Entry]:
+        """All entries from that revision on, as they come. Fault: they are no longer all there."""
+        while True:
+            with contextlib.suppress(grpc.aio.AioRpcError):
+                async for told in await self.watch(first):
+                    for entry in entries_of(told, first):
+                        yield entry
+                        first = entry.revision + 1
+                    if told.canceled:
+                        break
+            await asyncio.sleep(AGAIN_SECONDS)
+
+    async def watch(self, first: int) -> Any:
+        create = rpc_pb2.WatchCreateRequest(key=self.name + b"/log", start_revision=first)
+        call = self.watcher.Watch()
+        await call.write(rpc_pb2.WatchRequest(create_request=create))
+        return call
+
+
+def entries_of(told: Any, first: int) -> list[Entry]:
+    """The entries that etcd tells to one who has all before that revision."""
+    if told.compact_revision:
+        raise Fault(f"the log begins at {told.compact_revision} and is wanted from {first}: start from a newer copy")
+    if any(event.type != kv_pb2.Event.PUT or event.kv.mod_revision < first for event in told.events):
+        raise Fault("etcd tells what is no next entry of the log")
+    return [Entry(event.kv.mod_revision, event.kv.value) for event in told.events]

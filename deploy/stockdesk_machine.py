@@ -1,0 +1,231 @@
+"""One of the machines that hold a desk: it carries the log out on its own desk, adds to the log what was asked for here, and
+answers a command once its own desk has."""
+
+import asyncio
+import functools
+import itertools
+import json
+import os
+import uuid
+from collections.abc import Callable
+from dataclasses import dataclass, replace
+
+from stockdesk_desk import Answer, Desk, Tell, command_message
+from stockdesk_log import Begin, End, Lines, Log, Mark, ToldMark, read_value, value_of
+from stockdesk_tools import Fault, say
+from stockdesk_walk import Past, Walk
+
+# lines of an entry, and messages that the desk has not answered yet, at most
+ENTRY_LINES, UNANSWERED = 256, 1_000
+
+# how long one entry is tried, and when the others have told of a mark, in seconds
+PUT_SECONDS, HEAR_SECONDS = 5, 3
+
+# a desk that two others contradict ends with this status, and stays down
+ASTRAY = 4
+
+
+def error(word: str) -> Answer:
+    return Answer(503, "application/json", b'{"error":"%s"}' % word.encode())
+
+
+LATE, NO_LOG, ENDED = error("late"), error("log"), error("ended")
+
+
+def tell_nobody(_: Answer) -> None:
+    pass
+
+
+@dataclass(slots=True)
+class Ask:
+    """A command that was asked for, when so much of the log had been fed to the desk, or was known to the client."""
+
+    line: bytes
+    base: int
+    tell: Tell
+    is_gone: Callable[[], bool]
+
+
+class Machine:
+    """A machine by its name, which has come so far in the log: up to `revision` it was passed over or fed to the desk."""
+
+    def __init__(self, name: str, log: Log, walk: Walk, desk: Desk, mark_lines: int):
+        self.name, self.log, self.walk, self.desk, self.mark_lines = name, log, walk, desk, mark_lines
+        self.past = Past()
+        self.run = uuid.uuid4().hex[:8].encode()
+        # how many lines stand behind the last mark
+        self.revision, self.first, self.lines, self.has_ended = 0, 0, 0, False
+        self.waiting: list[Ask] = []
+        self.mine: dict[int, list[Ask]] = {}
+        self.comes, self.moves, self.wants = asyncio.Event(), asyncio.Event(), asyncio.Event()
+        self.telling: set[asyncio.Task[None]] = set()
+        self.lookers: list[asyncio.Future[int | None]] = []
+
+    # ---- the place to go on from
+
+    async def find_mark(self) -> None:
+        """Begins at the newest mark at which a desk stood that had the first of this one's rows and no others, else where the log
+        does."""
+        self.revision = self.walk.go_to_mark(await self.log.marks())
+        self.first = self.revision or await self.log.first()
+        self.past.set_mark(self.revision)
+
+    # ---- the log, carried out
+
+    async def carry_out(self) -> None:
+        # the mark at which it begins comes again, since it may be the end; another machine may have set one meanwhile
+        async for entry in self.log.follow(self.first):
+            told = read_value(entry.value)
+            if isinstance(told, Lines):
+                self.carry_out_lines(entry.revision, told)
+            elif isinstance(told, End):
+                await self.set_mark(entry.revision)
+                self.has_ended = True
+            elif isinstance(told, Begin) and self.revision == 0:
+                self.walk.begin(told.places, told.digest)
+                await self.set_mark(entry.revision)
+            elif isinstance(told, Mark) and told.base >= self.past.mark and not self.has_ended:
+                await self.set_mark(entry.revision)
+            self.revision = entry.revision
+            self.moves.set()
+            await self.desk.commands.at_most(UNANSWERED)
+
+    def carry_out_lines(self, revision: int, entry: Lines) -> None:
+        asks = self.mine.pop(entry.number, []) if entry.run == self.run else []
+        tells = [ask.tell for ask in asks] or [tell_nobody] * len(entry.lines)
+        for line, tell in zip(entry.lines, tells, strict=True):
+            if self.has_ended or self.past.is_late(line, entry.base):
+                tell(ENDED if self.has_ended else LATE)
+                continue
+            self.past.note(line, revision)
+            if not self.walk.passes_over(line):
+                self.desk.commands.ask(command_message(line), functools.partial(self.take_answer, line, tell))
+        self.lines += len(entry.lines)
+
+    def take_answer(self, line: bytes, tell: Tell, answer: Answer) -> None:
+        """An answer of the desk to a command. Fault: it is none, and this machine ends, since the others may have another."""
+        if answer.status not in (200, 400, 409):
+            raise Fault(f"the desk answers {answer.status}")
+        if answer.status == 200:
+            place = json.loads(answer.body)["place"]
+            if place > self.walk.place + 1:
+                raise Fault(f"the desk has place {place} where the log has {self.walk.place + 1}")
+            if place == self.walk.place + 1:
+                self.walk.take_place(line)
+        tell(answer)
+
+    async def set_mark(self, revision: int) -> None:
+        await self.desk.commands.at_most(0)
+        # now, since what has stood is forgotten
+        self.waiting = self.judged(self.waiting, revision)
+        self.past.set_mark(revision)
+        self.lines = 0
+        told = ToldMark(revision, self.name, self.walk.place, self.walk.digest.hex())
+        task = asyncio.create_task(self.compare(told))
+        self.telling.add(task)
+        task.add_done_callback(self.telling.discard)
+
+    async def compare(self, own: ToldMark) -> None:
+        """Tells where this desk stands at a mark, and hears the others. A desk that most of them contradict is ended."""
+        await self.log.tell_mark(own)
+        await asyncio.sleep(HEAR_SECONDS)
+        told = [mark for mark in await self.log.marks() if mark.revision == own.revision]
+        others = [mark for mark in told if mark[2:] != own[2:]]
+        if others:
+            say(f"another desk differs at revision {own.revision}: {own}, {others}")
+        if len(others) > len(told) - len(others):
+            os._exit(ASTRAY)
+
+    # ---- the log, added to
+
+    async def add(self) -> None:
+        """Has etcd keep what has come meanwhile, one entry after the other: were several under way, each would be smaller, and
+        the desk would sync more often. One that etcd may have kept is tried again as it is: where it was kept, the lines of
+        the second are late."""
+        for number in itertools.count():
+            await self.comes.wait()
+            if self.lines > self.mark_lines:
+                self.lines = 0
+                await self.reach(await self.log.put(b"mark %d" % self.past.mark))
+            asks, self.waiting = self.judged(self.waiting[:ENTRY_LINES], self.revision), self.waiting[ENTRY_LINES:]
+            if not self.waiting:
+                self.comes.clear()
+            if asks:
+                await self.add_entry(number, asks)
+
+    async def add_entry(self, number: int, asks: list[Ask]) -> None:
+        self.mine[number] = asks
+        if not await self.try_put(value_of(self.run, number, self.revision, [ask.line for ask in asks])):
+            for ask in [*self.mine.pop(number, []), *self.waiting]:
+                ask.tell(NO_LOG)
+            self.waiting = []
+            self.comes.clear()
+        await self.desk.commands.at_most(UNANSWERED)
+
+    def judged(self, asks: list[Ask], revision: int) -> list[Ask]:
+        """Those that are waited for and not late so far, as if asked for at this revision. The others are told that they are."""
+        found = []
+        for ask in asks:
+            if ask.is_gone() or self.past.is_late(ask.line, ask.base):
+                ask.tell(LATE)
+            else:
+                found.append(replace(ask, base=revision))
+        return found
+
+    async def try_put(self, value: bytes) -> int | None:
+        clock = asyncio.get_running_loop()
+        latest = clock.time() + PUT_SECONDS
+        while not (done := await self.log.put(value)) and clock.time() < latest:
+            pass
+        return done
+
+    # ---- what is asked for
+
+    async def command(self, line: bytes, known: int | None, is_gone: Callable[[], bool]) -> Answer:
+        """The answer to a command of a client that knows so much of the log."""
+        if self.has_ended:
+            return ENDED
+        waiter: asyncio.Future[Answer] = asyncio.get_running_loop().create_future()
+        base = self.revision if known is None else min(known, self.revision)
+        self.waiting.append(Ask(line, base, teller(waiter), is_gone))
+        self.comes.set()
+        return await waiter
+
+    async def view(self, target: str) -> Answer:
+        """What the desk shows behind all that was answered anywhere before this was asked."""
+        looker: asyncio.Future[int | None] = asyncio.get_running_loop().create_future()
+        self.lookers.append(looker)
+        self.wants.set()
+        if not await self.reach(await looker):
+            return NO_LOG
+        waiter: asyncio.Future[Answer] = asyncio.get_running_loop().create_future()
+        self.desk.view(target, teller(waiter))
+        return await waiter
+
+    async def look(self) -> None:
+        """Looks for the log's end, behind the moment at which each who wants it came."""
+        while True:
+            await self.wants.wait()
+            self.wants.clear()
+            lookers, self.lookers = self.lookers, []
+            head = await self.log.head()
+            for looker in lookers:
+                if not looker.done():
+                    looker.set_result(head)
+
+    async def reach(self, revision: int | None) -> bool:
+        """Waits until the log was fed so far. Whether there is such a revision."""
+        while revision is not None and self.revision < revision:
+            self.moves.clear()
+            await self.moves.wait()
+        return revision is not None
+
+    async def is_well(self) -> Answer:
+        if self.has_ended:
+            return ENDED
+        return NO_LOG if await self.log.head() is None else Answer(200, "text/plain", b"ok\n")
+
+
+def teller(waiter: "asyncio.Future[Answer]") -> Tell:
+    """Tells one who waits, unless he is gone."""
+    return lambda answer: None if waiter.done() else waiter.set_result(answer)

@@ -1,0 +1,143 @@
+"""A desk that is asked over HTTP: directly, or through its front over TLS. What has no answer is asked again: each command has a
+key, so it is done once."""
+
+import base64
+import http.client
+import json
+import ssl
+import time
+import urllib.parse
+from abc import ABC, abstractmethod
+from collections.abc import Iterator
+from typing import Any
+
+# statuses that say nothing of whether it was done
+AGAIN = {408, 429, 500, 502, 503, 504}
+
+# statuses of a front that does not let the caller through
+REFUSED = {401: "knows no such user and password", 403: "does not let this user do what deals need"}
+
+# the seconds that an answer may take, and between two askings
+ANSWER_SECONDS = 20
+FIRST_PAUSE, LONGEST_PAUSE = 0.02, 1.0
+
+Told = dict[str, Any]
+
+
+class NoAnswer(Exception):
+    """A desk has not answered in time: call again."""
+
+
+class NotServed(Exception):
+    """A desk answers, and not as one that serves this caller: the address, the user or the certificate is another's."""
+
+
+class Unanswered(Exception):
+    """One asking was in vain."""
+
+
+class Desk(ABC):
+    """The views of a desk and its commands. `name` is how people call it."""
+
+    def __init__(self, name: str):
+        self.name = name
+
+    @abstractmethod
+    def ask(self, method: str, target: str, body: str | None = None) -> tuple[int, Told]:
+        """The status and the object of the answer. NoAnswer: there is none in time."""
+
+    def unfit(self, target: str, status: int, told: Told) -> NotServed:
+        return NotServed(
+            f"{self.name} {REFUSED.get(status, 'answers otherwise than a desk')}: {target} is answered {status} {told}"
+        )
+
+    def shown(self, target: str) -> Told | None:
+        """What a view shows, or None where nothing is there."""
+        status, told = self.ask("GET", target)
+        if status not in (200, 404):
+            raise self.unfit(target, status, told)
+        return told if status == 200 else None
+
+    def order(self, number: int) -> Told | None:
+        return self.shown(f"/v1/orders/{number}")
+
+    def has_kept(self, key: str) -> bool:
+        """Whether a command was done under this key."""
+        return self.shown(f"/v1/keys/{key}") is not None
+
+    def expect_there(self) -> None:
+        """NotServed: it is no desk. A view of what a desk lacks is answered alike by whatever else is there."""
+        if self.shown("/v1/desk") is None:
+            raise NotServed(f"{self.name} is no desk")
+
+    def open_orders(self, above: int) -> Iterator[Told]:
+        """All open orders with greater numbers, by their numbers."""
+        while found := self.shown(f"/v1/open/{above}"):
+            yield from found["orders"]
+            if not found["orders"]:
+                return
+            above = found["orders"][-1]["number"]
+        raise NotServed(f"{self.name} does not show its open orders: is it an older program?")
+
+    def send(self, key: str, command: str) -> Told | None:
+        """Sends a command, and tells the refusal if it is refused."""
+        status, told = self.ask("POST", "/v1/commands", json.dumps({"key": key, "command": command}))
+        if status not in (200, 409):
+            raise self.unfit(command, status, told)
+        return told if status == 409 else None
+
+
+class HttpDesk(Desk):
+    """A desk at a URL, whose path may begin with a prefix. The user, as NAME:PASSWORD, is told over TLS alone."""
+
+    def __init__(self, url: str, patience: float, user: str = "", certificates: str | None = None):
+        super().__init__(url)
+        parts = urllib.parse.urlsplit(url)
+        self.prefix, self.patience = parts.path.rstrip("/"), patience
+        self.headers: dict[str, str] = {}
+        self.connection: http.client.HTTPConnection
+        if parts.scheme == "https":
+            context = ssl.create_default_context(cafile=certificates)
+            self.connection = http.client.HTTPSConnection(parts.netloc, timeout=ANSWER_SECONDS, context=context)
+            self.headers["Authorization"] = "Basic " + base64.b64encode(user.encode()).decode()
+        else:
+            self.connection = http.client.HTTPConnection(parts.netloc, timeout=ANSWER_SECONDS)
+
+    def close(self) -> None:
+        self.connection.close()
+
+    def ask_once(self, method: str, target: str, body: str | None) -> tuple[int, Told]:
+        try:
+            self.connection.request(method, self.prefix + target, body, self.headers)
+            answer = self.connection.getresponse()
+            text = answer.read()
+        except ssl.SSLCertVerificationError as fault:
+            raise NotServed(f"{self.name}: its certificate is not known: {fault.verify_message}") from fault
+        except (OSError, http.client.HTTPException) as fault:
+            self.connection.close()
+            raise Unanswered(str(fault) or type(fault).__name__) from fault
+        if answer.status in AGAIN:
+            raise Unanswered(f"status {answer.status}")
+        if answer.status in REFUSED:
+            raise NotServed(f"{self.name} {REFUSED[answer.status]} (status {answer.status})")
+        try:
+            told = json.loads(text)
+        except ValueError:
+            told = None
+        if not isinstance(told, dict):
+            raise NotServed(f"{self.name} is no desk: it answers {target} by {answer.status} and no object")
+        return answer.status, told
+
+    def ask(self, method: str, target: str, body: str | None = None) -> tuple[int, Told]:
+        latest, pause = time.monotonic() + self.patience, FIRST_PAUSE
+        while True:
+            # one that was kept may have been closed meanwhile, which says nothing of the desk
+            was_kept = self.connection.sock is not None
+            try:
+                return self.ask_once(method, target, body)
+            except Unanswered as fault:
+                if time.monotonic() > latest:
+                    raise NoAnswer(f"no answer of {self.name} in {self.patience:g} seconds ({fault})") from fault
+            if not was_kept or self.connection.sock is not None:
+                time.sleep(pause)
+                pause = min(2 * pause, LONGEST_PAUSE)

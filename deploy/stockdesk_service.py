@@ -1,0 +1,90 @@
+"""A machine as a process: it starts the desk, finds its place in the log, serves, and ends at the first fault."""
+
+import argparse
+import asyncio
+import os
+import signal
+import traceback
+from collections.abc import Coroutine
+from typing import Any
+
+import stockdesk_desk
+import stockdesk_messages
+import stockdesk_tools as tools
+import stockdesk_walk
+import uvloop
+from stockdesk_log import Log
+from stockdesk_machine import Machine
+from stockdesk_tools import Fault
+from stockdesk_walk import Walk
+
+
+async def start(options: argparse.Namespace) -> Machine:
+    """The machine, whose desk was started while its rows were read in a copy."""
+    program, path = tools.find_program(options.program), os.path.abspath(options.file)
+    held = stockdesk_desk.lock(path + ".lock")
+    with tools.workplace(os.path.dirname(path)) as place:
+        copy = os.path.join(place, "desk.db")
+        stockdesk_walk.copy_desk(path, copy)
+        process = stockdesk_desk.start(program, path, held)
+        rows = stockdesk_walk.kept_lines(copy)
+    if options.pid:
+        with open(options.pid, "w", encoding="ascii") as file:
+            file.write(f"{process.pid}\n")
+    desk = await stockdesk_desk.connect(process)
+    return Machine(options.machine, Log(options.etcd, options.log), Walk(rows), desk, options.mark_lines)
+
+
+async def listen(options: argparse.Namespace, machine: Machine) -> None:
+    """Serves HTTP once the desk stands where the log stood. Fault: the desk has what the log has not."""
+    began = machine.revision
+    while (head := await machine.log.head()) is None:
+        pass
+    await machine.reach(head)
+    if rows := machine.walk.rows:
+        raise Fault(f"the log lacks {rows[0]!r}, which the desk has at place {machine.walk.place + 1}: it is another log's desk")
+    await stockdesk_messages.listen(options.listen, machine)
+    tools.say(f"{machine.name} serves {machine.walk.place} places, from {began} to {head} of the log")
+
+
+async def begin(options: argparse.Namespace) -> None:
+    """Has a log begin with this desk. Fault: it has begun, or etcd does not answer."""
+    path = os.path.abspath(options.file)
+    stockdesk_desk.lock(path + ".lock")
+    with tools.workplace(os.path.dirname(path)) as place:
+        copy = os.path.join(place, "desk.db")
+        stockdesk_walk.copy_desk(path, copy)
+        digests = stockdesk_walk.digests_of(stockdesk_walk.kept_lines(copy))
+    log = Log(options.etcd, options.log)
+    if await log.head() != 0 or not await log.put(f"begin {len(digests) - 1} {digests[-1].hex()}".encode()):
+        raise Fault("the log has begun, or cannot be reached")
+    tools.say(f"the log {options.log} begins with {len(digests) - 1} places")
+
+
+async def serve(options: argparse.Namespace) -> None:
+    machine = await start(options)
+    await machine.find_mark()
+    works: list[Coroutine[Any, Any, None]] = [machine.desk.hear(), machine.carry_out(), machine.add(), machine.look()]
+    tasks = [asyncio.create_task(each) for each in [*works, listen(options, machine)]]
+    done, _ = await asyncio.wait(tasks, return_when=asyncio.FIRST_EXCEPTION)
+    for task in done:
+        task.result()
+
+
+async def work_and_end(options: argparse.Namespace) -> None:
+    """Begins a log, or serves until the first fault, and ends the process: nothing that is under way is waited for."""
+    try:
+        await (begin if options.begin else serve)(options)
+        os._exit(0)
+    except (Fault, OSError) as fault:
+        tools.say(str(fault))
+    except Exception:
+        traceback.print_exc()
+    os._exit(1)
+
+
+def run(options: argparse.Namespace) -> None:
+    uvloop.install()
+    # whoever breaks it off finds what a kill leaves
+    signal.signal(signal.SIGINT, signal.SIG_DFL)
+    asyncio.run(work_and_end(options))

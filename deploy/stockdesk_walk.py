@@ -1,0 +1,117 @@
+"""Where a desk stands in the log, and which of the log's lines are late. Both are found by the log and the desk's rows alone, so
+all machines find the same.
+
+A desk that was stopped has so many places. Of the log's lines behind a mark at which the desk has stood, each that is word for
+word the next row has taken that row's place; the others behind which rows are left were refused, or repeated. So all of them are
+passed over, and what stands behind the line of the last row is carried out. A line that is late counts in neither."""
+
+import contextlib
+import hashlib
+import itertools
+import os
+import sqlite3
+from collections import deque
+from collections.abc import Iterable, Sequence
+
+import stockdesk_tools as tools
+from stockdesk_log import ToldMark
+from stockdesk_tools import LOG, Fault
+
+
+def copy_desk(path: str, target: str) -> None:
+    """Copies a desk that no program has open, with its log, so that nothing but its own program ever writes its file."""
+    for suffix in ["", LOG]:
+        if os.path.exists(path + suffix):
+            tools.copy(path + suffix, target + suffix)
+
+
+def kept_lines(copy: str) -> list[bytes]:
+    """The accepted commands of a desk, read in a copy, as lines of the log in the order of their places."""
+    try:
+        with contextlib.closing(sqlite3.connect(copy)) as database:
+            rows = database.execute("SELECT place, reqkey, words FROM kept ORDER BY place").fetchall()
+    except sqlite3.Error as fault:
+        raise Fault(f"SQLite cannot read the desk: {fault}") from fault
+    if any(place != at for at, (place, _, _) in enumerate(rows, 1)):
+        raise Fault("the desk's places have a gap")
+    return [f"{key} {words}".encode() for _, key, words in rows]
+
+
+def link(digest: bytes, line: bytes) -> bytes:
+    return hashlib.sha256(digest + line).digest()
+
+
+def digests_of(rows: Iterable[bytes]) -> list[bytes]:
+    """The digest behind each place, from none on."""
+    return list(itertools.accumulate(rows, link, initial=b""))
+
+
+def has_place(digests: list[bytes], place: int, digest: str) -> bool:
+    """Whether of the rows of these digests the first ones, so many, have this one."""
+    return place < len(digests) and digests[place].hex() == digest
+
+
+class Walk:
+    """A desk's way along the log: how many places the ledger has behind what was passed over or answered, their digest, and the
+    rows that the log has not come to yet."""
+
+    def __init__(self, rows: Sequence[bytes]):
+        self.rows = deque(rows)
+        self.place, self.digest = 0, b""
+
+    def go_to_mark(self, marks: Iterable[ToldMark]) -> int:
+        """Goes to the newest mark at which a desk had the first of these rows and no others, and returns its revision, or 0."""
+        digests = digests_of(self.rows)
+        fitting = [mark for mark in sorted(marks) if has_place(digests, mark.place, mark.digest)]
+        if not fitting:
+            return 0
+        self.go_to(fitting[-1].place, digests)
+        return fitting[-1].revision
+
+    def begin(self, places: int, digest: str) -> None:
+        """Goes to where the log began. Fault: the desk is none that it began with."""
+        digests = digests_of(self.rows)
+        if not has_place(digests, places, digest):
+            raise Fault(f"the log begins with {places} places that the desk has not: start from a copy of another machine's")
+        self.go_to(places, digests)
+
+    def go_to(self, place: int, digests: list[bytes]) -> None:
+        self.place, self.digest = place, digests[place]
+        for _ in range(place):
+            self.rows.popleft()
+
+    def passes_over(self, line: bytes) -> bool:
+        """Whether the desk has carried a line out: so it has as long as rows are left, of which each was the first such line
+        behind the one before."""
+        if not self.rows:
+            return False
+        if self.rows[0] == line:
+            self.rows.popleft()
+            self.take_place(line)
+        return True
+
+    def take_place(self, line: bytes) -> None:
+        self.place, self.digest = self.place + 1, link(self.digest, line)
+
+
+class Past:
+    """What of the log decides which lines are late: those that were asked for before the last mark, and those whose key stood in
+    a line that was not late behind what was known when they were asked for."""
+
+    def __init__(self) -> None:
+        self.mark = 0
+        self.recent: dict[bytes, int] = {}
+
+    def is_late(self, line: bytes, base: int) -> bool:
+        return base < self.mark or self.recent.get(key_of(line), 0) > base
+
+    def note(self, line: bytes, revision: int) -> None:
+        self.recent[key_of(line)] = revision
+
+    def set_mark(self, revision: int) -> None:
+        self.mark = revision
+        self.recent.clear()
+
+
+def key_of(line: bytes) -> bytes:
+    return line.partition(b" ")[0]

@@ -1,0 +1,138 @@
+"""Desks by the rules for tests of deals: what they answer over HTTP, also with few places, and how a deal stands there."""
+
+import json
+from collections.abc import Iterable, Sequence
+from random import Random
+from typing import Any
+
+from support.messages import answer_to
+from support.rules import ABORTED, COMMITTED, FIRM, OPEN, Effect, Order, Rules, refuse
+
+# a deal, the moment until which its first desk may wait for it, and the upper bound of its fields
+NUMBER = 900_000_001
+MOMENT = 500
+ROOM = 100
+
+PLACES = 200_000
+NONE = 404, {"error": "none"}
+SHOWN_AT_ONCE = 50
+
+# an answer over HTTP: its status and its object
+Told = tuple[int, dict[str, Any]]
+
+
+class Places(Rules):
+    """A desk by the rules, with their limit of places, some of which are taken already."""
+
+    def __init__(self, taken: int = 0, places: int = PLACES):
+        super().__init__()
+        self.places = places
+        self.kept = {f"R{number}": (number, "expire 0") for number in range(1, taken + 1)}
+
+    def plan(self, command: str) -> Effect:
+        verb = command.split(" ", 1)[0]
+        if verb not in ("commit", "abort"):
+            set_aside = sum(order.state in (OPEN, FIRM) for order in self.orders.values())
+            needed = 2 if verb in ("open", "transfer") else 1
+            refuse(len(self.kept) + set_aside + needed > self.places, "Full")
+        return super().plan(command)
+
+    def does(self, key: str, command: str) -> Told:
+        """Does a command, and answers it."""
+        told = self.would(key, command)
+        self.took(key, command, told)
+        return told
+
+    def would(self, key: str, command: str) -> Told:
+        return answer_to(self.reply(f"{key} {command}"))
+
+    def took(self, key: str, command: str, told: Told) -> None:
+        """A command was answered so."""
+        if told[0] == 200 and key not in self.kept:
+            self.carry_out(key, command)
+
+    def shows(self, target: str) -> Told:
+        """The answer to a view, of those that carriers ask for."""
+        _, version, view, *names = target.split("/")
+        assert version == "v1"
+        if view == "keys":
+            place, words = self.kept.get(names[0], (0, ""))
+            return (200, {"command": words, "place": place}) if place else NONE
+        if view == "desk":
+            open_now = sum(order.state in (OPEN, FIRM) for order in self.orders.values())
+            counts = {"fields": len(self.fields), "open": open_now, "orders": len(self.orders), "places": len(self.kept)}
+            return 200, {"clock": self.clock, **counts}
+        if view == "open":
+            return 200, {"orders": self.open_above(int(names[0]))}
+        return answer_to(self.reply(" ".join(["?", view.removesuffix("s"), *names])))
+
+    def open_above(self, number: int) -> list[dict[str, Any]]:
+        found = sorted(each.number for each in self.orders.values() if each.state in (OPEN, FIRM) and each.number > number)
+        return [self.shows(f"/v1/orders/{each}")[1] for each in found[:SHOWN_AT_ONCE]]
+
+    def answers(self, method: str, target: str, body: str | None) -> Told:
+        """What a message is answered, and does."""
+        if method == "GET":
+            return self.shows(target)
+        return self.does(*command_in(body))
+
+
+def command_in(body: str | bytes | None) -> tuple[str, str]:
+    """The key and the command of a message."""
+    told = json.loads(body or "{}")
+    return told["key"], told["command"]
+
+
+def is_all_used(order: Order | None) -> bool:
+    return order is not None and all(line.used == line.held for line in order.lines)
+
+
+def fault(desks: Sequence[Rules], number: int = NUMBER) -> str | None:
+    """Why what a deal has moved is neither all, nor nothing, nor under way; or why it may stay open for good."""
+    first, *others = [desk.orders.get(number) for desk in desks]
+    if first is None:
+        return "an order at another desk alone" if any(others) else None
+    if first.state != COMMITTED:
+        return "doubled" if any(order and order.state == COMMITTED for order in others) else None
+    ready = [is_all_used(order) and order is not None and order.state in (OPEN, COMMITTED) for order in others]
+    return None if is_all_used(first) and all(ready) else "lost"
+
+
+def is_moved(desks: Sequence[Rules], number: int = NUMBER) -> bool:
+    """Whether all is moved, where a deal has ended; AssertionError: it has not."""
+    found = [desk.orders.get(number) for desk in desks]
+    states = {order.state for order in found if order}
+    moved = states == {COMMITTED} and all(found)
+    assert moved or states <= {ABORTED}, f"a deal stays {states}"
+    return moved
+
+
+def bounds_fault(desks: Iterable[Rules]) -> str | None:
+    """Which field an outcome of the open orders leads out of its bounds."""
+    for desk in desks:
+        for name, field in desk.fields.items():
+            value, inf, sup = desk.numbers(name)
+            if not field.lo <= inf <= value <= sup <= field.hi:
+                return f"{name}: {field} {inf} {value} {sup}"
+    return None
+
+
+def words_of(number: int, article: int) -> str:
+    """A desk's field."""
+    return f"N{number} A-{article}"
+
+
+def others_command(chance: Random, number: int, expires: bool) -> str:
+    """A command of somebody else on the fields that a deal has at a desk, or an expiry, but of the moment that nobody sends."""
+    words, order = words_of(number, chance.choice([1, 1, 2])), chance.randint(1, 4)
+    moves = [f"{verb} {words} {chance.randint(1, 9)}" for verb in ("deliver", "writeoff")]
+    opens = [f"open {order} 3999999999 {way} {words} {chance.randint(1, 4)}" for way in ("take", "add")]
+    ends = [f"use {order} {words} 1", f"commit {order}", f"abort {order}", f"firm {order}"]
+    expiries = [f"expire {chance.choice([MOMENT - 1, MOMENT, 3_999_999_999])}"]
+    return chance.choice(moves + opens + ends + expiries * expires)
+
+
+def fill(desk: Any, words: str, chance: Random) -> None:
+    """Takes all places of a desk that are not set aside."""
+    while desk.does(f"L{chance.getrandbits(60)}", f"rebound {words} 0 {ROOM}")[0] == 200:
+        pass

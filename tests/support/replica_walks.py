@@ -1,0 +1,134 @@
+"""Random logs, and a machine that carries one out and is stopped and started again, wherever: its code over a log that is
+written, and a desk that is a model.
+
+    python3 -m support.replica_walks COUNT    tells the first case that is wrong"""
+
+import asyncio
+import copy
+import os
+import random
+import sys
+from collections.abc import AsyncIterator, Callable
+
+import support  # noqa: F401
+import stockdesk_machine
+from stockdesk_desk import Answer, Connection, Desk
+from stockdesk_log import Entry, Log, ToldMark
+from stockdesk_machine import Machine
+from stockdesk_tools import Fault
+from stockdesk_walk import Walk
+from support.replica_steps import answer_of
+from support.rules import Rules
+
+WORDS = [f"{kind} N1 A-1 {many}" for kind in ("deliver", "writeoff") for many in (1, 2, 3)]
+WORDS += ["open 1 5 take N1 A-1 2", "open 2 5 add N1 A-1 2", "commit 1", "abort 2", "use 1 N1 A-1 1", "expire 1", "expire 5"]
+# behind so many answers a desk is stopped, or it is not
+STOPS = [1, 1, 2, 3, 5, 9, 20, None]
+
+
+class Stopped(Exception):
+    """The desk stops."""
+
+
+class WrittenLog(Log):
+    """A log that is there, and what machines have told at its marks."""
+
+    def __init__(self, entries: list[Entry]):
+        self.entries, self.told = entries, set[ToldMark]()
+
+    async def follow(self, first: int) -> AsyncIterator[Entry]:
+        for entry in self.entries:
+            if entry.revision >= first:
+                yield entry
+
+    async def first(self) -> int:
+        return 1
+
+    async def marks(self) -> list[ToldMark]:
+        return list(self.told)
+
+    async def tell_mark(self, mark: ToldMark) -> None:
+        self.told.add(mark)
+
+
+class StoppedConnection(Connection):
+    """A connection to the rules, which answer at once, so many messages. The last one is carried out, and nobody hears of it."""
+
+    def __init__(self, rules: Rules, stop: int | None):
+        self.begin()
+        self.rules, self.stop = rules, stop
+
+    def ask(self, message: bytes, tell: Callable[[Answer], None]) -> None:
+        answer = answer_of(self.rules, message)
+        self.asked, self.answered = self.asked + 1, self.answered + 1
+        if self.asked == self.stop:
+            raise Stopped
+        tell(answer)
+
+
+def random_value(chance: random.Random, revision: int, fixed: dict[str, str]) -> bytes:
+    """Few keys, mostly each with one command, asked for at some revision before."""
+    base = max(0, revision - chance.choice([1, 1, 2, 3, 6]))
+    keys = chance.choices(list(fixed), k=chance.choice([1, 1, 2, 4]))
+    lines = [f"{key} {fixed[key] if chance.random() < 0.9 else chance.choice(WORDS)}" for key in keys]
+    return "\n".join([f"lines a {revision} {base}", *lines]).encode()
+
+
+def random_log(chance: random.Random) -> list[Entry]:
+    """A small field, so that much is refused now and accepted later; some marks, and revisions that are not the log's."""
+    fixed = {f"K{each}": chance.choice(WORDS) for each in range(chance.choice([3, 6, 12]))}
+    entries, mark = [Entry(1, b"lines a 0 0\nF field N1 A-1 0 4 2")], 0
+    for _ in range(chance.randrange(3, 40)):
+        revision = entries[-1].revision + chance.choice([1, 1, 2])
+        if chance.random() < 0.08:
+            entries.append(Entry(revision, b"mark %d" % chance.choice([mark, mark, mark, 0])))
+            mark = revision
+        else:
+            entries.append(Entry(revision, random_value(chance, revision, fixed)))
+    return entries
+
+
+async def is_carried_out(log: WrittenLog, rules: Rules, stop: int | None) -> bool:
+    """Whether a machine with this desk came to the log's end, or was stopped before."""
+    rows = [f"{key} {words}".encode() for key, (_, words) in sorted(rules.kept.items(), key=lambda each: each[1][0])]
+    machine = Machine("m", log, Walk(rows), Desk(StoppedConnection(rules, stop), []), 10)
+    await machine.find_mark()
+    try:
+        await machine.carry_out()
+    except Stopped:
+        return False
+    finally:
+        await asyncio.sleep(0)
+    if machine.walk.rows:
+        raise Fault("rows are left behind the log's end")
+    return True
+
+
+async def wrong_of(seed: int) -> str:
+    """What is wrong in a case: wherever a desk is stopped, it comes to the rows of one that never was."""
+    chance = random.Random(seed)
+    entries = random_log(chance)
+    whole, rules, log = Rules(), Rules(), WrittenLog(entries)
+    await is_carried_out(WrittenLog(entries), whole, None)
+    try:
+        while not await is_carried_out(log, rules, chance.choice(STOPS)):
+            # a machine begins anew from nothing, or from a copy
+            rules = Rules() if chance.random() < 0.03 else copy.deepcopy(rules)
+    except Fault as fault:
+        return f"case {seed}: {fault}"
+    return "" if rules.rows() == whole.rows() else f"case {seed}: other rows: {set(rules.rows()) ^ set(whole.rows())}"
+
+
+def first_wrong(count: int) -> str:
+    stockdesk_machine.HEAR_SECONDS = 0
+    return next((wrong for seed in range(count) if (wrong := asyncio.run(wrong_of(seed)))), "")
+
+
+def main() -> None:
+    wrong = first_wrong(int(sys.argv[1]))
+    print(wrong or "nothing is wrong", flush=True)
+    os._exit(bool(wrong))
+
+
+if __name__ == "__main__":
+    main()

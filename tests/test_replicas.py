@@ -1,0 +1,109 @@
+"""Tests of a desk on three machines: processes of each are killed and stand still, ways are cut, disks are full or lost, while
+clients ask; then all machines have the same rows, and each answer is one that the rules give, in an order that time allows."""
+
+import asyncio
+import os
+import random
+import shutil
+import time
+import unittest
+from importlib.util import find_spec
+
+from support.cases import ProgramCase, needs, needs_sqlite
+from support.disks import small_disk
+from support.histories import History, judged
+from support.programs import expect, note
+from support.replica_clients import ARTICLES, BRANCHES, Client, Known, Stock, Wire, asked, wait_until_well
+from support.replica_faults import Faults
+from support.replica_network import MACHINES
+from support.replicas import FRONT_PORT, PORT, UP_SECONDS, Machines
+
+SEED = 1986
+CLIENTS, PAUSE = 12, 0.12
+# a mark stands behind so many lines, so there are many
+MARK_LINES = 300
+# etcd lays so much ahead for its log twice
+DISK = 256 << 20
+# faults at the least, and behind how many seconds all clients have their answers
+FAULTS, LAST_SECONDS = 60, 120
+
+LACKING = [name for name in ["aiohttp", "etcd3", "grpc", "uvloop"] if find_spec(name) is None]
+
+
+def wires_of(machines: Machines, by_front: bool) -> list[Wire]:
+    """A client's ways to all machines, which share what it knows of the log."""
+    known = Known()
+    port = FRONT_PORT if by_front else PORT
+    return [Wire((machines.address(each), port), known, machines.fronts[each].context if by_front else None) for each in MACHINES]
+
+
+async def until_first(*works: asyncio.Task) -> None:
+    """Until one of them is done; its fault is raised."""
+    done, _ = await asyncio.wait(works, return_when=asyncio.FIRST_COMPLETED)
+    for work in done:
+        work.result()
+
+
+async def lived(machines: Machines, history: History, small: str | None) -> Faults:
+    """All faults, while clients ask."""
+    keeper = asyncio.create_task(machines.keep_up())
+    places = [(machines.address(each), PORT) for each in MACHINES]
+    await wait_until_well(places, UP_SECONDS)
+    stock = Stock(random.Random(SEED))
+    clients = [Client(each, stock, history, wires_of(machines, each % 2 == 0), PAUSE) for each in range(CLIENTS)]
+    for number, field in enumerate(f"{branch} {article}" for branch in BRANCHES for article in ARTICLES[:2]):
+        await clients[0].ask(f"F{number}", f"field {field} 0 40 20", 1_000)
+    lives = [asyncio.create_task(client.live()) for client in clients]
+    faults = Faults(machines, SEED, small)
+    await until_first(asyncio.create_task(faults.live()), keeper, *lives)
+    for client in clients:
+        client.is_over = True
+    await asyncio.wait_for(asyncio.gather(*lives), LAST_SECONDS)
+    await faults.settle()
+    for place in places:
+        # behind a view each machine has carried all out
+        await asked(place, "/v1/desk", seconds=LAST_SECONDS)
+    for wire in [each for client in clients for each in client.wires]:
+        wire.close()
+    keeper.cancel()
+    return faults
+
+
+@needs("etcd", "etcdctl", "haproxy", "openssl")
+@needs_sqlite
+@unittest.skipIf(LACKING, f"{', '.join(LACKING)} of Python not here")
+class Replicas(ProgramCase):
+    def test_nothing_answered_is_lost_on_three_machines(self):
+        history, began = History(), time.monotonic()
+        with small_disk(self.folder, DISK) as small:
+            machines = Machines(self.program, self.folder, MARK_LINES)
+            try:
+                if small:
+                    os.symlink(small, machines.folder(MACHINES[-1]))
+                machines.make()
+                machines.start_all()
+                faults = asyncio.run(lived(machines, history, small))
+            except BaseException:
+                keep_logs(machines)
+                raise
+            finally:
+                machines.down()
+            tables = machines.tables()
+            if os.environ.get("REPLICA_KEEP"):
+                keep_logs(machines)
+        wrong, counts = judged(history, tables)
+        count = faults.count()
+        note(f"{count} faults in {time.monotonic() - began:.0f} s, {counts}")
+        if not machines.network.can_cut:
+            note("no namespaces here, so no way is cut")
+        expect(not wrong, "\n".join([*wrong[:10], *faults.told]))
+        expect(count >= FAULTS or not machines.network.can_cut, f"only {count} faults: {faults.counts}")
+        expect(counts["places"] > 300 and counts["refused"] > 300, f"little was asked: {counts}")
+
+
+def keep_logs(machines: Machines) -> None:
+    """What the processes wrote, for whoever looks for a fault."""
+    if folder := os.environ.get("REPLICA_KEEP"):
+        for name in os.listdir(machines.root):
+            if name.endswith(".log"):
+                shutil.copy(os.path.join(machines.root, name), folder)
