@@ -152,9 +152,18 @@ class Desks(FrontCase):
                 expect(front.ask(OFFICE, "GET", f"/north{target}") == NONE, f"/north{target}")
 
     def test_limits_are_for_all_desks_together(self):
-        with Chain(self.program, self.folder, limits={**NO_LIMITS, "COMMANDS_BY_USER": "5"}) as front:
+        with Chain(self.program, self.folder, limits={**NO_LIMITS, "COMMANDS_BY_USER": "5", "UNDER_WAY_BY_USER": "3"}) as front:
             found = [front.tell(WAREHOUSE, "commit 7", desk=f"/{desk}")[0] for desk in ["north", "south"] * 4]
             expect(found[:5] == [403] * 5 and found[-1] == 429, f"{found}")
+            front.desk_kill("north")
+            waiting = [front.socket() for _ in range(3)]
+            for client in waiting:
+                client.sendall(head_of(OFFICE, "/north/v1/desk"))
+            time.sleep(0.3)
+            for user, want in [(OFFICE, 429), (WAREHOUSE, 200)]:
+                expect(front.ask(user, "GET", "/south/v1/desk")[0] == want, f"{user} is not answered {want}")
+            for client in waiting:
+                client.close()
 
 
 class Clients(FrontCase):
