@@ -1,10 +1,9 @@
 -- The orders that a list shows, and their object.
-use Rattle.std.proofs.Common.{◌≡◌, ◌≢◌, ◌&&◌, ◌∙◌, ◌≤◌, ◌<◌, ◌+◌, ◌-◌, ◌++◌, ◌∷◌, [], append-nil, Bool, codes, IsSomeAnd, Less, List, None, Option, Some, ap, append_assoc, arith, false, filter, find, inl, inr, map, nat_cmp, nat_le, nat_lt, option_map, refl, subst, suc, sym, take, true, unwrap_or, zero, ℕ}
+use Rattle.std.proofs.Common.{◌≡◌, ◌&&◌, ◌∙◌, ◌≤◌, ◌<◌, ◌+◌, ◌++◌, ◌∷◌, [], append-nil, Bool, codes, IsSomeAnd, Less, List, None, Option, Some, ap, append_assoc, arith, false, filter, find, inl, inr, map, nat_cmp, nat_le, nat_lt, option_map, refl, subst, suc, sym, take, true, unwrap_or, zero, ℕ}
 use Rattle.std.proofs.lemmas.Bool.{cases_Bool}
 use Rattle.std.proofs.lemmas.Bool.Decides.{nat_tests}
 use Rattle.std.proofs.Math.Seq.{take-nil}
 use Rattle.std.proofs.lemmas.List.{take-map}
-use Rattle.std.proofs.lemmas.List.Elements.{filter_agree}
 use Rattle.std.specs.List.{AllByRecursion as Each}
 use Rattle.std.specs.List.Sorted.{IsStrictlySortedBy}
 use Rattle.serde_json.specs.Data.{Data, array, null}
@@ -128,7 +127,6 @@ is_last floor none = elim (cases_Bool (nat_le 999999999 floor)) [
 -- what is listed so far, and as many more as there is room for
 abbrev pub IsListed : Ledger → ℕ → ℕ → ℕ → List ℕ → Type 0
 IsListed A floor last room numbers = take MOST_ORDERS (open_left A floor) ≡ numbers ++ take room (open_left A last)
-
 
 listed_so : (A : Ledger) (floor : ℕ) → take MOST_ORDERS (open_left A floor) ≡ map (λ o. o.number) (open_above A floor)
 listed_so A floor = take-map (λ (o : Order). o.number) MOST_ORDERS (filter (is_above floor) A.orders)

@@ -7,11 +7,10 @@ use Rattle.std.proofs.lemmas.Str.Parse.{digit_from_value}
 use Rattle.std.specs.List.{list_all}
 use Rattle.std.specs.Str.Parse.{AllDigits}
 use Rattle.escrow.specs.Codes.{IsArticle, IsBranch, IsKey, is_article_byte, is_branch_byte, is_key_byte}
-use Rattle.escrow.specs.Ranges.{IsMoment, IsOrderNo}
 use Rattle.matchit.specs.Params.{named}
 use Rattle.matchit.specs.Router.{RouteOf}
 use Rattle.matchit.specs.Seek.{first, has_slash, same_text, slash}
-use Rattle.web.specs.Asks.{IsFloor, Says}
+use Rattle.web.specs.Asks.{Says}
 use Rattle.web.specs.Messages.{Message}
 use Rattle.web.specs.Reads.{IsRead}
 use Rattle.web.specs.Routes.{IsView, part_of, parts_on, resource_of, routes}

@@ -1,5 +1,5 @@
 -- Which orders a list shows.
-use Rattle.std.specs.Prelude.{◌&&◌, ℕ, Bool, List, filter, map, nat_lt, take}
+use Rattle.std.specs.Prelude.{◌&&◌, ℕ, List, filter, map, nat_lt, take}
 use Rattle.book.specs.Ledger.{Ledger, Order, is_open}
 use Rattle.book.specs.Next.{expires}
 use Rattle.web.specs.declared.orders.TheConstants.{MOST_ORDERS}
