@@ -14,6 +14,7 @@ import time
 import warnings
 from http.client import HTTPMessage
 
+from support.cases import needs
 from support.fronts import NO_LIMITS, OFFICE, PAGE, SHOP, WAREHOUSE, Front, FrontCase, credentials, head_of, message
 from support.programs import SECONDS, expect
 
@@ -91,6 +92,18 @@ class Users(FrontCase):
                     expect(answer.getheader("WWW-Authenticate") == 'Basic realm="stockdesk"', "no realm")
                     connection.close()
             expect(front.value() == 500, "something was delivered")
+
+    @needs("curl")
+    def test_what_is_refused_is_told_over_http2(self):
+        """To a client that is still sending its body, as curl by HTTP/2, each time."""
+        wanted = [("/v1/none", "POST", 404), ("/v1/commands", "PUT", 405), ("/v1/commands", "POST", 413)]
+        with Front(self.program, self.folder) as front:
+            words = ["curl", "--silent", "--insecure", "--user", "ho:ho", "--output", "/dev/null", "--write-out", "%{http_code}"]
+            for target, method, want in wanted:
+                body = "x" * (5_000 if want == 413 else 60)
+                ask = [*words, "--request", method, "--data", body, f"https://localhost:{front.port}{target}"]
+                found = [subprocess.run(ask, capture_output=True, text=True).stdout for _ in range(25)]
+                expect(found == [str(want)] * 25, f"{method} {target}: {found}")
 
     def test_a_stopped_desk_may_start_again(self):
         """A file that may not grow stops the desk. It is told, and the desk ends by itself; started again it does the same

@@ -11,7 +11,7 @@ from support.programs import done, new_desk
 
 SHIPPED = os.path.join(DEPLOY, "desks.cfg")
 # the first desk that is shipped, and its address
-NAME, ADDRESS = "north", "127.0.0.1:8081"
+NAME, ADDRESS = "north", "127.0.0.1:8080"
 
 
 def script_of(desk: str) -> str:
