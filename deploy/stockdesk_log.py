@@ -131,7 +131,8 @@ class Log:
         request = rpc_pb2.RangeRequest(key=prefix, range_end=prefix[:-1] + b"0")
         while not (found := await self.try_call(self.store.Range, request)):
             pass
-        told = [(*pair.key.decode().split("/")[-2:], *pair.value.decode().split()) for pair in found.kvs]
+        # the digest of a desk that has kept nothing is an empty word
+        told = [(*pair.key.decode().split("/")[-2:], *pair.value.decode().split(" ")) for pair in found.kvs]
         return [ToldMark(int(revision), machine, int(place), digest) for revision, machine, place, digest in told]
 
     async def tell_mark(self, mark: ToldMark) -> None:

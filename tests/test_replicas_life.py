@@ -168,6 +168,32 @@ class ReplicasLife(ProgramCase):
         found = [rows_of(machines.desk(each)) for each in MACHINES]
         expect(found[0] == found[1] == found[2], "other rows at the end")
 
+    def test_a_log_begins_with_an_empty_desk(self):
+        """Each machine starts on it, and again behind its mark, at which a desk with nothing stood."""
+
+        async def live(machines: Machines) -> None:
+            await machines.begin_log()
+            for machine in MACHINES:
+                machines.start("replica", machine)
+            await well(machines)
+            await machines.try_until(lambda: len(machines.marks(1)) > 0)
+            for machine in MACHINES:
+                await machines.stop("replica", machine)
+                machines.start("replica", machine)
+                await well(machines, machine)
+            answers = await all_told(machines, [(1, "K1", "field N1 A-1 0 100 20"), (2, "K2", "deliver N1 A-1 5")])
+            expect(answers == [(200, {"place": 1}), (200, {"place": 2})], f"{answers}")
+            for machine in MACHINES:
+                await machines.stop("replica", machine)
+                machines.start("replica", machine)
+            await well(machines)
+            answers = await all_told(machines, [(3, "K2", "deliver N1 A-1 5"), (3, "K3", "writeoff N1 A-1 25")])
+            expect(answers == [(200, {"place": 2}), (200, {"place": 3})], f"{answers}")
+
+        machines = self.run_machines(live)
+        tables = machines.tables()
+        expect(tables[0] == tables[1] == tables[2], "other rows")
+
     def test_a_desk_that_goes_astray_is_ended(self):
         """A machine whose program leaves out a command differs at the next mark, and ends with status 4; the others go on."""
         right = "            if not self.walk.passes_over(line):"
