@@ -293,10 +293,11 @@ class Units(ProgramCase):
             expect((others in text and "LOG" in text) if is_refused else not text, f"{unit}, {settings}: {text}")
 
     def test_the_guide_switches_on_each_timer(self):
-        with open(os.path.join(TOP, "docs", "OPERATING.md"), encoding="utf-8") as file:
-            [words] = re.findall(r"^systemctl enable --now (.*)$", file.read(), re.MULTILINE)
         timers = [os.path.basename(unit).replace("@", "@shop") for unit in UNITS if unit.endswith("@.timer")]
-        expect(sorted(words.split()) == sorted(["stockdesk@shop", *timers]), f"{words}")
+        for guide, service in [("OPERATING.md", "stockdesk@shop"), ("REPLICAS.md", "stockdesk-replica@shop")]:
+            with open(os.path.join(TOP, "docs", guide), encoding="utf-8") as file:
+                [words] = re.findall(r"^systemctl enable --now (stockdesk.*)$", file.read(), re.MULTILINE)
+            expect(sorted(words.split()) == sorted([service, *timers]), f"{guide}: {words}")
 
     @needs("strace")
     def test_the_service_needs_no_call_that_its_unit_refuses(self):
