@@ -3,8 +3,8 @@ entry is a head line and, behind `lines`, the commands, each a line KEY COMMAND:
 
     lines RUN NUMBER BASE    RUN and NUMBER name the entry; BASE is the revision that its machine had come to, up to which none of
                              the lines was late
-    begin PLACES DIGEST      the first entry of a log that begins with a desk that is not empty: the desk has so many places, and
-                             what is kept at them has that digest
+    begin PLACES DIGEST      the first entry of a log that begins with a certain desk: it has so many places, and what is kept at
+                             them has that digest; that of nothing is an empty word
     mark BASE                nothing behind it that was asked for before it counts; BASE is the mark before
     end                      nothing behind it counts: the desk is rolled over, or its program changed
 
@@ -131,7 +131,7 @@ class Log:
         request = rpc_pb2.RangeRequest(key=prefix, range_end=prefix[:-1] + b"0")
         while not (found := await self.try_call(self.store.Range, request)):
             pass
-        told = [(*pair.key.decode().split("/")[-2:], *pair.value.decode().split()) for pair in found.kvs]
+        told = [(*pair.key.decode().split("/")[-2:], *pair.value.decode().split(" ")) for pair in found.kvs]
         return [ToldMark(int(revision), machine, int(place), digest) for revision, machine, place, digest in told]
 
     async def tell_mark(self, mark: ToldMark) -> None:

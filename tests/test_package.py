@@ -8,13 +8,14 @@ import gzip
 import importlib.util
 import os
 import re
+import shlex
 import shutil
 import subprocess
 import unittest
 
 from support import DEPLOY, TOP
 from support.cases import ProgramCase, needs
-from support.copies import BACKUP, alone
+from support.copies import BACKUP, RESTORE, alone
 from support.deal_chains import chain
 from support.deal_runs import CARRIER
 from support.fronts import PAGE, TOGETHER
@@ -189,10 +190,24 @@ def calls_of(group: str) -> set[str]:
     return {name for name in names if name[0] != "@"}.union(*(calls_of(name) for name in names if name[0] == "@"))
 
 
-def allowed_calls() -> set[str]:
-    # as root alone SQLite gives a file its owner
-    as_root = {"fchown"} if os.geteuid() == 0 else set()
-    return (calls_of("@system-service") - calls_of("@privileged") - calls_of("@resources")) | {"execve"} | as_root
+def settings_of(unit: str, name: str) -> list[str]:
+    """The values of a setting in a unit, in their order."""
+    with open(os.path.join(DEPLOY, unit), encoding="utf-8") as file:
+        return re.findall(rf"^{name}=(.*)$", file.read(), re.MULTILINE)
+
+
+def calls_in(words: str) -> set[str]:
+    return set().union(*(calls_of(word) if word[0] == "@" else {word} for word in words.split()))
+
+
+def allowed_calls(unit: str) -> set[str]:
+    """What the unit's filters let pass, each of which adds to those before it or, behind `~`, takes from them."""
+    found = {"execve"}
+    for words in settings_of(unit, "SystemCallFilter"):
+        found = found - calls_in(words[1:]) if words[0] == "~" else found | calls_in(words)
+    # as root alone Python's SQLite gives a file its owner; the program does so as any user
+    as_root = {"fchown"} if unit == "stockdesk-check@.service" and os.geteuid() == 0 else set()
+    return found | as_root
 
 
 def traced(folder: str, program: str, option: str = "") -> tuple[str, str]:
@@ -204,13 +219,20 @@ def traced(folder: str, program: str, option: str = "") -> tuple[str, str]:
     return wrapper, log
 
 
-def expect_allowed(log: str, some: str) -> None:
-    """The units let these calls pass, one of that name among them, and none maps memory to write and to run."""
+def without_log(program: str, folder: str, path: str) -> None:
+    """Makes a desk in a file beside which no log lies, as a copy that was brought back."""
+    done(program, ["init", os.path.join(folder, "copy.db")])
+    told = run([RESTORE, os.path.join(folder, "copy.db"), path, "--program", program])
+    expect(told.returncode == 0 and not os.path.exists(f"{path}-wal"), f"not restored without a log: {told}")
+
+
+def expect_allowed(log: str, unit: str, some: str) -> None:
+    """The unit lets these calls pass, one of that name among them, and none maps memory to write and to run."""
     with open(log, encoding="utf-8") as file:
         text = file.read()
     used = set(re.findall(r"^\d+ +(\w+)\(", text, re.MULTILINE))
     expect(some in used, f"nothing was traced: {used}")
-    expect(used <= allowed_calls(), f"refused by the unit: {used - allowed_calls()}")
+    expect(used <= allowed_calls(unit), f"refused by {unit}: {used - allowed_calls(unit)}")
     expect(not re.search(r"PROT_WRITE\|PROT_EXEC|mprotect\(.*PROT_EXEC", text), "memory is to be written and run")
 
 
@@ -251,24 +273,44 @@ class Units(ProgramCase):
             expect(set(SHARED) <= set(kept), f"{name} lacks {set(SHARED) - set(kept)}")
             note(f"{name} {found[1]}")
 
+    def test_a_desk_is_served_alone_or_as_one_of_several(self):
+        """The desk's settings decide: a unit that is not meant is not started, and tells why. So no desk that several machines
+        hold acknowledges what the others lack."""
+        for unit, settings, is_refused in [
+            ("stockdesk@.service", {"PORT": "8080"}, False),
+            ("stockdesk@.service", {"PORT": "8080", "LOG": ""}, False),
+            ("stockdesk@.service", {"PORT": "8080", "MACHINE": "m1", "LOG": "shop/1"}, True),
+            ("stockdesk-replica@.service", {"PORT": "8080"}, True),
+            ("stockdesk-replica@.service", {"PORT": "8080", "MACHINE": "m1", "LOG": ""}, True),
+            ("stockdesk-replica@.service", {"PORT": "8080", "MACHINE": "m1", "LOG": "shop/1"}, False),
+        ]:
+            [words] = settings_of(unit, "ExecCondition")
+            expect(settings_of(unit, "EnvironmentFile") == ["/etc/stockdesk/%i.conf"], f"{unit} does not read the settings")
+            told = run(shlex.split(words.replace("%i", "shop")), env=settings)
+            expect(told.returncode == (1 if is_refused else 0), f"{unit}, {settings}: {told}")
+            others = "stockdesk@shop" if "replica" in unit else "stockdesk-replica@shop"
+            text = told.stderr
+            expect((others in text and "LOG" in text) if is_refused else not text, f"{unit}, {settings}: {text}")
+
     def test_the_guide_switches_on_each_timer(self):
-        with open(os.path.join(TOP, "docs", "OPERATING.md"), encoding="utf-8") as file:
-            [words] = re.findall(r"^systemctl enable --now (.*)$", file.read(), re.MULTILINE)
         timers = [os.path.basename(unit).replace("@", "@shop") for unit in UNITS if unit.endswith("@.timer")]
-        expect(sorted(words.split()) == sorted(["stockdesk@shop", *timers]), f"{words}")
+        for guide, service in [("OPERATING.md", "stockdesk@shop"), ("REPLICAS.md", "stockdesk-replica@shop")]:
+            with open(os.path.join(TOP, "docs", guide), encoding="utf-8") as file:
+                [words] = re.findall(r"^systemctl enable --now (stockdesk.*)$", file.read(), re.MULTILINE)
+            expect(sorted(words.split()) == sorted([service, *timers]), f"{guide}: {words}")
 
     @needs("strace")
     def test_the_service_needs_no_call_that_its_unit_refuses(self):
-        """A service under strace that makes, fills and serves a desk."""
+        """A service under strace that serves and fills a desk without a log, which it makes."""
         wrapper, log = traced(self.folder, self.program)
         path = os.path.join(self.folder, "desk.db")
-        done(self.program, ["init", path])
+        without_log(self.program, self.folder, path)
         service = Service(wrapper, path, 1, options=TOGETHER)
         connection = service.connect()
         post(connection, "K1", "field N1 A-1 0 100 40")
         connection.close()
         service.expect_end()
-        expect_allowed(log, "accept4")
+        expect_allowed(log, "stockdesk@.service", "accept4")
 
     @needs("strace")
     def test_the_carrier_needs_no_call_that_its_unit_refuses(self):
@@ -279,7 +321,7 @@ class Units(ProgramCase):
             expect(told.returncode == 0, f"not moved: {told}")
             told = run([wrapper, "--resume-all", *desks.urls()])
             expect(told.returncode == 0, f"not looked at: {told}")
-            expect_allowed(log, "connect")
+            expect_allowed(log, "stockdesk-between.service", "connect")
 
     @needs("strace")
     def test_the_tools_need_no_call_that_their_units_refuse(self):
@@ -290,11 +332,11 @@ class Units(ProgramCase):
             wrapper, log = traced(self.folder, BACKUP)
             told = run([wrapper, str(service.process.pid), path, self.folder, "--program", self.program])
             expect(told.returncode == 0, f"no copy: {told}")
-            expect_allowed(log, "pidfd_send_signal")
+            expect_allowed(log, "stockdesk-backup@.service", "pidfd_send_signal")
             wrapper, log = traced(self.folder, ROLLOVER)
             told = run([wrapper, "--check", path])
             expect(told.returncode == 0, f"not looked at: {told}")
-            expect_allowed(log, "openat")
+            expect_allowed(log, "stockdesk-check@.service", "openat")
 
     @needs("strace")
     def test_the_tools_that_ask_a_desk_need_no_call_that_their_units_refuse(self):
@@ -305,14 +347,19 @@ class Units(ProgramCase):
         service = Service(self.program, path, 3, options=TOGETHER)
         place = os.path.join(self.folder, "clock")
         os.mkdir(place)
-        for tool, words, told_of in [
-            (ROLLOVER, ["--check", path, "--port", str(service.port)], "orders: 1 of"),
-            (CLOCK, [str(service.port), "--seen", os.path.join(place, "seen"), "--jump"], "): 1; `expire "),
+        for unit, tool, words, told_of in [
+            ("stockdesk-check@.service", ROLLOVER, ["--check", path, "--port", str(service.port)], "orders: 1 of"),
+            (
+                "stockdesk-clock@.service",
+                CLOCK,
+                [str(service.port), "--seen", os.path.join(place, "seen"), "--jump"],
+                "): 1; `expire ",
+            ),
         ]:
             wrapper, log = traced(self.folder, tool)
             told = run([wrapper, *words])
             expect((told.returncode, told.stderr) == (0, "") and told_of in told.stdout, f"{told}")
-            expect_allowed(log, "connect")
+            expect_allowed(log, unit, "connect")
             with open(log, encoding="utf-8") as file:
                 families = set(re.findall(r"socket\((\w+),", file.read()))
             expect(families == {"AF_INET"}, f"{families}")
@@ -320,7 +367,7 @@ class Units(ProgramCase):
 
     @needs("strace", "etcd", "etcdctl", "openssl")
     def test_a_machine_of_three_needs_no_call_that_its_unit_refuses(self):
-        """A machine under strace, with its desk, takes a command and shows a field."""
+        """A machine under strace, with its desk, whose log it makes, takes a command and shows a field."""
         lacking = [name for name in ["aiohttp", "etcd3", "grpc", "uvloop"] if importlib.util.find_spec(name) is None]
         if lacking:
             self.skipTest(f"{', '.join(lacking)} of Python not here")
@@ -329,6 +376,9 @@ class Units(ProgramCase):
         machines = Machines(self.program, self.folder, has_fronts=False)
         try:
             machines.make()
+            shutil.rmtree(os.path.dirname(machines.desk(1)))
+            os.makedirs(os.path.dirname(machines.desk(1)))
+            without_log(self.program, self.folder, machines.desk(1))
             for machine in MACHINES:
                 machines.start("etcd", machine)
             machines.interpreter, machines.replica = [], wrapper
@@ -336,4 +386,4 @@ class Units(ProgramCase):
             asyncio.run(expect_served(machines))
         finally:
             machines.down()
-        expect_allowed(log, "prctl")
+        expect_allowed(log, "stockdesk-replica@.service", "prctl")

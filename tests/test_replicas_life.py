@@ -2,6 +2,7 @@
 desks that are another log's or go astray; a client that knows several machines; bad messages."""
 
 import asyncio
+import hashlib
 import json
 import os
 import shutil
@@ -167,6 +168,44 @@ class ReplicasLife(ProgramCase):
             await machines.stop("replica", machine)
         found = [rows_of(machines.desk(each)) for each in MACHINES]
         expect(found[0] == found[1] == found[2], "other rows at the end")
+
+    def test_a_log_begins_with_an_empty_desk(self):
+        """Each machine starts on it, and again behind its mark, at which a desk with nothing stood."""
+
+        async def live(machines: Machines) -> None:
+            await machines.begin_log()
+            for machine in MACHINES:
+                machines.start("replica", machine)
+            await well(machines)
+            await machines.try_until(lambda: len(machines.marks(1)) > 0)
+            for machine in MACHINES:
+                await machines.stop("replica", machine)
+                machines.start("replica", machine)
+                await well(machines, machine)
+            answers = await all_told(machines, [(1, "K1", "field N1 A-1 0 100 20"), (2, "K2", "deliver N1 A-1 5")])
+            expect(answers == [(200, {"place": 1}), (200, {"place": 2})], f"{answers}")
+            for machine in MACHINES:
+                await machines.stop("replica", machine)
+                machines.start("replica", machine)
+            await well(machines)
+            answers = await all_told(machines, [(3, "K2", "deliver N1 A-1 5"), (3, "K3", "writeoff N1 A-1 25")])
+            expect(answers == [(200, {"place": 2}), (200, {"place": 3})], f"{answers}")
+            await self.expect_mark(machines, ["K1 field N1 A-1 0 100 20", "K2 deliver N1 A-1 5", "K3 writeoff N1 A-1 25"])
+
+        machines = self.run_machines(live)
+        tables = machines.tables()
+        expect(tables[0] == tables[1] == tables[2], "other rows")
+
+    async def expect_mark(self, machines: Machines, lines: list[str]) -> None:
+        """At a mark that an operator sets each machine tells these lines' number and digest."""
+        newest = max(revision for revision, _ in machines.marks(1))
+        machines.etcdctl(1, "put", "desk/1/log", f"mark {newest}")
+        await machines.try_until(lambda: sum(revision > newest for revision, _ in machines.marks(1)) == len(MACHINES))
+        found = machines.etcdctl(1, "get", "--prefix", "--print-value-only", "desk/1/marks/").split("\n")
+        digest = b""
+        for line in lines:
+            digest = hashlib.sha256(digest + line.encode()).digest()
+        expect(found.count(f"{len(lines)} {digest.hex()}") == len(MACHINES), f"{found}")
 
     def test_a_desk_that_goes_astray_is_ended(self):
         """A machine whose program leaves out a command differs at the next mark, and ends with status 4; the others go on."""
