@@ -22,7 +22,6 @@ use Rattle.escrow.specs.Ranges.{IsOrderNo}
 use Rattle.web.specs.Answers.{answer_bytes, json_answer}
 use Rattle.web.specs.Objects.{listed_object, numbered_object, object_of, order_object, orders_object}
 use Rattle.web.specs.Orders.{due, open_above, open_left}
-use Rattle.web.specs.declared.orders.TheConstants.{MOST_ORDERS}
 use Rattle.web.proofs.OrderObject.{order_has_none}
 
 -- ---- the open orders above a number
@@ -126,10 +125,10 @@ is_last floor none = elim (cases_Bool (nat_le 999999999 floor)) [
 
 -- what is listed so far, and as many more as there is room for
 abbrev pub IsListed : Ledger → ℕ → ℕ → ℕ → List ℕ → Type 0
-IsListed A floor last room numbers = take MOST_ORDERS (open_left A floor) ≡ numbers ++ take room (open_left A last)
+IsListed A floor last room numbers = take 50 (open_left A floor) ≡ numbers ++ take room (open_left A last)
 
-listed_so : (A : Ledger) (floor : ℕ) → take MOST_ORDERS (open_left A floor) ≡ map (λ o. o.number) (open_above A floor)
-listed_so A floor = take-map (λ (o : Order). o.number) MOST_ORDERS (filter (is_above floor) A.orders)
+listed_so : (A : Ledger) (floor : ℕ) → take 50 (open_left A floor) ≡ map (λ o. o.number) (open_above A floor)
+listed_so A floor = take-map (λ (o : Order). o.number) 50 (filter (is_above floor) A.orders)
 
 -- where none is left all are listed
 pub none_more : (A : Ledger) (floor last room : ℕ) (numbers : List ℕ) → open_left A last ≡ [] → IsListed A floor last room numbers
@@ -149,8 +148,8 @@ one_more A floor last next room numbers more e pushed h =
     h ∙ ap (λ (left : List ℕ). numbers ++ take (suc room) left) e ∙ sym (append_assoc numbers (next ∷ []) (take room (open_left A next)))
     ∙ ap (λ (all : List ℕ). all ++ take room (open_left A next)) (sym pushed)
 
-pub due_listed : (A : Ledger) (moment : ℕ) → take MOST_ORDERS (map (λ o. o.number) (filter (expires moment) A.orders)) ≡ map (λ o. o.number) (due A moment)
-due_listed A moment = take-map (λ (o : Order). o.number) MOST_ORDERS (filter (expires moment) A.orders)
+pub due_listed : (A : Ledger) (moment : ℕ) → take 50 (map (λ o. o.number) (filter (expires moment) A.orders)) ≡ map (λ o. o.number) (due A moment)
+due_listed A moment = take-map (λ (o : Order). o.number) 50 (filter (expires moment) A.orders)
 
 -- ---- their object
 
@@ -178,15 +177,15 @@ objects_same A (o ∷ os) h =
 
 -- the object of the first of the orders that pass a test
 pub same_object : (A : Ledger) (test : Order → Bool) → Good A
-    → listed_object A (map (λ o. o.number) (take MOST_ORDERS (filter test A.orders))) ≡ orders_object (take MOST_ORDERS (filter test A.orders))
+    → listed_object A (map (λ o. o.number) (take 50 (filter test A.orders))) ≡ orders_object (take 50 (filter test A.orders))
 same_object A test good =
-    let there = there_taken A MOST_ORDERS _ (there_kept A test A.orders (find_self A.orders good.orders_in_order)) in
+    let there = there_taken A 50 _ (there_kept A test A.orders (find_self A.orders good.orders_in_order)) in
     ap (λ (objects : List Data). object_of ((codes "orders", array (items_of objects)) ∷ [])) (objects_same A _ there)
 
 -- what is written of those whose numbers are listed
 pub list_written : (A : Ledger) (test : Order → Bool) (bytes listed numbers : List ℕ) → Good A → listed ≡ numbers
-    → numbers ≡ map (λ o. o.number) (take MOST_ORDERS (filter test A.orders)) → bytes ≡ answer_bytes (json_answer 200 (listed_object A listed))
-    → bytes ≡ answer_bytes (json_answer 200 (orders_object (take MOST_ORDERS (filter test A.orders))))
+    → numbers ≡ map (λ o. o.number) (take 50 (filter test A.orders)) → bytes ≡ answer_bytes (json_answer 200 (listed_object A listed))
+    → bytes ≡ answer_bytes (json_answer 200 (orders_object (take 50 (filter test A.orders))))
 list_written A test bytes listed numbers good same e h =
     h ∙ ap (λ (ns : List ℕ). answer_bytes (json_answer 200 (listed_object A ns))) (same ∙ e)
     ∙ ap (λ (object : Data). answer_bytes (json_answer 200 object)) (same_object A test good)

@@ -79,7 +79,8 @@ pub returns-in_err-floor_of-in-Open-clause-none : goal.returns-in_err-floor_of-i
 returns-in_err-floor_of-in-Open-clause-none c =
     let m = match_of _ _ c.in-Ok.found.params _ c.requires c.utf8.target c.in-Ok.ensures.found c.in-Ok.ensures.path in
     let none = c.in_err-floor_of-in-Open.ensures m.text in
-    if_none _ (no_view _ Open (m.resource ∙ ap Some c.in-Open.is) (λ (part, e, (n, is, written)). none n is (sym (m.part (codes "number")) ∙ e ∙ ap Some written)))
+    if_none _ (no_view _ Open (m.resource ∙ ap Some c.in-Open.is)
+    (λ (part, e, (n, is, written)). none n is (sym (m.part (codes "number")) ∙ e ∙ ap Some written)))
 
 pub returns-in_ok-floor_of-in-Open-clause-some : goal.returns-in_ok-floor_of-in-Open-clause-some
 returns-in_ok-floor_of-in-Open-clause-some c =
@@ -91,7 +92,8 @@ pub returns-in_err-moment_of-in-Due-clause-none : goal.returns-in_err-moment_of-
 returns-in_err-moment_of-in-Due-clause-none c =
     let m = match_of _ _ c.in-Ok.found.params _ c.requires c.utf8.target c.in-Ok.ensures.found c.in-Ok.ensures.path in
     let none = c.in_err-moment_of-in-Due.ensures m.text in
-    if_none _ (no_view _ Due (m.resource ∙ ap Some c.in-Due.is) (λ (part, e, (n, is, written)). none n is (sym (m.part (codes "moment")) ∙ e ∙ ap Some written)))
+    if_none _ (no_view _ Due (m.resource ∙ ap Some c.in-Due.is)
+    (λ (part, e, (n, is, written)). none n is (sym (m.part (codes "moment")) ∙ e ∙ ap Some written)))
 
 pub returns-in_ok-moment_of-in-Due-clause-some : goal.returns-in_ok-moment_of-in-Due-clause-some
 returns-in_ok-moment_of-in-Due-clause-some c =
