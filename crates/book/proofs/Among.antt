@@ -1,5 +1,7 @@
 -- Rows among changes, as changes are appended.
-use Rattle.book.proofs.Prelude.{[], ◌++◌, ◌∷◌, ◌≡◌, Change, List, append-nil, arith, joined, refl, rows_among}
+use Rattle.ledger.proofs.Prelude.{[], ◌++◌, ◌∷◌, ◌≡◌, List, append-nil, arith, refl, rows_among}
+use Rattle.ledger.specs.declared.rows.Change.{Change}
+use Rattle.book.proofs.Prelude.{joined}
 
 pub rows_among-append : (xs ys : List Change) → rows_among (xs ++ ys) ≡ joined (rows_among xs) (rows_among ys)
 rows_among-append [] ys = refl

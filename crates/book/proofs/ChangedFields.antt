@@ -1,18 +1,20 @@
 -- The fields that a request makes or changes, put in one after the other, and what lines add to them.
-use Rattle.book.proofs.Prelude.{held_to_add, held_to_take, Add, Bool, Each, Equal, Err, Field, FieldCells, FieldEntry, Counts, CountsAll, Greater, IfOk, IsStrictlySortedBy, IsUpToDate, Ledger, Less, Line, List, Name, None, Ok, OnOk, OpenLine, Option, Order, Ordering, Result, Some, Stock, Take, Way, [], ap, arith, cond, drop, entry_row, false, field_named, field_of, find, flat_map, get_or, held_of, holding, if_add, if_take, if◌then◌else◌, insert_entry, ints, is_at, is_eq, is_some, keys_of, length, line_name, list_any, lookup, map, match_ordering, name_cmp, new_line, not, on, order_numbered, ordering_reverse, pos, refl, same_name, subst, sym, take, tied_itself, true, true≢false, ℕ, ℤ, ◌&&◌, ◌++◌, ◌+ℤ◌, ◌+◌, ◌<◌, ◌||◌, ◌∙◌, ◌∷◌, ◌≡◌, ◌≤ℤ◌, ◌≤◌, ◌-ℤ◌, AreHeld, Becomes, CountsMore, MayCount, Share, ShareStep, add_part, added_on, before_on, new_share, no_share, settled, settled_part, share_numbers, take_part, append-nil, append_assoc, name_of, Bor, MatchOption, LineStep, Falls, OrderEntry, Step, flat_map-append, line_steps, lines_before, map-append, option_copied, option_map_or, order_of, share_step, shares_of_step, step_seen, step_to}
+use Rattle.ledger.proofs.Prelude.{Add, AreHeld, Bool, Bor, Each, Equal, Err, Falls, Field, FieldCells, Greater, IfOk, IsStrictlySortedBy, Ledger, Less, LineStep, List, MatchOption, Name, None, Ok, OnOk, OpenLine, Option, Order, Ordering, Result, ShareStep, Some, Step, Stock, Take, Way, [], add_part, added_on, ap, append-nil, append_assoc, arith, before_on, cond, drop, false, field_named, find, flat_map, flat_map-append, get_or, held_of, held_to_add, held_to_take, holding, if_add, if_take, if◌then◌else◌, insert_entry, ints, is_at, is_eq, is_some, keys_of, length, line_name, line_steps, list_any, lookup, map, map-append, match_ordering, name_cmp, name_of, new_line, no_share, not, on, option_copied, option_map_or, order_numbered, ordering_reverse, pos, refl, same_name, settled, settled_part, share_step, shares_of_step, subst, sym, take, take_part, tied_itself, true, true≢false, ℕ, ℤ, ◌&&◌, ◌++◌, ◌+ℤ◌, ◌+◌, ◌-ℤ◌, ◌<◌, ◌||◌, ◌∙◌, ◌∷◌, ◌≡◌, ◌≤ℤ◌, ◌≤◌}
+use Rattle.book.proofs.Prelude.{Becomes, Counts, CountsAll, CountsMore, FieldEntry, IsUpToDate, MayCount, OrderEntry, entry_row, field_of, lines_before, new_share, order_of, share_numbers, step_seen, step_to}
+use Rattle.ledger.specs.declared.order.Line.{Line}
+use Rattle.ledger.specs.declared.order.Share.{Share}
 use Rattle.book.specs.inner.RunningNumbers.{IsOneOf}
-use Rattle.book.proofs.OutcomeTests.{same_self, total-push}
 use Rattle.std.specs.Result.{IsOkAnd}
 use Rattle.index.specs.declared.in_order.InOrder.{InOrder}
 use Rattle.words.specs.declared.reply.Memory.{Memory}
-use Rattle.book.proofs.Lists.{cut_at, or_right, some_is, take-step}
-use Rattle.book.proofs.Futures.{name_is}
-use Rattle.book.proofs.Safety.{other_way}
+use Rattle.ledger.proofs.Lists.{cut_at, or_right, some_is, take-step}
 use Rattle.book.proofs.KeyPlaces.{equal_field, same_field}
-use Rattle.book.proofs.GoodParts.{name_cmp_total}
-use Rattle.book.proofs.Sums.{each, each-imp}
+use Rattle.ledger.proofs.GoodParts.{name_cmp_total}
+use Rattle.ledger.proofs.Sums.{each, each-append, each-imp, total-append, total-push}
 use Rattle.book.proofs.RunningNumbers.{numbers_up, off}
-use Rattle.book.proofs.Steps.{IsStepAt, StaysAlike, each-append, none_added, total-append}
+use Rattle.book.proofs.StepsSeen.{IsStepAt}
+use Rattle.ledger.proofs.Steps.{StaysAlike, alike, none_added}
+use Rattle.ledger.proofs.FieldNames.{name_is, other_way, same_self}
 
 -- ---- the fields that a request makes or changes, put in one after the other by their names
 

@@ -1,17 +1,23 @@
 -- What the comparisons of a program say of the checks of a command.
-use Rattle.book.proofs.Prelude.{Add, Bool, BreaksBound, Check, Command, Deliver, Each, Err, FallsBelow, Field, FieldEntry, Finds, FirstFailure, Good, IsDistinct, IsFalse, IsNone, IsSome, IsTrue, IsUpToDate, Kind, Ledger, Line, List, MAX_ORDER_LINES, More, Name, None, Ok, OpenLine, Option, Order, Refusal, Result, RisesAbove, Some, Take, Way, Writeoff, [], ap, arith, bound, checks, drop, false, field_named, field_of, find, full, get_or, inl, inr, is_open, is_some, is_transfer, length, length-take, line_checks, line_name, line_on, loose_checks, map, name_of, new_line, new_order, next, no_field, on, order_numbered, pos, same_name, subst, sym, take, true≢false, with_order, ℕ, ◌++◌, ◌+ℤ◌, ◌+◌, ◌-ℤ◌, ◌<ℤ◌, ◌<◌, ◌↔◌, ◌∙◌, ◌∷◌, ◌≡◌, ◌≢◌, ◌≤◌}
+use Rattle.ledger.proofs.Prelude.{Add, Bool, BreaksBound, Check, Command, Deliver, Each, Err, FallsBelow, Field, FirstFailure, Good, IsDistinct, IsFalse, IsNone, IsSome, IsTrue, Ledger, List, MAX_ORDER_LINES, More, Name, None, Ok, OpenLine, Option, Order, Refusal, Result, RisesAbove, Some, Take, Way, Writeoff, [], ap, arith, bound, checks, drop, false, field_named, find, full, get_or, inl, inr, is_open, is_some, is_transfer, length, length-take, line_checks, line_name, line_on, loose_checks, map, name_of, new_line, new_order, next, no_field, numbered, on, order_numbered, pos, same_name, subst, sym, take, true≢false, with_order, ℕ, ◌++◌, ◌+ℤ◌, ◌+◌, ◌-ℤ◌, ◌<ℤ◌, ◌<◌, ◌↔◌, ◌∙◌, ◌∷◌, ◌≡◌, ◌≢◌, ◌≤◌}
+use Rattle.book.proofs.Prelude.{FieldEntry, Finds, IsUpToDate, field_of}
+use Rattle.ledger.specs.declared.order.Kind.{Kind}
+use Rattle.ledger.specs.declared.order.Line.{Line}
 use Rattle.words.specs.declared.reply.Refusal.TheVariants.{Full, OtherWay, TooManyLines, TransferFixed}
 use Rattle.std.specs.Result.{IsErrAnd}
-use Rattle.book.specs.Next.{moved_at_once}
-use Rattle.book.specs.Answers.{OfLine, OfOrder, bounds_checks, check}
+use Rattle.ledger.specs.Next.{moved_at_once}
+use Rattle.ledger.specs.Answers.{OfLine, OfOrder, bounds_checks, check}
 use Rattle.book.specs.inner.Checking.{bound_checks, hold_checks}
-use Rattle.book.proofs.OutcomeTests.{delivery_test, map-push, none_found, write_off_test}
-use Rattle.book.proofs.Lists.{some_is, take-step}
-use Rattle.book.proofs.Futures.{sounds_from_good}
-use Rattle.book.proofs.Comparisons.{line_test, more_test}
-use Rattle.book.proofs.Safety.{high_test, low_test, other_way}
+use Rattle.ledger.proofs.Lists.{some_is, take-step}
+use Rattle.ledger.proofs.Falls.{sounds_from_good}
+use Rattle.ledger.proofs.Safety.{high_test, low_test}
 use Rattle.words.specs.declared.command.Command.TheVariants.{Rebound}
 use Rattle.std.proofs.lemmas.List.{drop_more}
+use Rattle.ledger.proofs.EqualRows.{after}
+use Rattle.ledger.proofs.FieldNames.{other_way}
+use Rattle.ledger.proofs.Steps.{opened}
+use Rattle.ledger.proofs.Sums.{none_found}
+use Rattle.ledger.proofs.Asks.{line_test, map-push, more_test, moved_test}
 
 -- ---- what the comparisons of a program say of the checks of a command
 
@@ -68,11 +74,11 @@ full_decides A c some is = grind arith
 pub moving_decides : (A : Ledger) (c : Command) (n : Name) (w : Way) (q : ℕ) (found : Option (Refusal × ℕ)) → moved_at_once c ≡ Some (n, w, q) → ((full A 1).fails → ⊥) → Good A → FirstFailure (stock_checks w A n q 0) found → FirstFailure (checks A c) found
 moving_decides A (Deliver b a p) n w q found e room good k = inr (
   room,
-  has_stock A (next A (Deliver b a p)) Add (name_of b a) p 0 found (delivery_test A (name_of b a) p (sounds_from_good A good)) (subst (λ (m : Name × Way × ℕ). FirstFailure (stock_checks m.1 A m.0 m.2 0) found) (sym (some_is _ (n, w, q) e)) k),
+  has_stock A (next A (Deliver b a p)) Add (name_of b a) p 0 found (moved_test Add A (name_of b a) p 0 (sounds_from_good A good)) (subst (λ (m : Name × Way × ℕ). FirstFailure (stock_checks m.1 A m.0 m.2 0) found) (sym (some_is _ (n, w, q) e)) k),
 )
 moving_decides A (Writeoff b a p) n w q found e room good k = inr (
   room,
-  has_stock A (next A (Writeoff b a p)) Take (name_of b a) p 0 found (write_off_test A (name_of b a) p (sounds_from_good A good)) (subst (λ (m : Name × Way × ℕ). FirstFailure (stock_checks m.1 A m.0 m.2 0) found) (sym (some_is _ (n, w, q) e)) k),
+  has_stock A (next A (Writeoff b a p)) Take (name_of b a) p 0 found (moved_test Take A (name_of b a) p 0 (sounds_from_good A good)) (subst (λ (m : Name × Way × ℕ). FirstFailure (stock_checks m.1 A m.0 m.2 0) found) (sym (some_is _ (n, w, q) e)) k),
 )
 moving_decides A c n w q found e room good k = absurd (true≢false (sym (ap is_some e)))
 
@@ -102,7 +108,7 @@ more_decides A n w f q o e found good room ordered numbered opened loose plain t
     holds : FirstFailure (hold_checks o w f ++ bound_checks w A f q 0) found → FirstFailure (of_line A n w f ++ of_bound A n w f q) found
     holds (inl h) = rw numbered (inl h)
     holds (inr (h0, inl h)) = rw numbered (inr (h0, inl h))
-    holds (inr (h0, inr (h1, h))) = rw numbered (inr (h0, inr (h1, has_bound A (next A (More n w f.branch f.article q)) w f q 0 found (more_test A n asked 0 good (rw numbered (grind arith))) h)))
+    holds (inr (h0, inr (h1, h))) = rw numbered (inr (h0, inr (h1, has_bound A (next A (More n w f.branch f.article q)) w f q 0 found (more_test A n asked (sounds_from_good A good) good.orders_in_order (rw numbered (grind arith)) 0) h)))
 
 -- ---- other bounds
 

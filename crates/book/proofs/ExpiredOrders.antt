@@ -1,11 +1,11 @@
 -- The orders that a command changes, by their numbers.
-use Rattle.book.proofs.Prelude.{[], ◌&&◌, ◌++◌, ◌+◌, ◌<◌, ◌==◌, ◌∙◌, ◌∷◌, ◌≡◌, ◌≤◌, Bool, Changes, Each, Good, IsNonDecreasingBy, IsPermutation, IsPermutation-map, IsStrictlySortedBy, Ledger, Less, List, Order, OrderEntry, Some, ap, append-nil, arith, cases_lt, changed_order, common_steps, count_by, expires, false, filter, flat_map, flat_map-append, get_or, if◌then◌else◌, inl, inr, length, made_of, map, nat_cmp, find, None, Option, numbered, option_map_or, order_numbered, order_of, refl, Step, steps, suc, sym, take, true, ℕ}
+use Rattle.ledger.proofs.Prelude.{Bool, Changes, Each, Good, IsNonDecreasingBy, IsPermutation, IsPermutation-map, IsStrictlySortedBy, Ledger, Less, List, None, Option, Order, Some, Step, [], ap, append-nil, arith, cases_lt, common_steps, count_by, expires, false, filter, find, flat_map, flat_map-append, get_or, if◌then◌else◌, inl, inr, length, map, nat_cmp, numbered, option_map_or, order_numbered, refl, steps, suc, sym, take, true, ℕ, ◌&&◌, ◌++◌, ◌+◌, ◌<◌, ◌==◌, ◌∙◌, ◌∷◌, ◌≡◌, ◌≤◌}
+use Rattle.book.proofs.Prelude.{OrderEntry, changed_order, made_of, order_of}
 use Rattle.book.specs.declared.book.made.OrderChange.{OrderChange}
 use Rattle.std.proofs.lemmas.List.Sorted.{sum_by-IsPermutation}
-use Rattle.book.proofs.Lists.{same_number, counted, each-unmap, take-step}
-use Rattle.book.proofs.FieldRows.{one_step}
-use Rattle.book.proofs.Futures.{less_is, find_self}
-use Rattle.book.proofs.Sums.{each-imp, each-map}
+use Rattle.ledger.proofs.Lists.{counted, each-unmap, find_self, same_number, take-step}
+use Rattle.ledger.proofs.Steps.{one_step}
+use Rattle.ledger.proofs.Sums.{each-imp, each-map, less_is}
 
 above : (m n : ℕ) → m < n → (n == m) ≡ false
 above m n h = grind arith

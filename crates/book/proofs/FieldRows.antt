@@ -1,28 +1,30 @@
 -- The rows of the fields that a request makes or changes, for each kind of command.
-use Rattle.book.proofs.Prelude.{[], ◌&&◌, ◌++◌, ◌≤◌, append-nil, nat_cmp, no_share, share_of, ◌+ℤ◌, ◌+◌, ◌==◌, ◌||◌, ◌∙◌, ◌∷◌, ◌≡◌, Accepts, Add, AsksNoStock, Bool, Changes, Command, Counts, CountsAll, Each, Effect, Err, Field, FieldCells, FieldEntry, FirstFailure, Good, HasEntry, IfOk, IsChangedField, IsFalse, IsNone, IsSomeAnd, IsStrictlySortedBy, IsTrue, IsUpToDate, Kind, Ledger, Line, List, Name, None, Ok, OpenLine, Opens, Option, Order, Plain, Request, Result, ShareStep, Some, Step, Stock, Take, Transfer, Way, accept, add_hold, add_part, added_on, ap, arith, changes_field, changes_stock, checks, common_steps, effect, entry_row, false, field_named, field_of, field_row, field_rows, find, flat_map, held_to_add, held_to_take, hold_more, holding, if_add, if_take, if◌then◌else◌, ints, is_lt, is_open, is_some, keys_of, line_name, line_on, line_steps, lines_of, list_any, map, moved_at_once, moved_by_command, name_cmp, name_of, new_line, new_order, new_share, next, numbered, on, option_map, option_map_or, order_numbered, own_field, pos, raise_held, refl, same_name, settled, settled_part, share_step, share_steps, shares_of_step, signed, steps, steps_of, subst, sym, take_part, transfer_lines, true, ℕ, ℤ}
+use Rattle.ledger.proofs.Prelude.{Accepts, Add, AsksNoStock, Bool, Command, Each, Effect, Err, Field, FieldCells, FirstFailure, Good, IfOk, IsFalse, IsNone, IsSomeAnd, IsStrictlySortedBy, IsTrue, Ledger, List, Name, None, Ok, OpenLine, Opens, Option, Order, Request, Result, ShareStep, Some, Stock, Take, Way, [], accept, add_hold, add_part, added_on, ap, append-nil, arith, changes_field, changes_stock, checks, common_steps, effect, false, field_named, field_row, field_rows, find, flat_map, held_to_add, held_to_take, holding, if◌then◌else◌, ints, is_lt, is_open, keys_of, line_steps, lines_of, list_any, map, moved_at_once, moved_by_command, name_cmp, name_of, new_line, new_order, next, no_share, on, option_map, option_map_or, order_numbered, own_field, pos, refl, same_name, settled, settled_part, share_of, share_step, share_steps, shares_of_step, signed, steps, steps_of, subst, sym, take_part, transfer_lines, true, ℕ, ℤ, ◌&&◌, ◌+ℤ◌, ◌+◌, ◌||◌, ◌∙◌, ◌∷◌, ◌≡◌, ◌≤◌}
+use Rattle.book.proofs.Prelude.{Counts, CountsAll, FieldEntry, HasEntry, IsChangedField, IsUpToDate, entry_row, field_of, new_share}
+use Rattle.ledger.specs.declared.order.Kind.{Kind}
+use Rattle.ledger.specs.declared.order.Kind.TheVariants.{Plain, Transfer}
 use Rattle.words.specs.declared.command.Command.TheVariants as command
 use Rattle.book.specs.inner.Checking.{IsFound}
-use Rattle.book.specs.Next.{with_bounds}
+use Rattle.ledger.specs.Next.{with_bounds}
 use Rattle.escrow.specs.Escrow.{MovesValue, bounded, moved}
 use Rattle.index.specs.declared.in_order.InOrder.{InOrder}
 use Rattle.words.specs.declared.reply.Memory.{Memory}
-use Rattle.book.proofs.OutcomeTests.{none_found, same_self}
 use Rattle.book.proofs.ChangedFields.{all_rows, put_self, self_eq}
-use Rattle.book.proofs.Lists.{find-new, none_after}
-use Rattle.book.proofs.Futures.{all_pass, name_is}
-use Rattle.book.proofs.Safety.{none_if_not_some, bounding, found_bounded, takes_more}
-use Rattle.book.proofs.Comparisons.{more_sums}
+use Rattle.ledger.proofs.Lists.{find-new}
+use Rattle.ledger.proofs.Safety.{bounding, found_bounded}
 use Rattle.book.proofs.RunningNumbers.{new_field, numbers_up}
-use Rattle.book.proofs.Steps.{adds_next, changes_share, moves_alone, takes_next, touched, value_next}
-use Rattle.book.proofs.Sums.{each, each-both, each-imp}
+use Rattle.ledger.proofs.Steps.{adds_next, changes_share, moves_alone, one_step, steps_go, takes_next, touched, value_next}
+use Rattle.ledger.proofs.Sums.{each, each-both, each-imp, none_found}
+use Rattle.ledger.proofs.FieldNames.{name_is, same_self}
+use Rattle.ledger.proofs.Passing.{all_pass, none_if_not_some, takes_more}
+use Rattle.ledger.proofs.GoodParts.{changed}
+use Rattle.ledger.proofs.Asks.{HoldsMore, more_sums}
+use Rattle.ledger.proofs.Falls.{sounds_from_good}
+use Rattle.ledger.proofs.MoreSteps.{or_nothing, held_fields}
 
 pub entry_is : (B : Ledger) (f : Name) (e : FieldEntry) (new : Stock) → new.lo ≡ e.quantity.lo → new.hi ≡ e.quantity.hi → pos new.value ≡ settled B (field_of (f, e)) → pos new.held_to_take ≡ held_to_take B f → pos new.held_to_add ≡ held_to_add B f
     → entry_row (f, record { start = e.start; quantity = new }) ≡ field_row B (field_of (f, e))
 entry_is B f e new lo hi value takes adds = cc
-
--- with so much more held the one way, the sums are those of the other ledger
-abbrev pub HoldsMore : Ledger → Ledger → Field → Way → ℕ → Type 0
-HoldsMore A B f w q = (settled B f ≡ settled A f) × (held_to_take B f.name ≡ held_to_take A f.name +ℤ pos (if_take w q)) × (held_to_add B f.name ≡ held_to_add A f.name +ℤ pos (if_add w q))
 
 pub holding_row : (A B : Ledger) (f : Name) (e : FieldEntry) (w : Way) (q : ℕ) → IsUpToDate A (f, e) → HoldsMore A B (field_of (f, e)) w q → entry_row (f, record { start = e.start; quantity = holding e.quantity w q }) ≡ field_row B (field_of (f, e))
 holding_row A B f e Take q up more = let n = numbers_up A f e up in entry_is B f e (holding e.quantity Take q) refl refl (omega (arith, ints)) (omega (arith, ints)) (omega (arith, ints))
@@ -48,9 +50,6 @@ IsOnly A c e = (key : List ℕ) → Accepts A (record { key = key; command = c }
 pub only_found : (A : Ledger) (c : Command) (e : Name × FieldEntry) (made : Result (InOrder Name FieldEntry) Memory) → IfOk made (λ fields. fields.entries ≡ e ∷ []) → IsOnly A c e → IsFound A c (Some made)
 only_found A c e (Ok fields) is only = λ key accepts rising. ap (map entry_row) is ∙ only key accepts
 only_found A c e (Err fault) is only = tt
-
-pub or_nothing : (b : Bool) → (b || false) ≡ b
-or_nothing b = grind arith
 
 -- ---- a delivery or a write-off
 
@@ -81,9 +80,10 @@ pub moved_found : (A : Ledger) (c : Command) (n : Name) (w : Way) (q : ℕ) (e :
 moved_found A c n w q e new is up there moves key accepts =
     let m = moves_at_once A c n w q is in
     let good = accepts.before in let passed = accepts.accepted.1 in
-    let value = value_next A c good passed (field_of (n, e)) in let no_value = ap (added_on settled_part n) m.steps in let own = m.moves in
-    let takes = takes_next A c good passed n in let no_takes = ap (added_on take_part n) m.steps in
-    let adds = adds_next A c good passed n in let no_adds = ap (added_on add_part n) m.steps in
+    let goes = steps_go A c good.orders_in_order passed in
+    let value = value_next A c goes (field_of (n, e)) in let no_value = ap (added_on settled_part n) m.steps in let own = m.moves in
+    let takes = takes_next A c goes n in let no_takes = ap (added_on take_part n) m.steps in
+    let adds = adds_next A c goes n in let no_adds = ap (added_on add_part n) m.steps in
     let sum : settled (next A c) (field_of (n, e)) ≡ settled A (field_of (n, e)) +ℤ signed w q = omega (arith, ints) in
     one_row A (record { key = key; command = c }) (n, record { start = e.start; quantity = new }) accepts.after (record {
       field = field_of (n, e);
@@ -118,82 +118,6 @@ bounds_found A n lo hi e new up there bounds key accepts = one_row A (record { k
 
 -- ---- more on an order
 
--- the steps of a command that changes the order under a number
-pub one_step : (n : ℕ) (change : Order → Order) (os : List Order) → IsStrictlySortedBy nat_cmp (map (λ o. o.number) os) → steps (Changes (numbered n) change) os ≡ option_map_or (λ o. record { before = Some o; after = change o } ∷ []) (find (numbered n) os) []
-unfolding IsStrictlySortedBy
-one_step n change [] sorted = refl
-one_step n change (o ∷ os) sorted = by (o.number == n) refl (one_step n change os sorted.1)
-  where
-    none : (ms : List Order) → Each (λ m. (m.number == n) ≡ false) ms → steps (Changes (numbered n) change) ms ≡ []
-    none [] all = refl
-    none (m ∷ ms) all = rw all.0 (none ms all.1)
-
-    by : (b : Bool) → (o.number == n) ≡ b → steps (Changes (numbered n) change) os ≡ option_map_or (λ o. record { before = Some o; after = change o } ∷ []) (find (numbered n) os) []
-        → (if b then record { before = Some o; after = change o } ∷ [] else []) ++ steps (Changes (numbered n) change) os ≡ option_map_or (λ o. record { before = Some o; after = change o } ∷ []) (if b then Some o else find (numbered n) os) []
-    by true e more = ap (λ (ss : List Step). record { before = Some o; after = change o } ∷ ss) (none os (none_after n o os e sorted.0))
-    by false e more = more
-
--- the step of an order that holds more
-abbrev pub step_more : OpenLine → Order → Step
-step_more l o = record { before = Some o; after = add_hold l o }
-
-raised : (q x : ℕ) → 1 ≤ q → (x == x + q) ≡ false
-raised q x h = grind arith
-
--- the amounts of a line that holds more
-pub held_line : (o a : Order) (nr : ℕ) (m : Line) (q : ℕ) (b : Bool) → 1 ≤ q → is_open o ≡ true → o.firm ≡ false → a.state ≡ o.state → a.firm ≡ o.firm → changes_stock (record { before = Some o; after = a }) (record { nr = nr; before = Some m; after = if b then raise_held q m else m }) ≡ b
-held_line o a nr m q b some unended loose state firm = grind (arith, raised)
-
-both_on : (f g : Name) (m : Line) → (on g m && on f m) ≡ (same_name g f && on f m)
-both_on f g m = by (on f m) refl
-  where
-    by : (b : Bool) → on f m ≡ b → (on g m && b) ≡ (same_name g f && b)
-    by true e = ap (λ (n : Name). same_name g n && true) (sym (name_is f (line_name m) e))
-    by false e = grind arith
-
-module _ (l : OpenLine) (o : Order) (some : 1 ≤ l.qty) (unended : is_open o ≡ true) (loose : o.firm ≡ false) (g : Name) where
-  abbrev f : Name
-  f = name_of l.branch l.article
-
-  abbrev held : List Line → Order
-  held ls = record o { lines = ls }
-
-  held_there : (a : Order) → a.state ≡ o.state → a.firm ≡ o.firm → (nr : ℕ) (ls : List Line) → list_any (λ t. on g t.after && changes_stock (record { before = Some o; after = a }) t) (line_steps nr ls (map (λ m. if on f m then raise_held l.qty m else m) ls)) ≡ (same_name g f && list_any (on f) ls)
-  held_there a state firm nr [] = grind arith
-  held_there a state firm nr (m ∷ ms) =
-      (λ i. (on_kept (on f m) i && held_line o a nr m l.qty (on f m) some unended loose state firm i) || held_there a state firm (nr + 1) ms i) ∙ joined (on g m) (on f m) (same_name g f) (list_any (on f) ms) (both_on f g m)
-    where
-      on_kept : (b : Bool) → on g (if b then raise_held l.qty m else m) ≡ on g m
-      on_kept true = refl
-      on_kept false = refl
-
-      joined : (x y z w : Bool) → (x && y) ≡ (z && y) → ((x && y) || (z && w)) ≡ (z && (y || w))
-      joined x y z w e = grind arith
-
-  held_new : (a : Order) → a.state ≡ o.state → a.firm ≡ o.firm → (nr : ℕ) (ls : List Line) → list_any (λ t. on g t.after && changes_stock (record { before = Some o; after = a }) t) (line_steps nr ls (ls ++ new_line l ∷ [])) ≡ same_name g f
-  held_new a state firm nr [] = grind arith
-  held_new a state firm nr (m ∷ ms) = (λ i. (on g m && held_line o a nr m l.qty false some unended loose state firm i) || held_new a state firm (nr + 1) ms i) ∙ none (on g m) (same_name g f)
-    where
-      none : (x y : Bool) → ((x && false) || y) ≡ y
-      none x y = grind arith
-
-  there_any : (ls : List Line) → is_some (find (on f) ls) ≡ list_any (on f) ls
-  there_any [] = refl
-  there_any (m ∷ ms) = let more = there_any ms in grind arith
-
-  pub held_fields : list_any (λ t. on g t.after && changes_stock (step_more l o) t) (lines_of (step_more l o)) ≡ same_name g f
-  held_fields = by (is_some (line_on o f)) refl
-    where
-      and_true : (x : Bool) → (x && true) ≡ x
-      and_true x = grind arith
-
-      result : Bool → Order
-      result b = if b then hold_more f l.qty o else record o { lines = o.lines ++ new_line l ∷ [] }
-
-      by : (b : Bool) → is_some (line_on o f) ≡ b → list_any (λ t. on g t.after && changes_stock (record { before = Some o; after = result b }) t) (lines_of (record { before = Some o; after = result b })) ≡ same_name g f
-      by true e = held_there (result true) refl refl 1 o.lines ∙ ap (λ b. same_name g f && b) (sym (there_any o.lines) ∙ e) ∙ and_true (same_name g f)
-      by false e = held_new (result false) refl refl 1 o.lines
-
 more_names : (A : Ledger) (n : ℕ) (l : OpenLine) (g : Name) → Good A → 1 ≤ l.qty → (IsNone (order_numbered A n) → ⊥) → (IsSomeAnd (order_numbered A n) (λ o. IsFalse (is_open o)) → ⊥) → (IsSomeAnd (order_numbered A n) (λ o. IsTrue o.firm) → ⊥)
     → changes_field A (command.More n l.way l.branch l.article l.qty) g ≡ same_name g (name_of l.branch l.article)
 more_names A n l g good some there ended firm = touched A (command.More n l.way l.branch l.article l.qty) g ∙ ap (list_any (λ s. list_any (λ l. on g l.after && changes_stock s l) (lines_of s))) (one_step n (add_hold l) A.orders good.orders_in_order) ∙ by (order_numbered A n) there ended firm
@@ -220,7 +144,7 @@ more_found A n w f q e new up there is key accepts =
       field = field_of (f, e);
       there = there;
       passes = names f ∙ same_self f;
-      has_row = ap (λ (v : FieldEntry). entry_row (f, v)) is ∙ holding_row A (next A c) f e w q up (more_sums A n l accepts.before may (field_of (f, e)) refl);
+      has_row = ap (λ (v : FieldEntry). entry_row (f, v)) is ∙ holding_row A (next A c) f e w q up (more_sums A n l (sounds_from_good A accepts.before) accepts.before.orders_in_order may (field_of (f, e)) refl);
     }) names
 
 -- ---- fields that lines change
@@ -232,7 +156,8 @@ entry_itself (e ∷ D) = let more = entry_itself D in grind (arith, each-imp, se
 -- the entries that count the lines of a command that makes no field and changes no bounds
 counted_row : (A : Ledger) (c : Command) (e : Name × FieldEntry) → Good A → FirstFailure (checks A c) None → own_field c ≡ None → Counts A (share_steps A c) e → entry_row e ≡ field_row (next A c) (field_of e)
 counted_row A c e good passed own counts =
-    let value = value_next A c good passed (field_of e) in let takes = takes_next A c good passed e.0 in let adds = adds_next A c good passed e.0 in
+    let goes = steps_go A c good.orders_in_order passed in
+    let value = value_next A c goes (field_of e) in let takes = takes_next A c goes e.0 in let adds = adds_next A c goes e.0 in
     let none = not_moved c own in
     let v = counts.value in let t = counts.takes in let a = counts.adds in
     entry_is (next A c) e.0 e.1 e.1.quantity refl refl (omega (arith, ints)) (omega (arith, ints)) (omega (arith, ints))

@@ -1,11 +1,13 @@
 -- What makes a told ledger good, and that rows tell one good ledger at the most.
-use Rattle.book.proofs.Prelude.{[], ◌+ℤ◌, ◌↔◌, ◌∷◌, ◌≡◌, ◌≤◌, AreMovesOnFields, AreOnFields, AreOrdersOnFields, Each, Field, FieldEntry, Good, HasNumbers, HaveNumbers, IsBounded, IsField, IsGoodLine, IsGoodMove, IsGoodOrder, IsMoveByItself, IsOrderByItself, IsSafe, IsStrictlySortedBy, IsUpToDate, IsWhole, List, MAX_PLACES, Name, Numbers, Order, arith, common_steps, field_of, held_to_add, held_to_take, length, line_name, map, move_of, name_cmp, nat_cmp, numbers_on, order_of, places, pos, settled, slice_cmp, subst, sym, told_ledger}
+use Rattle.book.proofs.Prelude.{AreMovesOnFields, AreOnFields, AreOrdersOnFields, FieldEntry, HasNumbers, HaveNumbers, IsBounded, IsField, IsMoveByItself, IsOrderByItself, IsUpToDate, IsWhole, Numbers, field_of, move_of, numbers_on, order_of, told_ledger}
+use Rattle.ledger.proofs.Prelude.{Each, Field, Good, IsGoodLine, IsGoodMove, IsGoodOrder, IsSafe, IsStrictlySortedBy, List, Name, Order, [], arith, common_steps, held_to_add, held_to_take, length, line_name, map, name_cmp, nat_cmp, places, pos, settled, slice_cmp, subst, sym, ◌+ℤ◌, ◌↔◌, ◌∷◌, ◌≡◌, ◌≤◌}
+use Rattle.ledger.specs.declared.limits.TheConstants.{MAX_PLACES}
 use Rattle.book.specs.declared.book.tables.Entries.{Entries}
 use Rattle.book.specs.inner.RowEntries.{AreGood, AreInOrder, IsInForm}
-use Rattle.book.proofs.InRow.{told_keys, told_names, told_numbers}
-use Rattle.book.proofs.Bounds.{HasRoom, safe_from_room}
-use Rattle.book.proofs.Lists.{each-two, each-unmap, few_sorted}
-use Rattle.book.proofs.Sums.{each-imp, each-map, total-map}
+use Rattle.book.proofs.ToldInRow.{told_keys, told_names, told_numbers}
+use Rattle.ledger.proofs.Bounds.{HasRoom, safe_from_room}
+use Rattle.ledger.proofs.Lists.{each-two, each-unmap, few_sorted}
+use Rattle.ledger.proofs.Sums.{each-imp, each-map, total-map}
 
 -- ---- what is good is whole, and its entries are on fields
 

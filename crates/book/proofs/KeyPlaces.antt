@@ -1,8 +1,9 @@
 -- Entries under keys, as they stand in a ledger.
-use Rattle.book.proofs.Prelude.{Bool, Equal, FieldEntry, KeptEntry, List, Name, None, Option, OrderEntry, Ordering, [], ap, arith, bytes_decides, bytes_eq, field_of, find, insert_entry, insert_in_order, is_at, is_eq, is_eq-slice_cmp, is_lt, kept_of, lookup, map, name_cmp, nat_cmp, option_map, order_of, refl, same_name, slice_cmp, sym, ℕ, ◌==◌, ◌∙◌, ◌∷◌, ◌≡◌}
+use Rattle.ledger.proofs.Prelude.{Bool, Equal, List, Name, None, Option, Ordering, [], ap, arith, bytes_decides, bytes_eq, find, insert_entry, insert_in_order, is_at, is_eq, is_eq-slice_cmp, is_lt, lookup, map, name_cmp, nat_cmp, option_map, refl, same_name, slice_cmp, sym, ℕ, ◌==◌, ◌∙◌, ◌∷◌, ◌≡◌}
+use Rattle.book.proofs.Prelude.{FieldEntry, KeptEntry, OrderEntry, field_of, kept_of, order_of}
 use Rattle.std.proofs.lemmas.Cmp.{nat_list_eq_equiv}
-use Rattle.book.proofs.Futures.{name_is}
-use Rattle.book.proofs.GoodParts.{equal_name, equal_number}
+use Rattle.ledger.proofs.GoodParts.{equal_name, equal_number}
+use Rattle.ledger.proofs.FieldNames.{name_is}
 
 -- ---- entries under keys, as they stand in a ledger
 

@@ -1,8 +1,11 @@
 -- Rows of lines in a row, order after order.
-use Rattle.book.proofs.Prelude.{[], ◌++◌, ◌+◌, ◌<◌, ◌∙◌, ◌∷◌, ◌≡◌, ◌≤◌, AllZip, AreNumbered, AreOthers, BeginsOther, Each, Head, IsLineTold, IsStrictlySortedBy, Line, LineCells, LineRow, List, Order, TellOrders, ap, append-nil, arith, common_steps, drop, flat_map, flat_map-append, get_or, head_of, length, length-drop, line_cells, line_row, lines_from, map, nat_cmp, order_lines, pos, refl, subst, suc, sym, zero, ℕ}
+use Rattle.ledger.proofs.Prelude.{[], ◌++◌, ◌+◌, ◌<◌, ◌∙◌, ◌∷◌, ◌≡◌, ◌≤◌, AllZip, AreOthers, Each, IsStrictlySortedBy, LineCells, List, Order, ap, append-nil, arith, common_steps, drop, flat_map, flat_map-append, get_or, length, length-drop, line_cells, line_row, lines_from, map, nat_cmp, order_lines, pos, refl, subst, suc, sym, zero, ℕ}
+use Rattle.book.proofs.Prelude.{AreNumbered, BeginsOther, Head, IsLineTold, TellOrders, head_of}
+use Rattle.ledger.specs.declared.order.Line.{Line}
+use Rattle.ledger.specs.declared.rows.LineRow.{LineRow}
 use Rattle.std.proofs.Math.ListN.{drop_of_length-le}
-use Rattle.book.proofs.Lists.{length-of-map}
-use Rattle.book.proofs.EqualRows.{after, others_after, same_first, same_rest}
+use Rattle.ledger.proofs.Lists.{length-of-map}
+use Rattle.ledger.proofs.EqualRows.{after, others_after, same_first, same_rest}
 
 drop-suc : {X : Type 0} (xs : List X) (i : ℕ) (d : X) → i < length xs → drop i xs ≡ get_or xs i d ∷ drop (suc i) xs
 drop-suc [] i d lt = absurd (omega arith)

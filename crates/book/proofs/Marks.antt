@@ -1,14 +1,15 @@
 -- Heads of orders that the rows of firm orders mark.
-use Rattle.book.proofs.Prelude.{[], ◌++◌, ◌+◌, ◌<◌, ◌∙◌, ◌∷◌, ◌≡◌, ◌≤◌, FirmCells, FirmRow, Head, IsStrictlySortedBy, Less, List, Option, OrderCells, Some, ap, append-nil, arith, drop, false, firm_cells, firm_row, flat_map, flat_map-append, get_or, get_or_from_slice_get, head_row, if◌then◌else◌, length, length-drop, map, map-append, mark_rows, nat_cmp, pos, refl, set, slice_get, slice_get_within, subst, suc, sym, take, take_all, true, zero, ℕ}
+use Rattle.ledger.proofs.Prelude.{FirmCells, IsStrictlySortedBy, Less, List, Option, OrderCells, Some, [], ap, append-nil, arith, drop, false, firm_cells, firm_row, flat_map, flat_map-append, get_or, get_or_from_slice_get, if◌then◌else◌, length, length-drop, map, map-append, nat_cmp, pos, refl, set, slice_get, slice_get_within, subst, suc, sym, take, take_all, true, zero, ℕ, ◌++◌, ◌+◌, ◌<◌, ◌∙◌, ◌∷◌, ◌≡◌, ◌≤◌}
+use Rattle.ledger.specs.declared.rows.FirmRow.{FirmRow}
+use Rattle.book.proofs.Prelude.{Head, head_row, mark_rows}
 use Rattle.std.proofs.Math.ListN.{drop_of_length-le}
 use Rattle.std.proofs.Math.Seq.{map-set_same}
 use Rattle.std.proofs.lemmas.List.{take_more_set}
 use Rattle.book.specs.inner.RowEntries.{Marks}
-use Rattle.book.proofs.Futures.{less_is}
 use Rattle.book.proofs.LineGroups.{drop-step}
-use Rattle.book.proofs.Lists.{each-unmap, length-of-map, read-step, get-of-map}
-use Rattle.book.proofs.Sums.{each-imp}
-use Rattle.book.proofs.EqualRows.{MarkOthers, later_marks, same_first, same_mark, same_pos, same_rest}
+use Rattle.ledger.proofs.Lists.{each-unmap, get-of-map, length-of-map, read-step}
+use Rattle.ledger.proofs.Sums.{each-imp, less_is}
+use Rattle.ledger.proofs.EqualRows.{MarkOthers, later_marks, same_first, same_mark, same_pos, same_rest}
 
 -- there are heads in the order of their numbers with these rows of orders, and these rows mark them
 pub record Marked (cells : List OrderCells) (marks : List FirmCells) : Type 0 where

@@ -1,12 +1,13 @@
 -- The next ledger: the rows that an accepted request changes.
-use Rattle.book.proofs.Prelude.{[], ◌++◌, ◌+◌, ◌∙◌, ◌∷◌, ◌≡◌, ◌≤◌, BookView, Bool, Changes, ChangesTo, Command, Content, Effect, FieldCells, Good, Inside, IsAccepted, IsInRange, IsKey, IsRowsOf, Ledger, List, MAX_PLACES, None, Nothing, Opens, Order, Request, Some, Step, accept, ap, arith, changed_rows, changes_field, count_by, desk_row, effect, false, field_row, field_rows, filter, if◌then◌else◌, insert_in_order, is_open, kept_of, ledger_of, length, map, name_of, nat_lt, next, open_orders, option_map_or, order_numbered, orders_after, places, put_content, refl, step_to, steps, steps_of, subst, sym, true, view_of, no_content, ℕ}
-use Rattle.book.proofs.EqualRows.{one_content, rows_are, rows_of}
-use Rattle.book.proofs.Goodness.{good_accept}
-use Rattle.book.proofs.Lists.{counted, filter-each, length-insert, length-of-map}
-use Rattle.book.proofs.NextContent.{changes_suffice}
-use Rattle.book.proofs.Runs.{no_key}
-use Rattle.book.proofs.Steps.{steps_seen}
-use Rattle.book.proofs.Sums.{each}
+use Rattle.book.proofs.Prelude.{BookView, ChangesTo, Inside, kept_of, ledger_of, view_of}
+use Rattle.ledger.proofs.Prelude.{Bool, Content, FieldCells, Good, IsAccepted, IsInRange, IsKey, IsRowsOf, Ledger, List, Request, [], accept, ap, arith, changed_rows, changes_field, count_by, desk_row, field_row, field_rows, filter, if◌then◌else◌, length, map, name_of, no_content, places, put_content, refl, subst, sym, ℕ, ◌+◌, ◌∙◌, ◌∷◌, ◌≡◌, ◌≤◌}
+use Rattle.ledger.specs.declared.limits.TheConstants.{MAX_PLACES}
+use Rattle.ledger.proofs.EqualRows.{one_content, rows_are, rows_of}
+use Rattle.ledger.proofs.Goodness.{good_accept}
+use Rattle.ledger.proofs.Lists.{counted, filter-each, length-insert, length-of-map}
+use Rattle.ledger.proofs.NextContent.{changes_suffice}
+use Rattle.ledger.proofs.Runs.{no_key}
+use Rattle.ledger.proofs.Sums.{each}
 
 -- ---- how many are counted
 

@@ -1,5 +1,6 @@
 -- The numbers of open orders, in order.
-use Rattle.book.proofs.Prelude.{[], ◌&&◌, ◌+◌, ◌-◌, ◌<◌, ◌∙◌, ◌∷◌, ◌≡◌, ◌≤◌, ◌⊎◌, ◌++◌, Bool, Each, Equal, Greater, IsSome, IsStrictlySortedBy, Less, List, MatchOrdering, None, Option, Order, OrderEntry, Ordering, Some, ap, arith, common_steps, cond, count_by, false, filter, find, get_or, get_or_from_slice_get, if◌then◌else◌, inl, inr, insert_entry, is_at, is_eq, is_open, length, lookup, map, match_ordering, nat_cmp, nat_le, open_state, option_map, order_of, refl, slice_get, slice_get_within, subst, suc, sym, true, zero, ℕ}
+use Rattle.ledger.proofs.Prelude.{[], ◌&&◌, ◌+◌, ◌-◌, ◌<◌, ◌∙◌, ◌∷◌, ◌≡◌, ◌≤◌, ◌⊎◌, ◌++◌, Bool, Each, Equal, Greater, IsSome, IsStrictlySortedBy, Less, List, MatchOrdering, None, Option, Order, Ordering, Some, ap, arith, common_steps, cond, count_by, false, filter, find, get_or, get_or_from_slice_get, if◌then◌else◌, inl, inr, insert_entry, is_at, is_eq, is_open, length, lookup, map, match_ordering, nat_cmp, nat_le, open_state, option_map, refl, slice_get, slice_get_within, subst, suc, sym, true, zero, ℕ}
+use Rattle.book.proofs.Prelude.{OrderEntry, order_of}
 use Rattle.std.specs.Prelude.{Err, Ok, Result, MatchResult}
 use Rattle.std.specs.List.{insert, remove}
 use Rattle.std.specs.List.Sorted.{IsBinarySearchResult}
@@ -8,10 +9,10 @@ use Rattle.std.specs.Cmp.{nat_cmp_is, ranks}
 use Rattle.std.proofs.lemmas.List.Sorted.{searched}
 use Rattle.std.proofs.lemmas.Map.Keys.{below_from_sorted}
 use Rattle.std.proofs.lemmas.List.Sums.{length-filter}
-use Rattle.book.proofs.CommandOrder.{each-found}
-use Rattle.book.proofs.Lists.{each-unmap, length-of-map}
+use Rattle.ledger.proofs.OrderApart.{each-found}
+use Rattle.ledger.proofs.Lists.{each-unmap, length-of-map}
 use Rattle.book.proofs.NextRows.{viewed}
-use Rattle.book.proofs.Sums.{each-imp}
+use Rattle.ledger.proofs.Sums.{each-imp}
 use Rattle.book.specs.inner.OpenOrders.{IsFirstFrom, IsPlaceFor, IsPlaceOf, is_open_from, marked, open_numbers, room_for}
 
 -- ---- how two numbers compare

@@ -1,24 +1,11 @@
--- The words that lemmas and answers speak in: definitions and lemmas from elsewhere that several files name.
-pub use Rattle.book.specs.inner.FieldRows.{field_row, field_rows, moved_by_command}
-pub use Rattle.book.specs.Answers.{Answers, AnswersNew, Check, FirstFailure, IsAccepted, Runs, bound, checks, full, line_checks, loose_checks, no_field, order_checks, same_command}
-pub use Rattle.book.specs.Changes.{amount_row, amount_rows, changed_rows, changes_field, mark_row, own_field, put_content, put_row, put_rows, state_row}
+-- The words of the book's own that several files name.
 pub use Rattle.book.specs.inner.Checking.{Finds, IsFound}
-pub use Rattle.book.specs.Future.{AsksNoStock, IsFuture, IsHonoured}
-pub use Rattle.book.specs.Good.{Good, IsGoodField, IsGoodKept, IsGoodLine, IsGoodMove, IsGoodOrder, IsTransferPair}
-pub use Rattle.book.specs.Held.{BreaksBound, MayHoldMore, added_by_order, taken_by_order, held_to_add, held_to_take, if_add, if_take}
 pub use Rattle.book.specs.inner.InPlace.{MayChangeOrder, changed_line, changed_order, effect_seen, made_of}
-pub use Rattle.book.specs.Ledger.{Field, Kept, Ledger, Move, Name, Order, field_named, insert_in_order, is_open, is_settled, is_transfer, kept_under, line_name, line_on, name_cmp, name_of, new_ledger, on, open_orders, open_state, order_numbered, places, same_name, settled_state, shown_state, transfer_kind, unsettled}
-pub use Rattle.book.specs.Next.{Changes, Effect, Nothing, Opens, accept, add_hold, change_lines, effect, expires, hold_more, lower_held, move_made, moved_at_once, moves_after, new_key, new_line, new_order, next, numbered, orders_after, raise_held, raise_used, set_firm, set_state, transfer_lines, with_order}
-pub use Rattle.escrow.specs.Choices.{IsWithin}
-pub use Rattle.book.specs.Outcomes.{FallsBelow, IsInfimum, IsSafe, IsSupremum, RisesAbove, article_total, moved_by, moved_by_order, settled, signed, total}
 pub use Rattle.book.specs.Plans.{ChangesTo}
-pub use Rattle.book.specs.Rows.{Content, DeskCells, FieldCells, FirmCells, IsFieldRow, IsRowsOf, KeptCells, LineCells, OrderCells, desk_row, field_cmp, firm_cmp, firm_row, firm_rows, kept_cmp, kept_row, line_cmp, line_row, lines_from, move_cmp, move_row, order_cmp, order_lines, order_row}
-pub use Rattle.book.specs.inner.RunningNumbers.{Accepts, AreHeld, Becomes, Counts, CountsAll, CountsMore, Falls, HasEntry, IsChangedField, IsUpToDate, MayBecome, MayCount, ShareStep, add_part, added_on, before_on, new_share, no_share, settled_part, share_before, share_numbers, share_of, share_step, share_steps, shares_of_step, take_part, with_entries}
-pub use Rattle.book.specs.Steps.{LineStep, Step, becomes_firm, changes_held, changes_line, changes_state, changes_stock, line_steps, lines_of, orders_made, steps, steps_of}
+pub use Rattle.book.specs.inner.RunningNumbers.{Becomes, Counts, CountsAll, CountsMore, HasEntry, IsChangedField, IsUpToDate, MayBecome, MayCount, new_share, share_numbers, with_entries}
 pub use Rattle.book.specs.inner.StepsSeen.{line_seen, lines_before, number_cmp, joined, step_rows, step_seen, step_to}
 pub use Rattle.book.specs.inner.Sums.{AreLinesOnFields, AreMovesOnFields, AreOnFields, AreOrdersOnFields, IsField, added, entry_name, lines_numbers, numbers_on, only_on, part_of_line}
-pub use Rattle.book.specs.Tables.{field_cells, firm_cells, kept_cells, line_cells, move_cells, no_content, order_cells, rows_among}
-pub use Rattle.book.specs.inner.RowEntries.{AreNumbered, AreOthers, BeginsOther, HasNumbers, HaveNumbers, IsBounded, IsFieldTold, IsKeptTold, IsLineTold, IsMoveByItself, IsMoveTold, IsOrderByItself, IsWhole, TellHeads, TellOrders, TellsField, head_of, head_row, mark_rows, told_ledger}
+pub use Rattle.book.specs.inner.RowEntries.{AreNumbered, BeginsOther, HasNumbers, HaveNumbers, IsBounded, IsFieldTold, IsKeptTold, IsLineTold, IsMoveByItself, IsMoveTold, IsOrderByItself, IsWhole, TellHeads, TellOrders, head_of, head_row, mark_rows, told_ledger}
 pub use Rattle.book.specs.Model.{entry_row, BookView, field_of, kept_of, ledger_of, move_of, order_of, view_of}
 pub use Rattle.book.specs.inner.Walk.{IsSmall, most_of_all, most_of_line, most_of_lines, most_of_move, most_of_moves, moved_by_move, moved_by_entry, nothing, plus}
 pub use Rattle.book.specs.declared.book.Book.TheInside.{Inside}
@@ -28,67 +15,3 @@ pub use Rattle.book.specs.declared.book.FieldEntry.{FieldEntry}
 pub use Rattle.book.specs.declared.book.KeptEntry.{KeptEntry}
 pub use Rattle.book.specs.declared.book.MoveEntry.{MoveEntry}
 pub use Rattle.book.specs.declared.order.OrderEntry.{OrderEntry}
-pub use Rattle.book.specs.declared.limits.TheConstants.{MAX_PLACES}
-pub use Rattle.book.specs.declared.order.Kind.TheVariants.{Plain, Transfer}
-pub use Rattle.book.specs.declared.order.Kind.{Kind}
-pub use Rattle.book.specs.declared.order.Line.{Line}
-pub use Rattle.book.specs.declared.order.Share.{Share}
-pub use Rattle.book.specs.declared.order.State.TheVariants.{Aborted, Committed, Open}
-pub use Rattle.book.specs.declared.order.State.{State}
-pub use Rattle.book.specs.declared.rows.Change.{Change}
-pub use Rattle.book.specs.declared.rows.FieldRow.{FieldRow}
-pub use Rattle.book.specs.declared.rows.FirmRow.{FirmRow}
-pub use Rattle.book.specs.declared.rows.KeptRow.{KeptRow}
-pub use Rattle.book.specs.declared.rows.LineRow.{LineRow}
-pub use Rattle.book.specs.declared.rows.MoveRow.{MoveRow}
-pub use Rattle.book.specs.declared.rows.OrderRow.{OrderRow}
-pub use Rattle.escrow.specs.Codes.{IsArticle, IsBranch, IsKey}
-pub use Rattle.escrow.specs.Escrow.{IsSafeMoved, giving_back, held_of, holding}
-pub use Rattle.escrow.specs.Ranges.{IsLevel, IsMoment, IsQty}
-pub use Rattle.escrow.specs.Stock.{Stock}
-pub use Rattle.escrow.specs.declared.quantity.Way.TheVariants.{Add, Take}
-pub use Rattle.escrow.specs.declared.quantity.Way.{Way}
-pub use Rattle.std.proofs.Common.{[], ◌&&◌, ◌*◌, ◌++◌, ◌+ℤ◌, ◌+◌, ◌-ℤ◌, ◌-◌, ◌<ℤ◌, ◌<◌, ◌==◌, ◌^◌, ◌||◌, ◌↔◌, ◌∙◌, ◌∷◌, ◌≡◌, ◌≢◌, ◌≤ℤ◌, ◌≤◌, ◌⊎◌, Bool, Bor, Err, Global, IfErr, IfOk, IfSome, IsFalse, IsNone, IsSome, IsSomeAnd, IsTrue, List, MatchOption, MatchResult, None, Ok, OnOk, Option, Result, Some, String, add-one, add-zero, ap, arith, codes, cond, count_by, decimal, drop, drop-drop, eqb, false, find, flat_map, get_or, if◌then◌else◌, inl, inr, is_some, length, length-append, length-drop, length-set, length-take, map, nat_abs, nat_eq, nat_le, nat_lt, neg_ℤ, negsuc, not, of_calls, pos, refl, rules, set, slice_get, slice_index_or, string_bytes, subst, suc, sym, take, true, true≢false, zero, zero-add, ℕ, ℤ}
-pub use Rattle.std.proofs.lemmas.Bool.Decides.{nat_tests}
-pub use Rattle.std.proofs.lemmas.Bool.{cases_lt}
-pub use Rattle.std.proofs.lemmas.Cmp.{int_cmp_total, nat_cmp_total, nat_list_cmp_total, on_total, then_total, tied_itself}
-pub use Rattle.std.proofs.lemmas.Fn.{always_returns_same}
-pub use Rattle.std.proofs.lemmas.Grind.{common_steps, flat_map-append}
-pub use Rattle.std.proofs.lemmas.Int.{by_lt_z, ints}
-pub use Rattle.std.proofs.lemmas.List.Elements.{recursion_from_All}
-pub use Rattle.std.proofs.lemmas.List.Folds.{list_any-append}
-pub use Rattle.std.proofs.lemmas.List.Sorted.{IsPermutation-map, IsPermutation-refl}
-pub use Rattle.std.proofs.lemmas.List.{append-nil, append_assoc, length-take-le, map-append, take-append-drop, take_all}
-pub use Rattle.std.proofs.lemmas.Map.Text.{is_eq-slice_cmp}
-pub use Rattle.std.proofs.lemmas.Option.{get_or_from_slice_get, none-some, same_Some, slice_get-map, slice_get_read, slice_get_within}
-pub use Rattle.std.proofs.lemmas.Result.{IfOk-weaker}
-pub use Rattle.std.proofs.lemmas.Simd.{map-map}
-pub use Rattle.std.specs.BTreeMap.{insert_entry, is_at}
-pub use Rattle.std.specs.Cmp.Lexicographic.{slice_cmp}
-pub use Rattle.std.specs.Cmp.{IsTotalOrder, ranks}
-pub use Rattle.std.specs.List.Sorted.{IsBinarySearchResult, IsNonDecreasingBy, IsPermutation, IsSearchInRange}
-unfoldable pub use Rattle.std.specs.List.Sorted.{IsStrictlySortedBy}
-pub use Rattle.std.specs.List.{AllByRecursion as Each, AllZip, Contains, filter, insert, list_any, range_with_len}
-unfoldable pub use Rattle.std.specs.List.{IsDistinct}
-pub use Rattle.std.specs.Map.{keys_of, lookup, set_value}
-pub use Rattle.std.specs.Option.{option_copied, option_map, option_map_or}
-pub use Rattle.std.specs.Ordering.{MatchOrdering, int_eq, is_eq, is_lt, match_ordering, nat_cmp, ordering_index, ordering_reverse, ordering_then}
-pub use Rattle.std.specs.Str.{IsUtf8, bytes_eq}
-pub use Rattle.std.specs.Vec.{vec_capacity, vec_len}
-pub use Rattle.std.specs.declared.cmp.Ordering.TheVariants.{Equal, Greater, Less}
-pub use Rattle.std.specs.declared.cmp.Ordering.{Ordering}
-pub use Rattle.words.proofs.OneItem.{spelling_one}
-pub use Rattle.words.specs.Kinds.{is_opening}
-pub use Rattle.words.specs.OpenLines.{IsOpenLine}
-pub use Rattle.words.specs.Spelling.{IsInRange, spelling}
-pub use Rattle.words.specs.declared.command.Command.TheVariants.{Deliver, More, Writeoff}
-pub use Rattle.words.specs.declared.command.Command.{Command}
-pub use Rattle.words.specs.declared.command.Request.{Request}
-pub use Rattle.words.specs.declared.limits.TheConstants.{MAX_ORDER_LINES}
-pub use Rattle.words.specs.declared.open_line.OpenLine.{OpenLine}
-pub use Rattle.words.specs.declared.reply.Refusal.TheVariants.{KeyReused}
-pub use Rattle.words.specs.declared.reply.Refusal.{Refusal}
-pub use Rattle.words.specs.declared.reply.Reply.TheVariants.{Done, Refused}
-pub use Rattle.words.specs.declared.reply.Reply.{Reply}
-pub use lib.Pointwise.{bytes_decides}
-pub use native.Mathlib.Decide.{dec_le}

@@ -1,14 +1,23 @@
 -- Rows of a good ledger each tell something in range, and rows that each tell something tell a ledger.
-use Rattle.book.proofs.Prelude.{[], ◌++◌, ◌+ℤ◌, ◌+◌, ◌-ℤ◌, ◌∙◌, ◌∷◌, ◌≡◌, ◌≤ℤ◌, ◌≤◌, AllZip, Bool, Each, Field, FieldEntry, FieldRow, Good, Head, IsArticle, IsBounded, IsBranch, IsFieldRow, IsFieldTold, IsGoodField, IsGoodKept, IsGoodLine, IsGoodMove, IsGoodOrder, IsKeptTold, IsLevel, IsLineTold, IsMoveTold, IsSome, IsStrictlySortedBy, KeptEntry, KeptRow, Ledger, Line, LineCells, LineRow, List, MoveEntry, MoveRow, Name, Order, OrderRow, Some, TellHeads, TellsField, ap, arith, entry_row, false, field_cells, field_of, find, firm_rows, flat_map, head_of, held_to_add, held_to_take, if◌then◌else◌, ints, kept_cells, kept_row, line_cells, line_name, lines_from, map, mark_rows, move_cells, move_row, nat_abs, nat_cmp, order_cells, order_lines, order_row, pos, refl, same_name, settled, subst, sym, true, true≢false, ℕ}
-use Rattle.book.specs.Rows.{FirmCells, OrderCells}
+use Rattle.ledger.proofs.Prelude.{AllZip, Bool, Each, Field, Good, IsArticle, IsBranch, IsFieldRow, IsGoodField, IsGoodKept, IsGoodLine, IsGoodMove, IsGoodOrder, IsLevel, IsSome, IsStrictlySortedBy, Ledger, LineCells, List, Name, Order, Some, TellsField, [], ap, arith, false, field_cells, find, firm_rows, flat_map, held_to_add, held_to_take, if◌then◌else◌, ints, kept_cells, kept_row, line_cells, line_name, lines_from, map, move_cells, move_row, nat_abs, nat_cmp, order_cells, order_lines, order_row, pos, refl, same_name, settled, subst, sym, true, true≢false, ℕ, ◌++◌, ◌+ℤ◌, ◌+◌, ◌-ℤ◌, ◌∙◌, ◌∷◌, ◌≡◌, ◌≤ℤ◌, ◌≤◌}
+use Rattle.book.proofs.Prelude.{FieldEntry, Head, IsBounded, IsFieldTold, IsKeptTold, IsLineTold, IsMoveTold, KeptEntry, MoveEntry, TellHeads, entry_row, field_of, head_of, mark_rows}
+use Rattle.ledger.specs.declared.rows.FieldRow.{FieldRow}
+use Rattle.ledger.specs.declared.rows.KeptRow.{KeptRow}
+use Rattle.ledger.specs.declared.order.Line.{Line}
+use Rattle.ledger.specs.declared.rows.LineRow.{LineRow}
+use Rattle.ledger.specs.declared.rows.MoveRow.{MoveRow}
+use Rattle.ledger.specs.declared.rows.OrderRow.{OrderRow}
+use Rattle.ledger.specs.Rows.{FirmCells, OrderCells}
 use Rattle.book.specs.inner.RowEntries.{AreRowsOfOrders, IsHeadTold, TellOrders, TellsLine, head_row}
-use Rattle.book.proofs.Bounds.{inf_is, inf_unique, sup_is, sup_unique}
-use Rattle.book.proofs.Futures.{name_is, sounds_from_good}
-use Rattle.book.proofs.Lists.{each-two, each-unmap}
+use Rattle.ledger.proofs.Bounds.{inf_is, inf_unique, sup_is, sup_unique}
+use Rattle.ledger.proofs.Falls.{sounds_from_good}
+use Rattle.ledger.proofs.Lists.{each-two, each-unmap}
 use Rattle.book.proofs.Marks.{Marked, same_heads}
-use Rattle.book.proofs.Runs.{in_order}
-use Rattle.book.proofs.Sums.{each-imp}
-use Rattle.book.proofs.EqualRows.{each-join, same_first, same_rest}
+use Rattle.ledger.proofs.Runs.{in_order}
+use Rattle.ledger.proofs.Sums.{each-imp}
+use Rattle.ledger.proofs.EqualRows.{each-join, same_first, same_rest}
+use Rattle.ledger.proofs.FieldNames.{name_is}
+use Rattle.laws.proofs.ScriptPlay.{told}
 
 -- ---- rows, one by one
 

@@ -1,15 +1,16 @@
 -- Running numbers: what the entries of fields say of a ledger, and what becomes of them.
-use Rattle.book.proofs.Prelude.{[], ◌+ℤ◌, ◌+◌, ◌-ℤ◌, ◌<ℤ◌, ◌∙◌, ◌∷◌, ◌≡◌, ◌≤ℤ◌, ◌≤◌, Add, Bool, BreaksBound, Contains, Content, Each, Equal, Field, FieldCells, FieldEntry, Global, Good, Greater, IsSome, IsSafeMoved, IsSomeAnd, IsUpToDate, Ledger, Less, List, Name, None, Option, Ordering, Some, Stock, String, Take, Way, accept, ap, arith, common_steps, entry_row, false, field_cells, field_cmp, field_named, field_of, field_row, held_to_add, held_to_take, holding, if_add, if_take, if◌then◌else◌, insert_entry, ints, is_settled, is_eq, is_lt, is_open, is_some, map, match_ordering, moved_by, name_cmp, next, pos, put_row, put_rows, refl, same_name, settled, signed, string_bytes, subst, sym, total, true≢false, unsettled, with_entries, ℕ, ℤ}
+use Rattle.ledger.proofs.Prelude.{Add, Bool, BreaksBound, Contains, Content, Each, Equal, Field, FieldCells, Global, Good, Greater, IsSafeMoved, IsSomeAnd, Ledger, Less, List, Name, None, Option, Ordering, Some, Stock, String, Take, Way, [], accept, ap, arith, common_steps, false, field_cells, field_cmp, field_named, field_row, held_to_add, held_to_take, holding, if◌then◌else◌, insert_entry, ints, is_eq, is_lt, is_some, map, match_ordering, name_cmp, next, pos, put_row, put_rows, refl, same_name, settled, string_bytes, subst, sym, true≢false, ℕ, ℤ, ◌+ℤ◌, ◌+◌, ◌-ℤ◌, ◌<ℤ◌, ◌∙◌, ◌∷◌, ◌≡◌, ◌≤ℤ◌, ◌≤◌}
+use Rattle.book.proofs.Prelude.{FieldEntry, IsUpToDate, entry_row, field_of, with_entries}
 use Rattle.escrow.specs.Choices.{IsInfimum as IsLeastOf, IsSafe as IsSafeStock, IsSupremum as IsGreatestOf}
 use Rattle.book.specs.Plans.{Fits, PlanView}
-use Rattle.book.specs.Rows.{DeskCells, desk_row}
-use Rattle.book.proofs.EqualRows.{rows_are, rows_of, same_first, same_rest}
+use Rattle.ledger.specs.Rows.{DeskCells, desk_row}
+use Rattle.ledger.proofs.EqualRows.{rows_are, rows_of, same_first, same_rest}
 use Rattle.book.proofs.KeyPlaces.{equal_field}
-use Rattle.book.proofs.Runs.{in_order}
-use Rattle.book.proofs.Sums.{each-imp, total-zero}
+use Rattle.ledger.proofs.Runs.{in_order}
 use Rattle.book.proofs.ShownNumbers.{Contains-of_find}
-use Rattle.book.proofs.Lists.{each-at}
-use Rattle.book.proofs.Safety.{no_orders, not_there}
+use Rattle.ledger.proofs.Lists.{each-at}
+use Rattle.ledger.proofs.Safety.{nothing_on}
+use Rattle.laws.proofs.ScriptPlay.{told}
 
 -- ---- one quantity
 
@@ -138,22 +139,7 @@ off b z e = cc
 -- its value is its start, and nothing is held on it
 pub new_field : (A B : Ledger) (n : Name) (lo hi start : ℕ) → Good A → field_named A n ≡ None → B.moves ≡ A.moves → B.orders ≡ A.orders
     → entry_row (n, record { start = start; quantity = record { lo = lo; hi = hi; value = start; held_to_take = 0; held_to_add = 0 } }) ≡ field_row B (record { name = n; lo = lo; hi = hi; start = start })
-new_field A B n lo hi start good none same_moves same_orders = grind (arith, adds, moves, used, takes, value, same_moves, same_orders)
+new_field A B n lo hi start good none same_moves same_orders = grind (arith, numbers.0, numbers.1, numbers.2, same_moves, same_orders)
   where
-    not : IsSome (field_named A n) → ⊥
-    not some = true≢false (sym some ∙ ap is_some none)
-
-    moves : total (λ m. if same_name n m.field then m.amount else pos 0) A.moves ≡ pos 0
-    moves = total-zero (λ m. if same_name n m.field then m.amount else pos 0) A.moves (each-imp (λ m x. off (same_name n m.field) m.amount (not_there A n m.field not x.field)) A.moves good.moves)
-
-    used : total (λ o. if is_settled o then moved_by n (λ l. l.used) o else pos 0) A.orders ≡ pos 0
-    used = no_orders A n is_settled (λ o l. signed l.way l.used) not A.orders good.orders
-
-    takes : held_to_take A n ≡ pos 0
-    takes = no_orders A n is_open (λ o l. pos (if_take l.way (unsettled o.firm l l.held))) not A.orders good.orders
-
-    adds : held_to_add A n ≡ pos 0
-    adds = no_orders A n is_open (λ o l. pos (if_add l.way (unsettled o.firm l l.held))) not A.orders good.orders
-
-    value : pos start ≡ (pos start +ℤ total (λ m. if same_name n m.field then m.amount else pos 0) A.moves) +ℤ total (λ o. if is_settled o then moved_by n (λ l. l.used) o else pos 0) A.orders
-    value = let m = moves in let u = used in omega (arith, ints)
+    numbers : (settled A (record { name = n; lo = lo; hi = hi; start = start }) ≡ pos start) × (held_to_take A n ≡ pos 0) × (held_to_add A n ≡ pos 0)
+    numbers = nothing_on A (record { name = n; lo = lo; hi = hi; start = start }) good (λ some. true≢false (sym some ∙ ap is_some none))

@@ -1,8 +1,9 @@
 -- The numbers that a book shows of its fields.
-use Rattle.book.proofs.Prelude.{[], ◌+ℤ◌, ◌-ℤ◌, ◌∙◌, ◌∷◌, ◌≡◌, ◌≤ℤ◌, BookView, Bool, Contains, Field, FieldEntry, Good, Inside, Ledger, List, Name, Some, ap, arith, common_steps, false, field_of, find, held_to_add, held_to_take, if◌then◌else◌, is_some, option_map, pos, settled, slice_get, slice_get-map, suc, sym, true, true≢false, view_of, ℕ}
+use Rattle.ledger.proofs.Prelude.{[], ◌+ℤ◌, ◌-ℤ◌, ◌∙◌, ◌∷◌, ◌≡◌, ◌≤ℤ◌, Bool, Contains, Field, Good, Ledger, List, Name, Some, ap, arith, common_steps, false, find, held_to_add, held_to_take, if◌then◌else◌, is_some, option_map, pos, settled, slice_get, slice_get-map, suc, sym, true, true≢false, ℕ}
+use Rattle.book.proofs.Prelude.{BookView, FieldEntry, Inside, field_of, view_of}
 use Rattle.escrow.specs.declared.limits.TheConstants.{MAX_LEVEL}
-use Rattle.book.proofs.Lists.{from_some, each-at}
-use Rattle.book.proofs.Runs.{in_order}
+use Rattle.ledger.proofs.Lists.{from_some, each-at}
+use Rattle.ledger.proofs.Runs.{in_order}
 
 pub Contains-of_find : {X : Type 0} (p : X → Bool) (xs : List X) (x : X) → find p xs ≡ Some x → Contains xs x
 Contains-of_find p [] x n = absurd (true≢false (sym (ap is_some n)))

@@ -1,16 +1,18 @@
 -- Sums on each of the fields: where a field stands among those in order, and what an entry more adds.
-use Rattle.book.proofs.Prelude.{[], ◌+◌, ◌<◌, ◌∙◌, ◌∷◌, ◌≡◌, ◌≤◌, Bool, Each, Equal, FieldEntry, IsBinarySearchResult, IsField, IsNonDecreasingBy, IsNone, IsSearchInRange, IsSmall, IsStrictlySortedBy, Less, Line, List, MatchResult, MoveEntry, Name, Numbers, OrderEntry, Ordering, Result, Some, State, added, ap, arith, common_steps, entry_name, false, field_of, get_or, if◌then◌else◌, ints, is_lt, is_some, length, lines_numbers, map, moved_by_move, moved_by_entry, name_cmp, nothing, numbers_on, only_on, ordering_index, ordering_reverse, plus, refl, same_name, set, subst, suc, sym, take, tied_itself, true, true≢false, zero, ℕ}
+use Rattle.ledger.proofs.Prelude.{Bool, Each, Equal, IsBinarySearchResult, IsNonDecreasingBy, IsNone, IsSearchInRange, IsStrictlySortedBy, Less, List, MatchResult, Name, Ordering, Result, Some, [], ap, arith, common_steps, false, get_or, if◌then◌else◌, ints, is_lt, is_some, length, map, name_cmp, ordering_index, ordering_reverse, refl, same_name, set, subst, suc, sym, take, tied_itself, true, true≢false, zero, ℕ, ◌+◌, ◌<◌, ◌∙◌, ◌∷◌, ◌≡◌, ◌≤◌}
+use Rattle.book.proofs.Prelude.{FieldEntry, IsField, IsSmall, MoveEntry, Numbers, OrderEntry, added, entry_name, field_of, lines_numbers, moved_by_entry, moved_by_move, nothing, numbers_on, only_on, plus}
+use Rattle.ledger.specs.declared.order.Line.{Line}
+use Rattle.ledger.specs.declared.order.State.{State}
 use Rattle.std.proofs.lemmas.List.Sorted.{searchable_from_sorted}
 use Rattle.book.specs.inner.Walk.{added_by_entry, moved_by_line, taken_by_entry}
-use Rattle.book.specs.Held.{added_by_line, taken_by_line}
+use Rattle.ledger.specs.Held.{added_by_line, taken_by_line}
 use Rattle.std.specs.Prelude.{replicate}
-use Rattle.book.specs.inner.Sums.{field_among, AreFieldsInOrder, AreSums, IsFieldAt}
-use Rattle.book.proofs.OutcomeTests.{same_self}
-use Rattle.book.proofs.Futures.{name_is}
-use Rattle.book.proofs.GoodParts.{equal_name, name_cmp_total}
-use Rattle.book.proofs.Lists.{each-unmap, total-step, each_get, each_set}
-use Rattle.book.proofs.Sums.{each-imp}
-use Rattle.book.proofs.Safety.{not_true}
+use Rattle.book.specs.inner.Sums.{AreFieldsInOrder, AreSums, IsFieldAt, field_among}
+use Rattle.ledger.proofs.GoodParts.{equal_name, name_cmp_total}
+use Rattle.ledger.proofs.Lists.{each-unmap, each_get, each_set, total-step}
+use Rattle.ledger.proofs.Sums.{each-imp}
+use Rattle.ledger.proofs.Safety.{not_true}
+use Rattle.ledger.proofs.FieldNames.{name_is, same_self}
 
 -- ---- numbers added to one another, and how great they can be
 

@@ -1,5 +1,5 @@
 -- Codes, keys and the spellings of commands are in ASCII.
-use Rattle.book.proofs.Prelude.{[], ◌<◌, ◌∷◌, ◌≡◌, ◌≤◌, Bool, Command, Each, IsArticle, IsBranch, IsInRange, IsKey, IsOpenLine, IsUtf8, List, OpenLine, Way, arith, decimal, nat_tests, recursion_from_All, spelling, true, ℕ}
+use Rattle.ledger.proofs.Prelude.{Bool, Command, Each, IsArticle, IsBranch, IsInRange, IsKey, IsOpenLine, IsUtf8, List, OpenLine, Way, [], arith, decimal, nat_tests, recursion_from_All, spelling, true, ℕ, ◌<◌, ◌∷◌, ◌≡◌, ◌≤◌}
 use Rattle.std.proofs.lemmas.Fmt.{IsAscii-decimal}
 use Rattle.std.proofs.lemmas.Str.{IsAscii-append, IsUtf8-from_ascii}
 use Rattle.std.proofs.lemmas.Str.Ascii.{IsAscii-nil}
@@ -9,7 +9,7 @@ use Rattle.escrow.specs.Codes.{is_article_byte, is_branch_byte, is_key_byte}
 use Rattle.words.specs.OpenLines.{line_words, way_word}
 use Rattle.words.specs.Spelling.{command_words}
 use Rattle.words.specs.Words.{spaced}
-use Rattle.book.proofs.Futures.{same_parts}
+use Rattle.ledger.proofs.FieldNames.{same_parts}
 
 ascii_cons : (b : ℕ) (bs : List ℕ) → b < 128 → IsAscii bs → IsAscii (b ∷ bs)
 ascii_cons b bs h k x = grind arith

@@ -4,9 +4,9 @@ use Rattle.std.specs.Ordering.{nat_cmp}
 use Rattle.std.specs.declared.cmp.Ordering.{Ordering}
 use Rattle.std.specs.Vec.{vec_capacity, vec_len}
 use Rattle.index.specs.InOrder.{EntryStorage, no_storage}
-use Rattle.book.specs.Ledger.{Field, Kept, Ledger, Move, Name, Order, name_of}
+use Rattle.ledger.specs.Ledger.{Field, Kept, Ledger, Move, Name, Order, name_of}
 use Rattle.book.specs.OrderLists.{OrderStorage, no_orders}
-use Rattle.book.specs.Rows.{FieldCells}
+use Rattle.ledger.specs.Rows.{FieldCells}
 use Rattle.book.specs.declared.book.Book.TheInside.{Inside}
 use Rattle.book.specs.declared.book.FieldEntry.{FieldEntry}
 use Rattle.book.specs.declared.book.KeptEntry.{KeptEntry}

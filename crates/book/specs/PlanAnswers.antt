@@ -2,8 +2,8 @@
 use Rattle.std.specs.Prelude.{◌≡◌, IsSome}
 use Rattle.words.specs.declared.command.Request.{Request}
 use Rattle.words.specs.declared.reply.Reply.TheVariants as reply
-use Rattle.book.specs.Answers.{Answers}
-use Rattle.book.specs.Ledger.{Ledger, kept_under}
+use Rattle.ledger.specs.Answers.{Answers}
+use Rattle.ledger.specs.Ledger.{Ledger, kept_under}
 use Rattle.book.specs.Plans.{Fits}
 use Rattle.book.specs.declared.book.plan.Planned.{Planned}
 use Rattle.book.specs.declared.book.plan.Planned.TheVariants.{Accept, Again, Refused}

@@ -1,12 +1,12 @@
 -- Plans of accepted requests, and what carrying one out needs.
 use Rattle.std.specs.Prelude.{ℕ, ◌+◌, ◌≤◌, ◌≡◌, List, [], ◌∷◌, length}
 use Rattle.words.specs.declared.command.Request.{Request}
-use Rattle.book.specs.Answers.{IsAccepted}
-use Rattle.book.specs.Changes.{changed_rows, put_content, put_rows}
-use Rattle.book.specs.Ledger.{Ledger, Order, places}
-use Rattle.book.specs.Next.{accept}
-use Rattle.book.specs.Rows.{Content, IsRowsOf, desk_row}
-use Rattle.book.specs.Steps.{orders_made}
+use Rattle.ledger.specs.Answers.{IsAccepted}
+use Rattle.ledger.specs.Changes.{changed_rows, put_content, put_rows}
+use Rattle.ledger.specs.Ledger.{Ledger, Order, places}
+use Rattle.ledger.specs.Next.{accept}
+use Rattle.ledger.specs.Rows.{Content, IsRowsOf, desk_row}
+use Rattle.ledger.specs.Steps.{orders_made}
 use Rattle.book.specs.Model.{BookView, LineSlots, slots_cmp}
 
 -- a plan as it is seen

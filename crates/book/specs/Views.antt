@@ -3,9 +3,9 @@ use Rattle.std.specs.Prelude.{ℕ, pos, ◌≡◌, ◌&&◌, Option, find, nat_l
 use Rattle.book.specs.declared.book.views.FieldView.{FieldView}
 use Rattle.book.specs.declared.book.views.KeptView.{KeptView}
 use Rattle.book.specs.declared.book.views.OrderView.{OrderView}
-use Rattle.book.specs.Ledger.{Field, Kept, Ledger, Order, is_open, name_of, shown_state}
+use Rattle.ledger.specs.Ledger.{Field, Kept, Ledger, Order, is_open, name_of, shown_state}
 use Rattle.words.specs.Spelling.{spelling}
-use Rattle.book.specs.Outcomes.{IsInfimum, IsSupremum, settled}
+use Rattle.ledger.specs.Outcomes.{IsInfimum, IsSupremum, settled}
 
 -- the field's name and bounds, its settled value, and its infimum and supremum over the outcomes of the open orders
 pub record ShowsField (A : Ledger) (f : Field) (view : FieldView) : Type 0 where

@@ -1,6 +1,5 @@
 -- What no clause of a public function cites.
 pub mod Checking
-pub mod FieldRows
 pub mod InPlace
 pub mod KeptWords
 pub mod OpenOrders

@@ -1,15 +1,15 @@
 //! The ledger in memory.
 
-ghost use Rattle.book.specs.Future.{Honours, HonoursAlways, Settles};
-ghost use Rattle.book.specs.Good.{Good};
-ghost use Rattle.book.specs.Ledger.{name_of, new_ledger, field_named, kept_under, order_numbered, Ledger, is_transfer, places, insert_in_order};
-ghost use Rattle.book.specs.Next.{accept, move_made, next};
-ghost use Rattle.book.specs.Outcomes.{article_total};
+ghost use Rattle.ledger.specs.Future.{Honours, HonoursAlways, Settles};
+ghost use Rattle.ledger.specs.Good.{Good};
+ghost use Rattle.ledger.specs.Ledger.{name_of, new_ledger, field_named, kept_under, order_numbered, Ledger, is_transfer, places, insert_in_order};
+ghost use Rattle.ledger.specs.Next.{accept, move_made, next};
+ghost use Rattle.ledger.specs.Outcomes.{article_total};
 ghost use Rattle.book.specs.Plans.{Fits, HasRoomFor, KeepsStorage, RoomStays, NoRoomGrows};
 ghost use Rattle.book.specs.inner.StepsSeen.{MayBePut, number_cmp};
-ghost use Rattle.book.specs.Changes.{put_rows};
+ghost use Rattle.ledger.specs.Changes.{put_rows};
 ghost use Rattle.book.specs.inner.RunningNumbers.{IsUpToDate, with_entries};
-ghost use Rattle.book.specs.Tables.{rows_among};
+ghost use Rattle.ledger.specs.Tables.{rows_among};
 ghost use Rattle.book.specs.Model.{field_of, kept_of, order_of, move_of, nothing_stored, slots_cmp, slots_of};
 ghost use Rattle.std.specs.Cmp.Lexicographic.{slice_cmp};
 ghost use Rattle.std.specs.Ordering.{nat_cmp, is_lt};
@@ -30,9 +30,9 @@ mod views;
 use crate::kept_words::KeptWords;
 use crate::order::{Order, OrderEntry};
 use crate::orders::Orders;
-use crate::rows::Change;
 use escrow::{Article, Branch, FieldName, Key, Level, Moment, OrderNo, Quantity};
 use index::InOrder;
+use ledger::Change;
 pub use plan::{Plan, Planned};
 use std::alloc::Global;
 use std::marker::Model;

@@ -26,7 +26,7 @@ impl Model for KeptWords {
 }
 
 impl KeptWords {
-    ghost use Rattle.book.specs.Answers.{same_command};
+    ghost use Rattle.ledger.specs.Answers.{same_command};
 
     /// The words of the command.
     pub fn of(alloc: Global, command: &SpelledCommand) -> Result<KeptWords, Memory>

@@ -1,53 +1,11 @@
 //! Orders, which hold amounts on fields until they end.
 
 ghost use Rattle.std.specs.Prelude.{◌≡◌, MatchOption, count_by, find};
-ghost use Rattle.book.specs.Ledger.{line_name, on, open_state};
-ghost use Rattle.book.specs.inner.RunningNumbers.{share_of};
+ghost use Rattle.ledger.specs.Ledger.{on, open_state};
+ghost use Rattle.ledger.specs.inner.Shares.{share_of};
 
-use escrow::{Article, Branch, FieldName, Level, Moment, OrderNo, Way};
-
-/// What kind of order it is.
-#[derive(Clone, Copy, PartialEq, Eq)]
-pub enum Kind {
-    /// Of lines of its own.
-    Plain,
-    /// A take at one branch and an add at another.
-    Transfer,
-}
-
-/// Where an order stands.
-#[derive(Clone, Copy, PartialEq, Eq)]
-pub enum State {
-    /// It holds what its lines hold.
-    Open,
-    /// It has ended, and what it used is settled.
-    Committed,
-    /// It has ended, and all that it held went back.
-    Aborted,
-}
-
-/// Where an order stands, as it is shown.
-#[derive(Clone, Copy, PartialEq, Eq)]
-pub enum Standing {
-    /// It holds what its lines hold.
-    Open,
-    /// It is open and may no longer be aborted: what it uses is settled at once.
-    Firm,
-    /// It has ended, and what it used is settled.
-    Committed,
-    /// It has ended, and all that it held went back.
-    Aborted,
-}
-
-/// A line of an order: what it holds on a field, one way, and how much of that it has used.
-#[derive(Clone, Copy)]
-pub struct Line {
-    pub way: Way,
-    pub branch: Branch,
-    pub article: Article,
-    pub held: Level,
-    pub used: Level,
-}
+use escrow::{FieldName, Moment, OrderNo};
+use ledger::{Kind, Line, Share, State};
 
 /// An order, open or ended.
 #[derive(Drop)]
@@ -59,13 +17,6 @@ pub struct OrderEntry {
     /// Whether it may no longer be aborted; the mark stays, also after the commit.
     pub firm: bool,
     pub lines: Vec<Line>,
-}
-
-/// What a line counts for in the stock of its field: how much of it is settled, and how much is held beyond that.
-#[derive(Clone, Copy)]
-pub struct Share {
-    pub settled: u64,
-    pub held: u64,
 }
 
 /// What no line counts for.
@@ -98,18 +49,6 @@ pub(crate) fn is_open(state: State) -> bool
     ensures { result ≡ open_state state }
 {
     matches!(state, State::Open)
-}
-
-impl Line {
-    /// The name of the field that the line is on.
-    pub(crate) fn name(&self) -> FieldName
-        ensures { result ≡ line_name self.now }
-    {
-        FieldName {
-            branch: self.branch,
-            article: self.article,
-        }
-    }
 }
 
 /// An order under its number.

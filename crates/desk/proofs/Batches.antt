@@ -11,24 +11,23 @@ use Rattle.words.specs.declared.reply.Reply.{Reply}
 use Rattle.words.specs.declared.reply.Reply.TheVariants.{Done}
 use Rattle.escrow.specs.Codes.{IsKey}
 use Rattle.words.specs.Spelling.{IsInRange}
-use Rattle.book.specs.Answers.{Answers, IsAccepted, Runs}
-use Rattle.book.specs.Good.{Good}
-use Rattle.book.specs.Ledger.{Ledger}
-use Rattle.book.specs.Rows.{Content, DeskCells, IsRowsOf}
-use Rattle.book.specs.Tables.{desk_cells}
-use Rattle.book.specs.Tables.{rows_among, with_change}
-use Rattle.book.specs.declared.rows.Change.{Change}
-use Rattle.book.specs.declared.rows.Change.TheVariants as change
-use Rattle.book.proofs.Puts.{put_in_turn}
-use Rattle.book.proofs.Runs.{accepted_answered}
-use Rattle.book.specs.Changes.{put_content}
-use Rattle.book.specs.Next.{accept}
+use Rattle.ledger.specs.Answers.{Answers, IsAccepted, Runs}
+use Rattle.ledger.specs.Good.{Good}
+use Rattle.ledger.specs.Ledger.{Ledger}
+use Rattle.ledger.specs.Rows.{Content, DeskCells, IsRowsOf}
+use Rattle.ledger.specs.Tables.{desk_cells}
+use Rattle.ledger.specs.Tables.{rows_among, with_change}
+use Rattle.ledger.specs.declared.rows.Change.{Change}
+use Rattle.ledger.specs.declared.rows.Change.TheVariants as change
+use Rattle.ledger.proofs.Puts.{put_in_turn}
+use Rattle.ledger.proofs.Runs.{accepted_answered}
+use Rattle.ledger.specs.Changes.{put_content}
+use Rattle.ledger.specs.Next.{accept}
 use Rattle.book.specs.Plans.{Fits, PlanView}
-use Rattle.book.specs.Rows.{desk_row}
+use Rattle.ledger.specs.Rows.{desk_row}
 use Rattle.desk.proofs.NextRows.{next_rows}
-use Rattle.keep.specs.Content.{IsAmong, IsTheRow}
+use Rattle.keep.specs.Content.{IsAmong, IsTheRow, with_changes}
 use Rattle.keep.specs.Keeping.{GoesOn}
-use Rattle.keep.specs.Transactions.{with_changes}
 use Rattle.keep.specs.declared.keep.Keep.{Ghosts}
 use Rattle.keep.specs.declared.keep.KeepFault.{KeepFault}
 use Rattle.desk.specs.Desk.{DeskState, HasAccepted, IsStored}

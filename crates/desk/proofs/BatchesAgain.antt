@@ -11,9 +11,9 @@ use Rattle.words.specs.declared.reply.Reply.{Reply}
 use Rattle.words.specs.declared.reply.Reply.TheVariants.{Done, Refused}
 use Rattle.words.specs.declared.reply.Refusal.TheVariants.{KeyReused}
 use Rattle.std.proofs.lemmas.List.{length-take-le}
-use Rattle.book.specs.Answers.{After, Answers, AnswersNew, Runs, same_command}
-use Rattle.book.specs.Ledger.{Kept, Ledger, insert_in_order, kept_under, places}
-use Rattle.book.proofs.Runs.{runs_once}
+use Rattle.ledger.specs.Answers.{After, Answers, AnswersNew, Runs, same_command}
+use Rattle.ledger.specs.Ledger.{Kept, Ledger, insert_in_order, kept_under, places}
+use Rattle.ledger.proofs.Runs.{runs_once}
 use Rattle.desk.specs.Together.{IsBatch, IsDone, ResumableWithin}
 use Rattle.desk.proofs.Batches.{batch_runs}
 use Rattle.desk.proofs.Repeats.{kept_then}

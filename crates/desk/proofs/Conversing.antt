@@ -3,9 +3,9 @@ use Rattle.std.proofs.Common.{◌≡◌, ◌≢◌, ◌≤◌, ◌∙◌, ◌+�
 use Rattle.std.specs.Io.KnownBytes.{Appends, Consumes, IsAtEnd, Keeps}
 use Rattle.std.proofs.KnownBytes.{Appends-nil, Appends-trans, Consumes-kept, Consumes-nil, Consumes-trans}
 use Rattle.std.proofs.lemmas.List.{length-append}
-use Rattle.book.specs.Answers.{IsAccepted}
-use Rattle.book.specs.Ledger.{Ledger}
-use Rattle.book.specs.Next.{accept}
+use Rattle.ledger.specs.Answers.{IsAccepted}
+use Rattle.ledger.specs.Ledger.{Ledger}
+use Rattle.ledger.specs.Next.{accept}
 use Rattle.desk.specs.Desk.{DeskState, LeavesEither, Snapshot, snapshot}
 use Rattle.desk.specs.Dialogue.{AlmostWritten, AnswerKind, Answered, AnswersOne, AreAnswers, Begins, BeginsTranscript, EndsCut, EndsUntaken, EndsWhole, FailsOne, IsCut, IsNoStop, IsStoppedBy, Language, StopsDesk, is_end, longest_piece, most, no_memory, ordinary, stopping, text_of}
 use Rattle.desk.specs.Script.{Writes}

@@ -6,13 +6,13 @@ use Rattle.std.proofs.lemmas.List.{length-take-le, take-append-drop, take_at}
 use Rattle.std.proofs.Math.Logic.{∥∥₁_elim, ∥∥₁_map}
 use Rattle.words.specs.declared.command.Request.{Request}
 use Rattle.words.specs.declared.reply.Reply.{Reply}
-use Rattle.book.specs.Answers.{After, Runs}
-use Rattle.book.specs.Future.{Honours, HonoursAlways}
-use Rattle.book.specs.Good.{Good}
-use Rattle.book.specs.Ledger.{Ledger}
-use Rattle.book.specs.Rows.{Content, IsRowsOf}
-use Rattle.book.proofs.EqualRows.{told_by_rows}
-use Rattle.book.proofs.Runs.{runs_once}
+use Rattle.ledger.specs.Answers.{After, Runs}
+use Rattle.ledger.specs.Future.{Honours, HonoursAlways}
+use Rattle.ledger.specs.Good.{Good}
+use Rattle.ledger.specs.Ledger.{Ledger}
+use Rattle.ledger.specs.Rows.{Content, IsRowsOf}
+use Rattle.ledger.proofs.EqualRows.{told_by_rows}
+use Rattle.ledger.proofs.Runs.{runs_once}
 use Rattle.keep.specs.Content.{IsAmong}
 use Rattle.keep.specs.declared.keep.Keep.{Ghosts}
 use Rattle.desk.specs.Desk.{DeskView, IsStored, LeavesEither}

@@ -5,9 +5,9 @@ use Rattle.std.proofs.Math.Seq.{take-add}
 use Rattle.std.proofs.lemmas.List.{length-append, length-drop, length-take-le}
 use Rattle.words.specs.declared.command.Request.{Request}
 use Rattle.words.specs.declared.reply.Reply.{Reply}
-use Rattle.book.specs.Answers.{After, Runs}
-use Rattle.book.specs.Ledger.{Ledger}
-use Rattle.book.proofs.Runs.{runs_once}
+use Rattle.ledger.specs.Answers.{After, Runs}
+use Rattle.ledger.specs.Ledger.{Ledger}
+use Rattle.ledger.proofs.Runs.{runs_once}
 use Rattle.desk.specs.Headline.{IsFoundAfter, IsFoundAfterCuts, IsRunOf, all_lines, all_replies, answered}
 use Rattle.desk.specs.Replies.{request_line}
 use Rattle.desk.specs.Text.{RepliesAll, items_of}

@@ -8,12 +8,12 @@ use Rattle.words.specs.declared.command.Request.{Request}
 use Rattle.words.specs.declared.item.Item.{Item}
 use Rattle.words.specs.declared.item.Item.TheVariants as item
 use Rattle.words.specs.declared.reply.Reply.TheVariants.{Done}
-use Rattle.book.specs.Future.{Honours, HonoursAlways}
-use Rattle.book.specs.Good.{Good}
-use Rattle.book.specs.Ledger.{Ledger, places}
-use Rattle.book.specs.Next.{accept}
-use Rattle.book.specs.Rows.{Content, IsRowsOf}
-use Rattle.book.proofs.Runs.{accepted_answered}
+use Rattle.ledger.specs.Future.{Honours, HonoursAlways}
+use Rattle.ledger.specs.Good.{Good}
+use Rattle.ledger.specs.Ledger.{Ledger, places}
+use Rattle.ledger.specs.Next.{accept}
+use Rattle.ledger.specs.Rows.{Content, IsRowsOf}
+use Rattle.ledger.proofs.Runs.{accepted_answered}
 use Rattle.keep.specs.Content.{IsAmong}
 use Rattle.desk.specs.Desk.{DeskState, DeskView, IsStored}
 use Rattle.desk.specs.Headline.{IsFoundAfterItems, IsFoundAfterLines, LeavesRowsOf}

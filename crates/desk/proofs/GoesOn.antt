@@ -1,6 +1,6 @@
 -- How a desk goes on from call to call.
 use Rattle.std.proofs.Common.{◌∙◌, IsTrue, refl, subst, sym}
-use Rattle.book.specs.Good.{Good}
+use Rattle.ledger.specs.Good.{Good}
 use Rattle.keep.specs.declared.keep.Keep.{Ghosts}
 use Rattle.desk.specs.Desk.{DeskView, Goes, StaysStored}
 

@@ -12,10 +12,10 @@ use Rattle.words.specs.declared.reply.Refusal.{Refusal}
 use Rattle.words.specs.declared.reply.Refusal.TheVariants.{KeyReused}
 use Rattle.words.specs.declared.reply.Reply.{Reply}
 use Rattle.words.specs.declared.reply.Reply.TheVariants.{Done, Refused}
-use Rattle.book.specs.Answers.{After, Answers, AnswersNew, IsAccepted, Runs, same_command}
-use Rattle.book.specs.Good.{Good}
-use Rattle.book.proofs.Runs.{answered_if_good, runs_once}
-use Rattle.book.specs.Ledger.{Kept, Ledger, kept_under}
+use Rattle.ledger.specs.Answers.{After, Answers, AnswersNew, IsAccepted, Runs, same_command}
+use Rattle.ledger.specs.Good.{Good}
+use Rattle.ledger.proofs.Runs.{answered_if_good, runs_once}
+use Rattle.ledger.specs.Ledger.{Kept, Ledger, kept_under}
 use Rattle.desk.specs.Desk.{DeskState, HasAccepted, LeavesEither, TellsStop, snapshot}
 use Rattle.desk.specs.Headline.{answered}
 use Rattle.desk.specs.Lists.{IsCutInLists, RunsList, StopsIn, most_together}

@@ -8,12 +8,12 @@ use Rattle.words.specs.declared.command.Request.{Request}
 use Rattle.words.specs.declared.reply.Reply.{Reply}
 use Rattle.words.specs.declared.reply.Reply.TheVariants.{Done, Refused}
 use Rattle.words.specs.declared.reply.Refusal.TheVariants.{KeyReused}
-use Rattle.book.specs.Answers.{Answers, AnswersNew, Runs, same_command}
-use Rattle.book.specs.Ledger.{Kept, Ledger, kept_under, places}
-use Rattle.book.specs.Rows.{Content, IsRowsOf}
-use Rattle.book.specs.Good.{Good}
-use Rattle.book.proofs.EqualRows.{one_content, told_by_rows}
-use Rattle.book.proofs.Runs.{runs_once}
+use Rattle.ledger.specs.Answers.{Answers, AnswersNew, Runs, same_command}
+use Rattle.ledger.specs.Ledger.{Kept, Ledger, kept_under, places}
+use Rattle.ledger.specs.Rows.{Content, IsRowsOf}
+use Rattle.ledger.specs.Good.{Good}
+use Rattle.ledger.proofs.EqualRows.{one_content, told_by_rows}
+use Rattle.ledger.proofs.Runs.{runs_once}
 use Rattle.desk.specs.Resuming.{Resumes, ResumesAgain, ResumableAt}
 use Rattle.desk.specs.Together.{IsBatch, IsDone, ResumesWithin, ResumesWithinAgain, RunsInLists, ResumableWithin}
 use Rattle.desk.proofs.BatchesAgain.{done_again, runs_keep}

@@ -2,18 +2,18 @@
 use Rattle.std.proofs.Common.{◌≡◌, [], ◌∷◌, List, subst, sym}
 use Rattle.escrow.specs.Codes.{IsKey}
 use Rattle.words.specs.Spelling.{IsInRange}
-use Rattle.book.specs.Changes.{put_content}
-use Rattle.book.specs.Good.{Good}
-use Rattle.book.specs.Ledger.{Ledger}
-use Rattle.book.specs.Next.{accept}
+use Rattle.ledger.specs.Changes.{put_content}
+use Rattle.ledger.specs.Good.{Good}
+use Rattle.ledger.specs.Ledger.{Ledger}
+use Rattle.ledger.specs.Next.{accept}
 use Rattle.book.specs.Plans.{Fits, PlanView}
-use Rattle.book.specs.Rows.{Content, IsRowsOf}
-use Rattle.book.specs.Tables.{rows_among}
-use Rattle.book.specs.declared.rows.Change.{Change}
-use Rattle.keep.specs.Transactions.{with_changes}
-use Rattle.book.proofs.Goodness.{good_accept}
-use Rattle.book.proofs.EqualRows.{a_content}
-use Rattle.book.proofs.Runs.{no_key}
+use Rattle.ledger.specs.Rows.{Content, IsRowsOf}
+use Rattle.ledger.specs.Tables.{rows_among}
+use Rattle.ledger.specs.declared.rows.Change.{Change}
+use Rattle.keep.specs.Content.{with_changes}
+use Rattle.ledger.proofs.Goodness.{good_accept}
+use Rattle.ledger.proofs.EqualRows.{a_content}
+use Rattle.ledger.proofs.Runs.{no_key}
 use Rattle.desk.specs.Desk.{IsStored, LeavesEither}
 
 -- the ledger after the plan is good

@@ -3,11 +3,11 @@ use Rattle.std.proofs.Common.{◌≡◌, ◌∙◌, ℕ, pos, List, [], ◌∷�
 use Rattle.words.proofs.OneFeed.{feeds_one}
 use Rattle.words.specs.declared.item.Item.{Item}
 use Rattle.words.specs.declared.item.Item.TheVariants.{AskField, AskOrder, Bad, Request}
-use Rattle.book.specs.Ledger.{Field, Ledger, Name, Order, field_named, order_numbered, name_of}
+use Rattle.ledger.specs.Ledger.{Field, Ledger, Name, Order, field_named, order_numbered, name_of}
 use Rattle.book.specs.Views.{ShowsField}
 use Rattle.book.specs.declared.book.views.FieldView.{FieldView}
-use Rattle.book.proofs.Bounds.{inf_unique, sup_unique}
-use Rattle.book.proofs.Runs.{answered_once}
+use Rattle.ledger.proofs.Bounds.{inf_unique, sup_unique}
+use Rattle.ledger.proofs.Runs.{answered_once}
 use Rattle.desk.specs.Replies.{AnswersField, field_line, none_line, order_line, request_line}
 use Rattle.desk.specs.Text.{AreItems, IsText, Replies, RepliesAll, unended}
 

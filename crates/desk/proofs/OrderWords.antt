@@ -3,7 +3,7 @@ use Rattle.std.proofs.Common.{◌≡◌, ◌∙◌, ℕ, ◌+◌, ◌<◌, List,
 use Rattle.std.proofs.lemmas.List.{take_more}
 use Rattle.words.proofs.WordRows.{after_space-append}
 use Rattle.words.specs.Words.{after_space}
-use Rattle.book.specs.declared.order.Line.{Line}
+use Rattle.ledger.specs.declared.order.Line.{Line}
 use Rattle.desk.specs.Replies.{held_words}
 
 held_words-append : (xs ys : List Line) → held_words (xs ++ ys) ≡ held_words xs ++ held_words ys

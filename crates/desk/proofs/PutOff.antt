@@ -3,21 +3,20 @@ use Rattle.std.proofs.Common.{◌≡◌, ◌∙◌, List, [], ◌∷◌, ◌++�
 use Rattle.std.proofs.Math.Logic.{∥∥₁_elim}
 use Rattle.std.proofs.Props.{props}
 use Rattle.std.proofs.lemmas.List.Elements.{All-append}
-use Rattle.book.specs.Good.{Good}
-use Rattle.book.specs.Ledger.{Ledger}
-use Rattle.book.specs.Rows.{Content, DeskCells, FieldCells, FirmCells, IsRowsOf, KeptCells, LineCells, MoveCells, OrderCells}
-use Rattle.book.specs.Changes.{put_content}
-use Rattle.book.specs.Tables.{rows_among, with_change}
-use Rattle.book.specs.declared.rows.Change.{Change}
-use Rattle.book.specs.declared.rows.Change.TheVariants as change
-use Rattle.book.proofs.Puts.{put_in_turn}
-use Rattle.keep.specs.Content.{IsAmong, IsTheRow}
+use Rattle.ledger.specs.Good.{Good}
+use Rattle.ledger.specs.Ledger.{Ledger}
+use Rattle.ledger.specs.Rows.{Content, DeskCells, FieldCells, FirmCells, IsRowsOf, KeptCells, LineCells, MoveCells, OrderCells}
+use Rattle.ledger.specs.Changes.{put_content}
+use Rattle.ledger.specs.Tables.{rows_among, with_change}
+use Rattle.ledger.specs.declared.rows.Change.{Change}
+use Rattle.ledger.specs.declared.rows.Change.TheVariants as change
+use Rattle.ledger.proofs.Puts.{put_in_turn}
+use Rattle.keep.specs.Content.{IsAmong, IsTheRow, with_changes}
 use Rattle.keep.specs.declared.keep.Keep.{Ghosts}
 use Rattle.std.specs.List.{AllZip}
 use Rattle.desk.specs.Deferred.{IsSameRow, PutsOff, PutsOffOneOf}
 use Rattle.desk.specs.Desk.{IsStored, LeavesEither}
 use Rattle.std.specs.Prelude.{OnErr, OnOk}
-use Rattle.keep.specs.Transactions.{with_changes}
 use Rattle.desk.proofs.Batches.{desk_joined}
 
 -- a row of the same cells goes in alike

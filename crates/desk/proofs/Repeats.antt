@@ -9,9 +9,9 @@ use Rattle.words.specs.declared.command.Request.{Request}
 use Rattle.words.specs.declared.reply.Refusal.TheVariants.{KeyReused}
 use Rattle.words.specs.declared.reply.Reply.{Reply}
 use Rattle.words.specs.declared.reply.Reply.TheVariants.{Done, Refused}
-use Rattle.book.specs.Answers.{Answers, AnswersNew, same_command}
-use Rattle.book.specs.Ledger.{Kept, Ledger, insert_in_order, kept_under, places}
-use Rattle.book.specs.Next.{accept}
+use Rattle.ledger.specs.Answers.{Answers, AnswersNew, same_command}
+use Rattle.ledger.specs.Ledger.{Kept, Ledger, insert_in_order, kept_under, places}
+use Rattle.ledger.specs.Next.{accept}
 
 -- what is found of one that is put in, where nothing was
 found_in : {X : Type 0} (p : X → Bool) (before : X → X → Bool) (x : X) (xs : List X) → p x ≡ true → find p xs ≡ None → find p (insert_in_order before x xs) ≡ Some x

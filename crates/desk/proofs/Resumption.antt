@@ -8,12 +8,12 @@ use Rattle.escrow.specs.Codes.{IsKey}
 use Rattle.words.specs.Spelling.{IsInRange}
 use Rattle.words.specs.declared.command.Request.{Request}
 use Rattle.words.specs.declared.reply.Reply.{Reply}
-use Rattle.book.specs.Answers.{After, Answers, Runs}
-use Rattle.book.specs.Good.{Good}
-use Rattle.book.specs.Ledger.{Ledger}
-use Rattle.book.specs.Rows.{Content, IsRowsOf}
-use Rattle.book.proofs.Runs.{answered_once, runs_once, runs_stay_good}
-use Rattle.book.proofs.EqualRows.{told_by_rows}
+use Rattle.ledger.specs.Answers.{After, Answers, Runs}
+use Rattle.ledger.specs.Good.{Good}
+use Rattle.ledger.specs.Ledger.{Ledger}
+use Rattle.ledger.specs.Rows.{Content, IsRowsOf}
+use Rattle.ledger.proofs.Runs.{answered_once, runs_once, runs_stay_good}
+use Rattle.ledger.proofs.EqualRows.{told_by_rows}
 use Rattle.desk.specs.Desk.{LeavesEither}
 use Rattle.desk.specs.Resuming.{LeavesResumable, Resumes, ResumesAgain, ResumableAt}
 use Rattle.desk.proofs.Repeats.{repeated}

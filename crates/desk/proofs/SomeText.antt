@@ -10,16 +10,16 @@ use Rattle.words.specs.Stream.{Ends, EndsOverlong, Feeds}
 use Rattle.words.specs.Words.{parts_at}
 use Rattle.words.specs.declared.item.Item.{Item}
 use Rattle.words.specs.declared.item.Item.TheVariants.{AskField, AskOrder, Bad, Request}
-use Rattle.book.specs.Good.{Good}
-use Rattle.book.specs.Ledger.{Field, Ledger, Order, field_named, order_numbered, same_name, name_of}
+use Rattle.ledger.specs.Good.{Good}
+use Rattle.ledger.specs.Ledger.{Field, Ledger, Order, field_named, order_numbered, same_name, name_of}
 use Rattle.book.specs.Views.{ShowsField}
 use Rattle.book.specs.declared.book.views.FieldView.{FieldView}
-use Rattle.book.specs.Held.{held_to_add, held_to_take}
-use Rattle.book.specs.Outcomes.{settled}
-use Rattle.book.proofs.Bounds.{inf_is, sup_is}
-use Rattle.book.proofs.Futures.{sounds_from_good}
-use Rattle.book.proofs.Goodness.{good_answer}
-use Rattle.book.proofs.Runs.{answered_if_good}
+use Rattle.ledger.specs.Held.{held_to_add, held_to_take}
+use Rattle.ledger.specs.Outcomes.{settled}
+use Rattle.ledger.proofs.Bounds.{inf_is, sup_is}
+use Rattle.ledger.proofs.Falls.{sounds_from_good}
+use Rattle.ledger.proofs.Goodness.{good_answer}
+use Rattle.ledger.proofs.Runs.{answered_if_good}
 use Rattle.book.proofs.ShownNumbers.{Contains-of_find, levels_of}
 use Rattle.desk.specs.Replies.{AnswersField, bad_line, field_line, none_line, order_line, request_line}
 use Rattle.desk.specs.Text.{AreItems, IsText, Replies, RepliesAll, unended}

@@ -1,7 +1,7 @@
 -- Replies to items, and then to more.
 use Rattle.std.proofs.Common.{◌∙◌, ℕ, List, [], ◌∷◌, ◌++◌, ap, append-nil, append_assoc, refl, sym, subst}
 use Rattle.words.specs.declared.item.Item.{Item}
-use Rattle.book.specs.Ledger.{Ledger}
+use Rattle.ledger.specs.Ledger.{Ledger}
 use Rattle.desk.specs.Text.{Replies, RepliesAll}
 
 -- the replies to some items, and then to more

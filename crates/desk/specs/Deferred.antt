@@ -3,19 +3,18 @@ use Rattle.std.specs.Prelude.{◌≡◌, ◌+◌, ◌≤◌, Bool, List, [], ◌
 use Rattle.std.specs.Global.{Global}
 use Rattle.std.specs.List.{AllZip}
 use Rattle.std.specs.Vec.{vec_capacity, vec_len}
-use Rattle.book.specs.Rows.{Content}
-use Rattle.book.specs.Tables.{desk_cells, field_cells, firm_cells, kept_cells, line_cells, move_cells, order_cells}
-use Rattle.book.specs.declared.rows.Change.{Change}
-use Rattle.book.specs.declared.rows.Change.TheVariants as change
-use Rattle.book.specs.declared.rows.DeskRow.{DeskRow}
-use Rattle.book.specs.declared.rows.FieldRow.{FieldRow}
-use Rattle.book.specs.declared.rows.FirmRow.{FirmRow}
-use Rattle.book.specs.declared.rows.KeptRow.{KeptRow}
-use Rattle.book.specs.declared.rows.LineRow.{LineRow}
-use Rattle.book.specs.declared.rows.MoveRow.{MoveRow}
-use Rattle.book.specs.declared.rows.OrderRow.{OrderRow}
-use Rattle.keep.specs.Content.{IsAmong}
-use Rattle.keep.specs.Transactions.{with_changes}
+use Rattle.ledger.specs.Rows.{Content}
+use Rattle.ledger.specs.Tables.{desk_cells, field_cells, firm_cells, kept_cells, line_cells, move_cells, order_cells}
+use Rattle.ledger.specs.declared.rows.Change.{Change}
+use Rattle.ledger.specs.declared.rows.Change.TheVariants as change
+use Rattle.ledger.specs.declared.rows.DeskRow.{DeskRow}
+use Rattle.ledger.specs.declared.rows.FieldRow.{FieldRow}
+use Rattle.ledger.specs.declared.rows.FirmRow.{FirmRow}
+use Rattle.ledger.specs.declared.rows.KeptRow.{KeptRow}
+use Rattle.ledger.specs.declared.rows.LineRow.{LineRow}
+use Rattle.ledger.specs.declared.rows.MoveRow.{MoveRow}
+use Rattle.ledger.specs.declared.rows.OrderRow.{OrderRow}
+use Rattle.keep.specs.Content.{IsAmong, with_changes}
 use Rattle.keep.specs.declared.keep.Keep.{Ghosts}
 use Rattle.desk.specs.Desk.{DeskView, Snapshot}
 

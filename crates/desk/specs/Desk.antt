@@ -1,11 +1,11 @@
 -- A desk as it is seen, and what its keeper holds for it.
 use Rattle.std.specs.Prelude.{◌≡◌, ◌⊎◌, Bool, IsTrue, false, List, [], ◌∷◌}
 use Rattle.words.specs.declared.command.Request.{Request}
-use Rattle.book.specs.Answers.{IsAccepted}
-use Rattle.book.specs.Good.{Good}
-use Rattle.book.specs.Ledger.{Ledger}
-use Rattle.book.specs.Next.{accept}
-use Rattle.book.specs.Rows.{Content, IsRowsOf}
+use Rattle.ledger.specs.Answers.{IsAccepted}
+use Rattle.ledger.specs.Good.{Good}
+use Rattle.ledger.specs.Ledger.{Ledger}
+use Rattle.ledger.specs.Next.{accept}
+use Rattle.ledger.specs.Rows.{Content, IsRowsOf}
 use Rattle.keep.specs.declared.keep.Keep.{Ghosts}
 
 -- a desk as it is seen: its ledger, and the keeper of its rows

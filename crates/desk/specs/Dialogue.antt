@@ -4,8 +4,8 @@ use Rattle.std.specs.Prelude.{◌≡◌, ◌≢◌, ◌⊎◌, ◌≤◌, ◌-�
 use Rattle.std.specs.Io.KnownBytes.{Appends, Consumes, IsAtEnd}
 use Rattle.std.specs.List.{AllByRecursion as Each}
 use Rattle.words.specs.declared.command.Request.{Request}
-use Rattle.book.specs.Answers.{IsAccepted}
-use Rattle.book.specs.Next.{accept}
+use Rattle.ledger.specs.Answers.{IsAccepted}
+use Rattle.ledger.specs.Next.{accept}
 use Rattle.desk.specs.Desk.{DeskState, LeavesEither, Snapshot, StopsCall, snapshot}
 use Rattle.desk.specs.Streams.{Streams}
 use Rattle.desk.specs.declared.answer.Answer.{Answer as Text}

@@ -5,7 +5,7 @@ use Rattle.std.specs.Vec.{vec_capacity, vec_len}
 use Rattle.std.specs.declared.num.NonZeroUsize.{NonZeroUsize}
 use Rattle.words.specs.declared.command.Request.{Request}
 use Rattle.words.specs.declared.reply.Reply.{Reply}
-use Rattle.book.specs.Ledger.{Ledger}
+use Rattle.ledger.specs.Ledger.{Ledger}
 use Rattle.desk.specs.Desk.{DeskState, HasAccepted, LeavesEither, TellsStop}
 use Rattle.desk.specs.Headline.{answered}
 use Rattle.desk.specs.Text.{RepliesAll, items_of}

@@ -1,9 +1,9 @@
 -- What an opening of a desk makes of what a keeper holds.
 use Rattle.std.specs.Prelude.{◌≡◌, ◌⊎◌, IsTrue, false, Result, Ok, Err}
-use Rattle.book.specs.Future.{Honours, HonoursAlways}
-use Rattle.book.specs.Good.{Good}
-use Rattle.book.specs.Ledger.{Ledger}
-use Rattle.book.specs.Rows.{Content, IsDamaged, IsRowsOf}
+use Rattle.ledger.specs.Future.{Honours, HonoursAlways}
+use Rattle.ledger.specs.Good.{Good}
+use Rattle.ledger.specs.Ledger.{Ledger}
+use Rattle.ledger.specs.Rows.{Content, IsDamaged, IsRowsOf}
 use Rattle.keep.specs.Content.{IsDesk}
 use Rattle.keep.specs.Keeping.{AddsNothing}
 use Rattle.keep.specs.declared.keep.Keep.{Ghosts}
@@ -34,7 +34,7 @@ pub record IsUnopened {K : Type 0} (g : Ghosts K) (keep : K) (fault : OpenFault)
 -- what a stop may leave, of whatever version that is.
 pub record IsLeft {K : Type 0} (g : Ghosts K) (old new : K) : Type 0 where
   pub same : g.stopped new ≡ false → (x : Content) → (g.holds old x → g.holds new x) × (g.holds new x → g.holds old x)
-  pub adds : AddsNothing g.leaves g.may_leave g.may_leave_trees old new
+  pub adds : AddsNothing g.leaves g.may_leave g.may_remain old new
 
 -- opened at that ledger, or refused for memory or by the store, and nothing else
 abbrev pub OpensAt : {K : Type 0} → Ledger → Result (DeskView K) (OpenFault × K) → Type 0

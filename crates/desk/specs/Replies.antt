@@ -5,14 +5,14 @@ use Rattle.words.specs.Replies.{reply_text}
 use Rattle.words.specs.Words.{after_space}
 use Rattle.words.specs.declared.reply.Reply.{Reply}
 use Rattle.words.specs.declared.reply.Reply.TheVariants.{Done, Refused}
-use Rattle.book.specs.Ledger.{Field, Ledger, Order, field_named, order_numbered, name_of, shown_state}
+use Rattle.ledger.specs.Ledger.{Field, Ledger, Order, field_named, order_numbered, name_of, shown_state}
 use Rattle.book.specs.Views.{ShowsField}
 use Rattle.book.specs.declared.book.views.FieldView.{FieldView}
-use Rattle.book.specs.declared.order.Kind.{Kind}
-use Rattle.book.specs.declared.order.Kind.TheVariants.{Plain, Transfer}
-use Rattle.book.specs.declared.order.Line.{Line}
-use Rattle.book.specs.declared.order.Standing.{Standing}
-use Rattle.book.specs.declared.order.Standing.TheVariants.{Aborted, Committed, Firm, Open}
+use Rattle.ledger.specs.declared.order.Kind.{Kind}
+use Rattle.ledger.specs.declared.order.Kind.TheVariants.{Plain, Transfer}
+use Rattle.ledger.specs.declared.order.Line.{Line}
+use Rattle.ledger.specs.declared.order.Standing.{Standing}
+use Rattle.ledger.specs.declared.order.Standing.TheVariants.{Aborted, Committed, Firm, Open}
 
 -- a line that is bad
 abbrev pub bad_line : List ℕ

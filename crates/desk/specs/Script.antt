@@ -5,7 +5,7 @@ use Rattle.std.specs.List.{AllByRecursion as Each}
 use Rattle.words.specs.Stream.{Feeds}
 use Rattle.words.specs.declared.item.Item.{Item}
 use Rattle.words.specs.declared.item.Item.TheVariants as item
-use Rattle.book.specs.Ledger.{Ledger}
+use Rattle.ledger.specs.Ledger.{Ledger}
 use Rattle.desk.specs.Desk.{DeskState, Snapshot, snapshot}
 use Rattle.desk.specs.Dialogue.{AnswerKind, Language, no_memory, ordinary, stopping}
 use Rattle.desk.specs.Streams.{Streams}

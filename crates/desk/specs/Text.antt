@@ -5,8 +5,8 @@ use Rattle.words.specs.declared.command.Request.{Request as RequestOf}
 use Rattle.words.specs.declared.item.Item.{Item}
 use Rattle.words.specs.declared.item.Item.TheVariants.{AskField, AskOrder, Bad, Request}
 use Rattle.words.specs.declared.reply.Reply.{Reply}
-use Rattle.book.specs.Answers.{Answers}
-use Rattle.book.specs.Ledger.{Ledger}
+use Rattle.ledger.specs.Answers.{Answers}
+use Rattle.ledger.specs.Ledger.{Ledger}
 use Rattle.desk.specs.Replies.{AnswersFieldAsk, AnswersOrderAsk, bad_line, request_line}
 
 -- the line that is written for an item, and the ledger after it

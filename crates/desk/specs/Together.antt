@@ -4,14 +4,13 @@ use Rattle.std.specs.List.{AllByRecursion as Each}
 use Rattle.words.specs.declared.command.Request.{Request}
 use Rattle.words.specs.declared.reply.Reply.{Reply}
 use Rattle.words.specs.declared.reply.Reply.TheVariants.{Done}
-use Rattle.book.specs.Answers.{After, Answers, IsAccepted, Runs}
-use Rattle.book.specs.Good.{Good}
-use Rattle.book.specs.Ledger.{Ledger}
-use Rattle.book.specs.Rows.{Content, IsRowsOf}
-use Rattle.book.specs.declared.rows.Change.{Change}
-use Rattle.book.specs.Tables.{rows_among}
-use Rattle.keep.specs.Content.{IsTheRow}
-use Rattle.keep.specs.Transactions.{with_changes}
+use Rattle.ledger.specs.Answers.{After, Answers, IsAccepted, Runs}
+use Rattle.ledger.specs.Good.{Good}
+use Rattle.ledger.specs.Ledger.{Ledger}
+use Rattle.ledger.specs.Rows.{Content, IsRowsOf}
+use Rattle.ledger.specs.declared.rows.Change.{Change}
+use Rattle.ledger.specs.Tables.{rows_among}
+use Rattle.keep.specs.Content.{IsTheRow, with_changes}
 use Rattle.desk.specs.Desk.{DeskState, HasAccepted, LeavesEither}
 use Rattle.desk.specs.Replies.{request_line}
 use Rattle.desk.specs.Text.{RepliesAll, items_of}

@@ -2,15 +2,14 @@
 
 ghost use Rattle.std.specs.Prelude.{◌≡◌, All, IfOk, OnErr, OnOk};
 ghost use Rattle.std.specs.List.{AllZip};
-ghost use Rattle.book.specs.Tables.{field_cells, kept_cells, line_cells, move_cells, rows_among};
-ghost use Rattle.book.specs.Rows.{Content};
-ghost use Rattle.keep.specs.Content.{IsTheRow};
-ghost use Rattle.keep.specs.Transactions.{with_changes};
+ghost use Rattle.ledger.specs.Tables.{field_cells, kept_cells, line_cells, move_cells, rows_among};
+ghost use Rattle.ledger.specs.Rows.{Content};
+ghost use Rattle.keep.specs.Content.{IsTheRow, with_changes};
 ghost use Rattle.desk.specs.Deferred.{IsReady, IsSameRow};
 
 use crate::run::append;
 use crate::same::are_same;
-use book::{Change, FieldRow, KeptRow, LineRow, MoveRow};
+use ledger::{Change, FieldRow, KeptRow, LineRow, MoveRow};
 use std::alloc::{AllocError, Global};
 
 fn copy_field(alloc: Global, row: &FieldRow) -> Result<FieldRow, AllocError>

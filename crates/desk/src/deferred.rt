@@ -1,8 +1,8 @@
 //! A keeper that puts commits off, so that many of them are one transaction.
 
 use crate::copies::{make_ready, put_off};
-use book::{Change, Tables};
 use keep::{Keep, KeepFault};
+use ledger::{Change, Tables};
 use std::alloc::{AllocError, Global};
 use std::marker::Model;
 use std::mem;
@@ -21,7 +21,7 @@ pub struct Deferred<K: Keep> {
 
 impl<K: Keep> Model for Deferred<K> {
     ghost use Rattle.std.specs.Prelude.{◌≡◌, All, false};
-    ghost use Rattle.book.specs.Tables.{rows_among};
+    ghost use Rattle.ledger.specs.Tables.{rows_among};
     ghost use Rattle.keep.specs.Content.{IsTheRow};
     ghost use Rattle.desk.specs.Deferred.{DeferredView};
 
@@ -35,9 +35,9 @@ impl<K: Keep> Model for Deferred<K> {
 
 impl<K: Keep> Deferred<K> {
     ghost use Rattle.std.specs.Prelude.{◌≡◌, ◌≢◌, ◌∷◌, [], false, length, IsTrue, OnErr, OnOk};
-    ghost use Rattle.book.specs.Rows.{Content};
+    ghost use Rattle.ledger.specs.Rows.{Content};
     ghost use Rattle.desk.specs.Deferred.{PutsOff};
-    ghost use Rattle.keep.specs.Transactions.{with_changes};
+    ghost use Rattle.keep.specs.Content.{with_changes};
 
     /// Puts off what is committed to the keeper. Takes no memory.
     pub(crate) fn over(alloc: Global, keep: K) -> Deferred<K>
@@ -138,13 +138,11 @@ impl<K: Keep> Deferred<K> {
 }
 
 impl<K: Keep> Keep for Deferred<K> {
-    ghost use Rattle.std.specs.Prelude.{◌≡◌};
+    ghost use Rattle.std.specs.Prelude.{◌≡◌, ⊤};
     ghost use Rattle.desk.specs.Deferred.{HasTablesOff, PutsOff, PutsOffOneOf};
-    ghost use Rattle.book.specs.Rows.{Content};
-    ghost use Rattle.std.proofs.Common.{◌∙◌};
-    ghost use Rattle.keep.specs.Content.{IsContent};
-    ghost use Rattle.keep.specs.OneContent.{only_content};
-    ghost use Rattle.keep.specs.Description.{desk_schema};
+    ghost use Rattle.ledger.specs.Rows.{Content};
+    ghost use Rattle.std.proofs.Common.{◌∙◌, subst, sym};
+    ghost use Rattle.keep.specs.Content.{newest};
 
     ghost is_honest = { λ d. K.is_honest d.keep };
 
@@ -160,18 +158,24 @@ impl<K: Keep> Keep for Deferred<K> {
 
     ghost may_leave = { λ d. PutsOff K.Keep d.keep d.changes };
 
-    // trees with a content that it may leave
-    ghost may_leave_trees = { λ d trees. (x : Content) × PutsOff K.Keep d.keep d.changes x × IsContent trees x };
+    // a content that it may leave
+    ghost Remains = { Content };
+
+    ghost has_content = { λ remains x. remains ≡ x };
+
+    ghost may_remain = { λ d. PutsOff K.Keep d.keep d.changes };
 
     ghost stopped = { λ d. d.stopped };
 
     // the keeper behind it is untouched
     ghost same_settings = { λ old new. new.keep ≡ old.keep };
 
-    // of another schema it is known when it is settled
-    ghost schema = { λ _. desk_schema };
+    // of another layout it is known when it is settled
+    ghost has_names = { λ _. ⊤ };
 
-    // no store of another schema is told
+    ghost has_layout = { λ _ version. version ≡ newest };
+
+    // no store of another layout is told
     ghost when_stopped = { λ d. d };
 
     fn is_stopped(&self) -> bool {
@@ -217,14 +221,17 @@ impl<K: Keep> Keep for Deferred<K> {
       among = λ x may. more x (only.among x may);
     } };
 
-    ghost of_trees = { λ d trees x left has. record {
-      base = left.1.base;
-      held = left.1.held;
-      alone = left.1.alone;
-      with_them = only_content trees left.0 x left.2 has ∙ left.1.with_them;
-    } };
+    ghost one_content = { λ remains x y one other. sym other ∙ one };
+
+    ghost of_remains = { λ d remains x may is. subst (PutsOff K.Keep d.keep d.changes) is may };
+
+    ghost one_layout = { λ d v w old also is other. is ∙ sym other };
+
+    ghost layout_has_names = { λ _ _ _ _ _. tt };
 
     ghost among = { λ d these x only may. only.among x may };
+
+    ghost some_remains = { λ d these honest only. ∣ (only.some, only.put_off) ∣₁ };
 
     ghost some_content = { λ d these honest only. ∣ (only.some, only.put_off) ∣₁ };
 }

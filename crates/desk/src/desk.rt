@@ -3,13 +3,13 @@
 ghost use Rattle.std.specs.Prelude.{◌≡◌, ◌≢◌, ◌*◌, ◌<◌, ◌≤◌, ◌⊎◌, [], false, length, take, IsTrue, IfOk, IfErr, IsSomeAnd, MatchOption, OnErr, OnOk, Err};
 ghost use Rattle.escrow.specs.Codes.{IsKey};
 ghost use Rattle.words.specs.Spelling.{IsInRange};
-ghost use Rattle.book.specs.Answers.{Answers, IsAccepted};
-ghost use Rattle.book.specs.Good.{Good};
-ghost use Rattle.book.specs.Ledger.{Ledger, field_named, name_of, order_numbered};
-ghost use Rattle.book.specs.Next.{accept};
+ghost use Rattle.ledger.specs.Answers.{Answers, IsAccepted};
+ghost use Rattle.ledger.specs.Good.{Good};
+ghost use Rattle.ledger.specs.Ledger.{Ledger, field_named, name_of, order_numbered};
+ghost use Rattle.ledger.specs.Next.{accept};
 ghost use Rattle.words.specs.declared.reply.Reply.{Reply as ReplyOf};
 ghost use Rattle.book.specs.Plans.{Fits};
-ghost use Rattle.book.specs.Rows.{Content, IsRowsOf};
+ghost use Rattle.ledger.specs.Rows.{Content, IsRowsOf};
 ghost use Rattle.book.specs.Views.{ShowsField, ShowsOrder};
 ghost use Rattle.desk.specs.Text.{RepliesAll, items_of};
 ghost use Rattle.desk.specs.Headline.{answered};

@@ -4,11 +4,11 @@
 ghost use Rattle.std.specs.Prelude.{◌≡◌, ◌≢◌, ◌⊎◌, ◌↔◌, ◌≤◌, ◌+◌, ◌-◌, ◌++◌, ◌∷◌, [], false, Err, Ok, List, drop, length, take, IfErr, IfOk, IfSome, IsTrue, OnOk};
 ghost use Rattle.words.specs.declared.command.Request.{Request as RequestOf};
 ghost use Rattle.words.specs.declared.reply.Reply.{Reply as ReplyOf};
-ghost use Rattle.book.specs.Answers.{Runs};
-ghost use Rattle.book.specs.Future.{Honours, HonoursAlways};
-ghost use Rattle.book.specs.Good.{Good};
-ghost use Rattle.book.specs.Ledger.{Ledger};
-ghost use Rattle.book.specs.Rows.{Content, IsRowsOf};
+ghost use Rattle.ledger.specs.Answers.{Runs};
+ghost use Rattle.ledger.specs.Future.{Honours, HonoursAlways};
+ghost use Rattle.ledger.specs.Good.{Good};
+ghost use Rattle.ledger.specs.Ledger.{Ledger};
+ghost use Rattle.ledger.specs.Rows.{Content, IsRowsOf};
 ghost use Rattle.desk.specs.Desk.{DeskView, Goes, desk_state};
 ghost use Rattle.desk.specs.Headline.{GoesOnWith, IsCutOff, IsFoundAfter, IsFoundAfterCuts, IsFoundAfterLines, IsRunOf, LeavesOneOf, LeavesRowsOf, TellsEnding, all_lines, all_replies, answered};
 ghost use Rattle.desk.specs.Opening.{IsUnopened, keeper_after};

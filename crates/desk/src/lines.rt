@@ -3,13 +3,14 @@
 ghost use Rattle.std.specs.Prelude.{◌≡◌, ◌++◌, ◌∷◌, [], IfOk, OnOk, decimal};
 ghost use Rattle.words.specs.Words.{after_space};
 ghost use Rattle.book.specs.Model.{order_of};
-ghost use Rattle.book.specs.Ledger.{Order};
+ghost use Rattle.ledger.specs.Ledger.{Order};
 ghost use Rattle.desk.specs.Replies.{field_line, held_words, kind_word, number_words, shown_line, state_word};
 ghost use Rattle.words.specs.OpenLines.{way_word};
 
-use book::{FieldView, Kind, Line, OrderView, Standing};
+use book::{FieldView, OrderView};
 use escrow::{Level, Way};
 use itoa::Buffer;
+use ledger::{Kind, Line, Standing};
 use std::alloc::Global;
 use words::Memory;
 

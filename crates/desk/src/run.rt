@@ -2,8 +2,8 @@
 
 ghost use Rattle.std.specs.Prelude.{◌≡◌, ◌≢◌, ◌↔◌, ◌+◌, ◌-◌, ◌*◌, ◌≤◌, ◌++◌, ◌∷◌, [], ℕ, List, drop, false, length, take, IsTrue, OnOk};
 ghost use Rattle.std.specs.Vec.{vec_capacity, vec_len};
-ghost use Rattle.book.specs.Answers.{After, Runs};
-ghost use Rattle.book.specs.Ledger.{Ledger};
+ghost use Rattle.ledger.specs.Answers.{After, Runs};
+ghost use Rattle.ledger.specs.Ledger.{Ledger};
 ghost use Rattle.desk.specs.Desk.{Goes, HasAccepted, LeavesEither, TellsStop, desk_state};
 ghost use Rattle.desk.specs.Lists.{HasRoom};
 ghost use Rattle.desk.specs.Resuming.{LeavesResumable, Resumes, ResumableAt};

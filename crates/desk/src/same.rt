@@ -1,11 +1,11 @@
 //! Whether changes are the same.
 
 ghost use Rattle.std.specs.Prelude.{◌≡◌, ◌↔◌, IsTrue};
-ghost use Rattle.book.specs.Tables.{desk_cells, field_cells, firm_cells, kept_cells, line_cells, move_cells, order_cells};
+ghost use Rattle.ledger.specs.Tables.{desk_cells, field_cells, firm_cells, kept_cells, line_cells, move_cells, order_cells};
 ghost use Rattle.std.specs.List.{AllZip};
 ghost use Rattle.desk.specs.Deferred.{IsSameRow};
 
-use book::{Change, DeskRow, FieldRow, FirmRow, KeptRow, LineRow, MoveRow, OrderRow};
+use ledger::{Change, DeskRow, FieldRow, FirmRow, KeptRow, LineRow, MoveRow, OrderRow};
 
 fn same_desk(a: &DeskRow, b: &DeskRow) -> bool
     ensures { IsTrue result ↔ desk_cells a.now ≡ desk_cells b.now }

@@ -3,9 +3,9 @@
 ghost use Rattle.std.specs.Prelude.{◌≡◌, ◌≢◌, ◌↔◌, ◌+◌, ◌<◌, ◌≤◌, ◌++◌, ◌∷◌, [], false, IsTrue, OnErr, OnOk, length, take};
 ghost use Rattle.escrow.specs.Codes.{IsKey};
 ghost use Rattle.words.specs.Spelling.{IsInRange};
-ghost use Rattle.book.specs.Answers.{Runs};
-ghost use Rattle.book.specs.Good.{Good};
-ghost use Rattle.book.specs.Ledger.{Ledger};
+ghost use Rattle.ledger.specs.Answers.{Runs};
+ghost use Rattle.ledger.specs.Good.{Good};
+ghost use Rattle.ledger.specs.Ledger.{Ledger};
 ghost use Rattle.book.specs.Plans.{Fits};
 ghost use Rattle.desk.specs.Desk.{Goes, TellsStop, desk_state};
 ghost use Rattle.desk.specs.Headline.{answered};
@@ -18,9 +18,10 @@ use crate::desk::Desk;
 use crate::reply::line_of_reply;
 use crate::run::{Ending, Run, append};
 use crate::telling::Answered;
-use book::{Book, Change, Plan, Planned};
+use book::{Book, Plan, Planned};
 use escrow::Key;
 use keep::Keep;
+use ledger::Change;
 use std::alloc::Global;
 use words::{Memory, Reply, Request};
 

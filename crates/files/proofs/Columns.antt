@@ -7,14 +7,14 @@ use Rattle.std.proofs.lemmas.List.{length-replicate}
 use Rattle.std.proofs.lemmas.List.Sums.{sum_by-cons}
 use Rattle.std.proofs.lemmas.List.Elements.{All-contains, All-contains_itself, All-filter, All-from_recursion, recursion_from_All}
 use Rattle.escrow.specs.Ranges.{IsLevel}
-use Rattle.book.specs.Good.{Good, IsGoodField}
-use Rattle.book.specs.Held.{held_to_add, held_to_take}
-use Rattle.book.specs.Ledger.{Field, Ledger, Name}
-use Rattle.book.specs.Outcomes.{settled}
+use Rattle.ledger.specs.Good.{Good, IsGoodField}
+use Rattle.ledger.specs.Held.{held_to_add, held_to_take}
+use Rattle.ledger.specs.Ledger.{Field, Ledger, Name}
+use Rattle.ledger.specs.Outcomes.{settled}
 use Rattle.book.specs.Views.{ShowsField}
 use Rattle.book.specs.declared.book.views.FieldView.{FieldView}
-use Rattle.book.proofs.Bounds.{inf_is, inf_unique, sup_is, sup_unique}
-use Rattle.book.proofs.Futures.{sounds_from_good}
+use Rattle.ledger.proofs.Bounds.{inf_is, inf_unique, sup_is, sup_unique}
+use Rattle.ledger.proofs.Falls.{sounds_from_good}
 use Rattle.book.proofs.ShownNumbers.{levels_of}
 use Rattle.files.specs.Sheets.{IsSheet, field_line, left, level_column, right, sheet_text, total_line}
 

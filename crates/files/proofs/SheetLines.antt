@@ -3,7 +3,7 @@ use Rattle.std.proofs.Common.{◌≡◌, ◌∙◌, ◌+◌, ◌<◌, Bool, true
 use Rattle.std.specs.List.{AllZip}
 use Rattle.std.proofs.lemmas.List.{take_all, take-replicate}
 use Rattle.std.proofs.Common.{◌≤◌, ◌-◌, OnOk, Result, Ok, Err, arith, replicate}
-use Rattle.book.specs.Ledger.{Ledger, name_of}
+use Rattle.ledger.specs.Ledger.{Ledger, name_of}
 use Rattle.book.specs.Views.{ShowsField}
 use Rattle.book.specs.declared.book.views.FieldView.{FieldView}
 use Rattle.files.specs.Sheets.{IsSheet, field_line, is_on, title_of, total_line}

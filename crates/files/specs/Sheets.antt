@@ -2,7 +2,7 @@
 use Rattle.std.specs.Prelude.{◌≡◌, ◌-◌, Bool, ℕ, List, ◌++◌, codes, decimal, filter, flat_map, length, replicate, sum_by}
 use Rattle.std.specs.List.{AllZip}
 use Rattle.std.specs.Str.{bytes_eq}
-use Rattle.book.specs.Ledger.{Ledger, Name}
+use Rattle.ledger.specs.Ledger.{Ledger, Name}
 use Rattle.book.specs.Views.{ShowsField}
 use Rattle.book.specs.declared.book.views.FieldView.{FieldView}
 use Rattle.files.specs.declared.sheet.Shown.{Shown}

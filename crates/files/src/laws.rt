@@ -2,8 +2,8 @@
 
 ghost use Rattle.std.specs.Prelude.{◌≡◌, ◌+◌, ◌*◌, ℕ, List, filter, length};
 ghost use Rattle.std.specs.Str.{bytes_eq};
-ghost use Rattle.book.specs.Good.{Good};
-ghost use Rattle.book.specs.Ledger.{Ledger};
+ghost use Rattle.ledger.specs.Good.{Good};
+ghost use Rattle.ledger.specs.Ledger.{Ledger};
 ghost use Rattle.files.specs.Bounds.{SayBounds, bounds_header};
 ghost use Rattle.files.specs.Deliveries.{SayDeliveries, delivery_header};
 ghost use Rattle.files.specs.Files.{SaysOneThing};

@@ -2,7 +2,7 @@
 
 ghost use Rattle.std.specs.Prelude.{◌≡◌, ◌≤◌, ◌-◌, ◌++◌, [], List, ℕ, false, true, Err, IfOk, MatchOption, OnOk, codes, decimal, length, replicate, take};
 ghost use Rattle.std.specs.Io.KnownBytes.{Appends};
-ghost use Rattle.book.specs.Ledger.{name_of};
+ghost use Rattle.ledger.specs.Ledger.{name_of};
 ghost use Rattle.files.specs.Sheets.{IsArticleSheet, IsBranchSheet, IsSheet, field_line, is_on, left, level_column, right, title_of, total_line};
 
 use crate::fault::SheetFault;

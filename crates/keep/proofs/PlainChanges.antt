@@ -3,16 +3,16 @@ use Rattle.std.proofs.Common.{◌≡◌, ◌∙◌, List, [], ◌∷◌, All, ap
 use Rattle.std.proofs.lemmas.List.Elements.{All-cons, All-head, All-nil, All-tail}
 use Rattle.std.specs.List.{AllZip}
 use Rattle.std.specs.List.Sorted.{IsStrictlySortedBy}
-use Rattle.book.specs.declared.rows.Change.{Change}
-use Rattle.book.specs.declared.rows.Change.TheVariants as change
-use Rattle.book.specs.Changes.{put_content, put_row}
-use Rattle.book.specs.Rows.{Content, DeskCells, IsInKeyOrder, desk_cmp, field_cmp, firm_cmp, kept_cmp, line_cmp, move_cmp, order_cmp}
-use Rattle.book.specs.Tables.{desk_cells, field_cells, firm_cells, kept_cells, line_cells, move_cells, order_cells, rows_among, with_change}
+use Rattle.ledger.specs.declared.rows.Change.{Change}
+use Rattle.ledger.specs.declared.rows.Change.TheVariants as change
+use Rattle.ledger.specs.Changes.{put_content, put_row}
+use Rattle.ledger.specs.Rows.{Content, DeskCells, IsInKeyOrder, desk_cmp, field_cmp, firm_cmp, kept_cmp, line_cmp, move_cmp, order_cmp}
+use Rattle.ledger.specs.Tables.{desk_cells, field_cells, firm_cells, kept_cells, line_cells, move_cells, order_cells, rows_among, with_change}
 use Rattle.keep.specs.Content.{IsTheRow, new_content}
-use Rattle.keep.specs.KeyOrders.{key_cmp_total}
-use Rattle.keep.specs.declared.description.TableName.TheVariants as table
+use Rattle.keep.proofs.KeyOrders.{key_cmp_total}
+use Rattle.keep.specs.declared.table_row.TableName.TheVariants as table
 use Rattle.keep.specs.Plain.{IsCopy, IsInOrder, row_of, shelf_content}
-use Rattle.keep.specs.declared.trials.plain.shelf.Shelf.{Shelf}
+use Rattle.keep.specs.declared.plain.shelf.Shelf.{Shelf}
 use Rattle.keep.proofs.PlainRows.{put_sorted}
 
 -- copies have the same rows

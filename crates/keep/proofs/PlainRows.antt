@@ -9,7 +9,7 @@ use Rattle.std.specs.Cmp.{IsTotalOrder, on_total}
 use Rattle.std.specs.List.{AllByRecursion as Each, AllWithin, AllZip, insert}
 use Rattle.std.specs.List.Sorted.{IsBinarySearchResult, IsNonDecreasingBy, IsSearchInRange, IsStrictlySortedBy}
 use Rattle.std.specs.Ordering.{is_eq, is_lt, ordering_index, ordering_reverse}
-use Rattle.book.specs.Changes.{put_row}
+use Rattle.ledger.specs.Changes.{put_row}
 use Rattle.index.proofs.KeyPlaces.{index_rises}
 
 module _ {R : Type 0} (cmp : R → R → Ordering) (o : IsTotalOrder cmp) where

@@ -1,13 +1,9 @@
 -- What a call of a keeper tells, and what it leaves.
-use Rattle.std.specs.Prelude.{◌≡◌, ◌≢◌, ◌⊎◌, Bool, false, List, [], ◌∷◌, IsTrue, OnOk, OnErr, Result, Err}
-use Rattle.sqlite.specs.Schema.{Schema}
-use Rattle.sqlite_trees.specs.Tree.{Trees}
-use Rattle.book.specs.Rows.{Content, IsInKeyOrder}
-use Rattle.book.specs.Tables.{content_of}
-use Rattle.book.specs.declared.rows.Tables.{Tables}
-use Rattle.keep.specs.Content.{IsDesk}
-use Rattle.keep.specs.Description.{IsOfAVersion}
-use Rattle.keep.specs.Names.{HasNames}
+use Rattle.std.specs.Prelude.{◌≡◌, ◌≢◌, ◌≤◌, ◌⊎◌, ℕ, Bool, false, List, [], ◌∷◌, IsTrue, OnOk, OnErr, Result, Err}
+use Rattle.ledger.specs.Rows.{Content, IsInKeyOrder}
+use Rattle.ledger.specs.Tables.{content_of}
+use Rattle.ledger.specs.declared.rows.Tables.{Tables}
+use Rattle.keep.specs.Content.{IsDesk, newest}
 use Rattle.keep.specs.declared.keep.KeepFault.{KeepFault}
 use Rattle.keep.specs.declared.keep.KeepFault.TheVariants.{Memory, NotADesk, OldVersion, Stopped, Store}
 
@@ -39,15 +35,20 @@ pub record TellsVersion {T : Type 0} (has_tables : Content → Type 0) (is_old :
   pub old_version : answer ≡ Err OldVersion → is_old
   pub only_old : is_old → answer ≢ Err Stopped → (answer ≡ Err OldVersion) ⊎ ((answer ≡ Err Memory) ⊎ (answer ≡ Err Store))
 
--- nothing is added to what a stop may leave, neither to the contents nor, of whatever version, to the trees
-pub record AddsNothing {K : Type 0} (leaves : K → List Content → Type 0) (may_leave : K → Content → Type 0)
-    (may_leave_trees : K → Trees → Type 0) (old new : K) : Type 0 where
+-- nothing is added to what a stop may leave, neither to the contents nor, of whatever version, to what remains of the store
+pub record AddsNothing {K Remains : Type 0} (leaves : K → List Content → Type 0) (may_leave : K → Content → Type 0)
+    (may_remain : K → Remains → Type 0) (old new : K) : Type 0 where
   pub adds_nothing : (these : List Content) → leaves old these → leaves new these
   pub no_more : (x : Content) → may_leave new x → may_leave old x
-  pub no_more_trees : (trees : Trees) → may_leave_trees new trees → may_leave_trees old trees
+  pub no_more_remains : (remains : Remains) → may_remain new remains → may_remain old remains
 
--- A store whose schema is that of no version is told and left as it is: `NotADesk` where one of the six names that each
+-- it has the layout of one of the versions
+abbrev pub IsLaidOut : (ℕ → Type 0) → Type 0
+IsLaidOut has_layout = (version : ℕ) × (1 ≤ version) × (version ≤ newest) × has_layout version
+
+-- A store whose layout is that of no version is told and left as it is: `NotADesk` where one of the six names that each
 -- version has is no table's, and else `Store`.
-pub record TellsOther {T : Type 0} (schema : Schema) (answer : Result T KeepFault) (is_left : Type 0) : Type 0 where
-  pub nameless : ¬ HasNames schema → (answer ≡ Err NotADesk) × is_left
-  pub other : HasNames schema → ¬ IsOfAVersion schema → (answer ≡ Err Store) × is_left
+pub record TellsOther {T : Type 0} (has_names : Type 0) (has_layout : ℕ → Type 0) (answer : Result T KeepFault)
+    (is_left : Type 0) : Type 0 where
+  pub nameless : ¬ has_names → (answer ≡ Err NotADesk) × is_left
+  pub other : has_names → ¬ IsLaidOut has_layout → (answer ≡ Err Store) × is_left

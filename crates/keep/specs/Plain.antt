@@ -1,13 +1,12 @@
 -- A keeper in memory.
 use Rattle.std.specs.Prelude.{◌≡◌, ◌+◌, ◌-◌, ◌≤◌, ℕ, Bool, false, true, if◌then◌else◌, Err, OnOk, Result, Option, Some, List, [], ◌∷◌, length, map, option_map}
-use Rattle.book.specs.declared.rows.Change.{Change}
-use Rattle.book.specs.Rows.{Content, IsInKeyOrder}
-use Rattle.book.specs.Tables.{desk_cells, field_cells, firm_cells, kept_cells, line_cells, move_cells, no_content, order_cells, with_change}
-use Rattle.keep.specs.Content.{IsTheRow}
-use Rattle.keep.specs.Transactions.{with_changes}
+use Rattle.ledger.specs.declared.rows.Change.{Change}
+use Rattle.ledger.specs.Rows.{Content, IsInKeyOrder}
+use Rattle.ledger.specs.Tables.{desk_cells, field_cells, firm_cells, kept_cells, line_cells, move_cells, no_content, order_cells, with_change}
+use Rattle.keep.specs.Content.{IsTheRow, with_changes}
 use Rattle.keep.specs.declared.keep.KeepFault.{KeepFault}
 use Rattle.keep.specs.declared.keep.KeepFault.TheVariants.{Store}
-use Rattle.keep.specs.declared.trials.plain.shelf.Shelf.{Shelf}
+use Rattle.keep.specs.declared.plain.shelf.Shelf.{Shelf}
 
 -- what the lists hold
 abbrev pub shelf_content : Shelf → Content

@@ -1,9 +1,6 @@
 //! What a keeper promises.
 
-ghost use Rattle.std.specs.Prelude.{◌≡◌, ◌≢◌, ◌⊎◌};
-
-use book::{Change, Tables};
-use sqlite::{Error as SqlError, ErrorCode};
+use ledger::{Change, Tables};
 use std::alloc::{AllocError, Global};
 use thiserror::Error;
 
@@ -31,15 +28,11 @@ pub enum KeepFault {
 /// Keeps the seven tables, so that a stop at any moment leaves what was before a commit or the whole of it. An error
 /// leaves a keeper stopped, and a stopped one touches nothing more: its store is opened anew.
 pub trait Keep {
-    ghost use Rattle.std.specs.Prelude.{◌≡◌, ◌≢◌, Bool, false, List, [], ◌∷◌, IfOk, OnOk, Err, All};
-    ghost use Rattle.book.specs.Rows.{Content};
-    ghost use Rattle.book.specs.Tables.{rows_among};
-    ghost use Rattle.sqlite.specs.Schema.{Schema};
-    ghost use Rattle.sqlite_trees.specs.Tree.{Trees};
-    ghost use Rattle.keep.specs.Content.{IsAmong, IsContent, IsTheRow};
-    ghost use Rattle.keep.specs.Description.{desk_schema};
+    ghost use Rattle.std.specs.Prelude.{◌≡◌, ◌≢◌, ◌≤◌, Bool, false, List, [], ◌∷◌, IfOk, OnOk, Err, All, ℕ};
+    ghost use Rattle.ledger.specs.Rows.{Content};
+    ghost use Rattle.ledger.specs.Tables.{rows_among};
+    ghost use Rattle.keep.specs.Content.{IsAmong, IsTheRow, newest, with_changes};
     ghost use Rattle.keep.specs.Keeping.{AddsNothing, GoesOn, IsFound, IsOrderedDesk, TellsOther, TellsVersion};
-    ghost use Rattle.keep.specs.Transactions.{with_changes};
 
     // The disk has returned what was written so far.
     ghost is_honest: { Self → Type 0 };
@@ -60,8 +53,14 @@ pub trait Keep {
     // A stop may leave this content now.
     ghost may_leave: { Self → Content → Type 0 };
 
-    // A stop may leave these trees of the store now, of whatever version they are, and also where they are no desk.
-    ghost may_leave_trees: { Self → Trees → Type 0 };
+    // What a store is after a stop, of whatever version, and also where that is no desk.
+    ghost Remains: { Type 0 };
+
+    // These are the seven tables of the newest version, with this content, and there is nothing beside them.
+    ghost has_content: { Remains → Content → Type 0 };
+
+    // A stop may leave these of the store now.
+    ghost may_remain: { Self → Remains → Type 0 };
 
     // An earlier call failed.
     ghost stopped: { Self → Bool };
@@ -69,8 +68,11 @@ pub trait Keep {
     // Beside what it holds it is set as it was.
     ghost same_settings: { Self → Self → Type 0 };
 
-    // How the tables of its store are declared.
-    ghost schema: { Self → Schema };
+    // Each of the six names that every version has is the name of one of its tables.
+    ghost has_names: { Self → Type 0 };
+
+    // Its tables are laid out as this version makes them, and there is nothing beside them.
+    ghost has_layout: { Self → ℕ → Type 0 };
 
     // The same keeper, once it is stopped.
     ghost when_stopped: { Self → Self };
@@ -95,8 +97,8 @@ pub trait Keep {
         ensures ordered { IfOk result IsOrderedDesk }
         ensures found { is_honest self.new → IfOk result (IsFound (holds self.old) (holds self.new) (leaves self.new)) }
         ensures version { is_honest self.new → TellsVersion (has_tables self.old) (is_old self.old) result }
-        ensures left { is_honest self.new → AddsNothing leaves may_leave may_leave_trees self.old self.new }
-        ensures other { stopped self.old ≡ false → TellsOther (schema self.old) result
+        ensures left { is_honest self.new → AddsNothing leaves may_leave may_remain self.old self.new }
+        ensures other { stopped self.old ≡ false → TellsOther (has_names self.old) (has_layout self.old) result
             (self.new ≡ when_stopped self.old) };
 
     /// Makes room for what a commit of these rows wants of memory beside the store. Changes nothing that is seen.
@@ -123,7 +125,7 @@ pub trait Keep {
         ensures either { is_honest self.new → stopped self.old ≡ false → (x : Content) → holds self.old x
             → leaves self.old (x ∷ [])
             → leaves self.new (x ∷ with_changes changes.now x ∷ []) }
-        ensures other { stopped self.old ≡ false → ¬ (schema self.old ≡ desk_schema)
+        ensures other { stopped self.old ≡ false → ¬ has_layout self.old newest
             → (result ≡ Err KeepFault.Store) × (self.new ≡ when_stopped self.old) };
 
     // What is held stands in the seven tables.
@@ -135,30 +137,30 @@ pub trait Keep {
     // A stop leaves something.
     ghost something: { (k : Self) → is_honest k → leaves k [] → ⊥ };
 
+    // A layout is that of one version.
+    ghost one_layout: { (k : Self) (v w : ℕ) → v ≤ newest → w ≤ newest → has_layout k v → has_layout k w → v ≡ w };
+
+    // Each layout has the six names.
+    ghost layout_has_names: { (k : Self) (v : ℕ) → 1 ≤ v → v ≤ newest → has_layout k v → has_names k };
+
     // A list of all that a stop may leave is one also with more in it.
     ghost widens: { (k : Self) (these those : List Content) → ((x : Content) → IsAmong these x → IsAmong those x)
         → leaves k these → leaves k those };
 
-    // Where it may leave trees that have a content of the newest version, it may leave that content.
-    ghost of_trees: { (k : Self) (trees : Trees) (x : Content) → may_leave_trees k trees → IsContent trees x
+    // What remains has one content.
+    ghost one_content: { (remains : Remains) (x y : Content) → has_content remains x → has_content remains y → y ≡ x };
+
+    // Where it may leave remains that have a content, it may leave that content.
+    ghost of_remains: { (k : Self) (remains : Remains) (x : Content) → may_remain k remains → has_content remains x
         → may_leave k x };
 
     // What a stop may leave is in every list of which it leaves nothing else.
     ghost among: { (k : Self) (these : List Content) (x : Content) → leaves k these → may_leave k x → IsAmong these x };
 
-    // Where there is such a list, a stop may leave a content.
+    // Where there is such a list, a stop may leave something, and a content.
+    ghost some_remains: { (k : Self) (these : List Content) → is_honest k → leaves k these
+        → ∥ ((remains : Remains) × may_remain k remains) ∥₁ };
+
     ghost some_content: { (k : Self) (these : List Content) → is_honest k → leaves k these
         → ∥ ((x : Content) × may_leave k x) ∥₁ };
-}
-
-/// The fault that an error of the store is told as.
-pub(crate) fn fault_of(error: SqlError) -> KeepFault
-    ensures either { (result ≡ KeepFault.Memory) ⊎ (result ≡ KeepFault.Store) }
-    ensures memory { error ≡ SqlError.SqliteFailure ErrorCode.OutOfMemory → result ≡ KeepFault.Memory }
-    ensures store { error ≢ SqlError.SqliteFailure ErrorCode.OutOfMemory → result ≡ KeepFault.Store }
-{
-    match error {
-        SqlError::SqliteFailure(ErrorCode::OutOfMemory) => KeepFault::Memory,
-        _ => KeepFault::Store,
-    }
 }

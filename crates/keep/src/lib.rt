@@ -1,24 +1,13 @@
-//! Keepers: the tables on a disk, so that a stop at any moment leaves what was before a commit or the whole of it.
+//! Keepers: the seven tables, so that a stop at any moment leaves what was before a commit or the whole of it. What every
+//! keeper promises, and one that keeps them in memory.
 #![tactic(auto)]
 
-mod answers;
-mod commit;
-mod create;
-mod description;
 mod keep;
-mod load;
-mod opening;
-mod schema;
-mod sql;
-mod table;
-mod tables;
-mod trials;
-mod upgrade;
+mod plain;
+mod recover;
+mod table_row;
 
 pub use keep::{Keep, KeepFault};
-pub use opening::open_path;
-pub use sql::SqlKeep;
-pub use trials::{
-    PlainKeep, Recover, a_fuse_tells_no_lie, keepers_in_memory_are_honest,
-    keepers_leave_what_stores_leave, reopen, reopen_and_load,
-};
+pub use plain::PlainKeep;
+pub use recover::Recover;
+pub use table_row::{TableName, TableRow, new_row};

@@ -1,10 +1,10 @@
 -- Wherever a course stops, all of the deal is moved, or nothing is.
-use Rattle.book.proofs.Prelude.{[], ◌+ℤ◌, ◌==◌, ◌∙◌, ◌∷◌, ◌≡◌, ◌⊎◌, Bool, Each, FirstFailure, IfSome, IsFalse, IsNone, IsSomeAnd, IsTrue, Ledger, List, Name, None, OpenLine, Option, Order, Request, Some, accept, ap, arith, checks, effect, false, find, if◌then◌else◌, inl, inr, is_open, is_settled, map, name_of, numbered, option_map_or, order_numbered, pos, refl, same_name, signed, subst, sym, total, true, true≢false, ℕ, ℤ}
+use Rattle.ledger.proofs.Prelude.{[], ◌+ℤ◌, ◌==◌, ◌∙◌, ◌∷◌, ◌≡◌, ◌⊎◌, Bool, Each, FirstFailure, IfSome, IsFalse, IsNone, IsSomeAnd, IsTrue, Ledger, List, Name, None, OpenLine, Option, Order, Request, Some, accept, ap, arith, checks, effect, false, find, if◌then◌else◌, inl, inr, is_open, is_settled, map, name_of, numbered, option_map_or, order_numbered, pos, refl, same_name, signed, subst, sym, total, true, true≢false, ℕ, ℤ}
 use Rattle.words.specs.declared.command.Command.{Command}
 use Rattle.words.specs.declared.command.Command.TheVariants as command
-use Rattle.book.specs.declared.order.Line.{Line}
-use Rattle.book.proofs.Runs.{accepted_answered}
-use Rattle.book.proofs.Sums.{each-imp}
+use Rattle.ledger.specs.declared.order.Line.{Line}
+use Rattle.ledger.proofs.Runs.{accepted_answered}
+use Rattle.ledger.proofs.Sums.{each-imp}
 use Rattle.laws.specs.Deals.{AllMovedOrUnderWay, AllUsed, Deal, HasAborted, HasCommitted, HasMovedAll, HasMovedNothing, HasUsed, IsAborted, IsCommitted, IsTaken, IsUnderWay, NothingMoved, Side}
 use Rattle.laws.proofs.OneOrder.{AsOpened, changes, found_some, held_line, number_is}
 use Rattle.laws.proofs.Together.{Beside, Stands}

@@ -1,8 +1,8 @@
 -- What the orders of a deal move at all desks together, and what its own commands do to stock.
-use Rattle.book.proofs.Prelude.{[], ◌+ℤ◌, ◌∷◌, ◌≡◌, ◌≤ℤ◌, ◌⊎◌, Add, Each, Field, Good, IsNone, List, OpenLine, Way, arith, bytes_eq, false, true, if◌then◌else◌, inl, inr, ints, moved_by_order, option_map_or, order_numbered, pos, refl, settled, signed, subst, sym, total, ap, Bool, ℕ, ℤ}
+use Rattle.ledger.proofs.Prelude.{[], ◌+ℤ◌, ◌∷◌, ◌≡◌, ◌≤ℤ◌, ◌⊎◌, Add, Each, Field, Good, IsNone, List, OpenLine, Way, arith, bytes_eq, false, true, if◌then◌else◌, inl, inr, ints, moved_by_order, option_map_or, order_numbered, pos, refl, settled, signed, subst, sym, total, ap, Bool, ℕ, ℤ}
 use Rattle.std.specs.List.{AllZip}
-use Rattle.book.proofs.Goodness.{good_answer}
-use Rattle.book.proofs.Sums.{each-both, each-imp, total-eq, total-le, total-zero}
+use Rattle.ledger.proofs.Goodness.{good_answer}
+use Rattle.ledger.proofs.Sums.{each-both, each-imp, total-eq, total-le, total-zero}
 use Rattle.laws.specs.Deals.{AtFirst, AtOther, ChangesByOrder, Course, Deal, HasCommitted, IsAnswered, IsNew, IsOver, IsOwn, IsTransfer, Side, Turn, article_moved, article_of_lines, moved_in_all, moved_under, other_guards}
 use Rattle.laws.proofs.AllOrNothing.{all_moved, committed_or_not, none_moved}
 use Rattle.laws.proofs.Ends.{aborted_if, some_there}

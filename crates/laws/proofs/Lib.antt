@@ -1,3 +1,7 @@
+pub mod Firm
+pub mod Tests
+pub mod ScriptPlay
+pub mod Table
 pub mod Places
 pub mod Copies
 pub mod Zips

@@ -1,11 +1,11 @@
 -- What a command that keeps its guard does to the order under a number.
-use Rattle.book.proofs.Prelude.{[], ◌+◌, ◌==◌, ◌∙◌, ◌∷◌, ◌≡◌, ◌≢◌, ◌≤◌, ◌⊎◌, Answers, AnswersNew, Bool, Changes, Command, Done, Each, Effect, FirstFailure, IfSome, IsFalse, IsNone, IsSome, IsSomeAnd, Kept, KeyReused, Ledger, List, MatchOption, Name, None, Nothing, OpenLine, Opens, Option, Order, Refusal, Refused, Reply, Request, Some, accept, add_hold, ap, arith, change_lines, checks, effect, expires, false, find, if◌then◌else◌, inl, inr, is_open, is_settled, is_transfer, kept_under, map, name_of, nat_lt, new_line, new_order, next, numbered, on, order_numbered, places, raise_used, refl, same_command, subst, sym, transfer_kind, transfer_lines, true, true≢false, ℕ}
+use Rattle.ledger.proofs.Prelude.{[], ◌+◌, ◌==◌, ◌∙◌, ◌∷◌, ◌≡◌, ◌≢◌, ◌≤◌, ◌⊎◌, Answers, AnswersNew, Bool, Changes, Command, Done, Each, Effect, FirstFailure, IfSome, IsFalse, IsNone, IsSome, IsSomeAnd, Kept, KeyReused, Ledger, List, MatchOption, Name, None, Nothing, OpenLine, Opens, Option, Order, Refusal, Refused, Reply, Request, Some, accept, add_hold, ap, arith, change_lines, checks, effect, expires, false, find, if◌then◌else◌, inl, inr, is_open, is_settled, is_transfer, kept_under, map, name_of, nat_lt, new_line, new_order, next, numbered, on, order_numbered, places, raise_used, refl, same_command, subst, sym, transfer_kind, transfer_lines, true, true≢false, ℕ}
 use Rattle.words.specs.declared.command.Command.TheVariants as command
-use Rattle.book.specs.declared.order.Kind.TheVariants.{Plain, Transfer}
-use Rattle.book.specs.declared.order.Line.{Line}
-use Rattle.book.specs.Next.{insert_order}
-use Rattle.book.proofs.Futures.{Usable, all_pass, usable_there}
-use Rattle.book.proofs.Sums.{each-imp, each-map}
+use Rattle.ledger.specs.declared.order.Kind.TheVariants.{Plain, Transfer}
+use Rattle.ledger.specs.declared.order.Line.{Line}
+use Rattle.ledger.specs.Next.{insert_order}
+use Rattle.ledger.proofs.Passing.{Usable, all_pass, usable_there}
+use Rattle.ledger.proofs.Sums.{each-imp, each-map}
 use Rattle.laws.specs.Deals.{AllUsed, Guards, IsAborted, IsCommitted, MaySend}
 
 -- ---- the order under a number, in a list where orders change or one is put in

@@ -1,16 +1,16 @@
 -- Where a desk goes on: what is kept stays at its place, and the request that took the next place would have been
 -- accepted wherever it stood behind the request that took the place before.
-use Rattle.book.proofs.Prelude.{[], ◌+◌, ◌<◌, ◌==◌, ◌∙◌, ◌∷◌, ◌≡◌, ◌≤◌, ◌⊎◌, Answers, AnswersNew, Bool, Each}
-use Rattle.book.proofs.Prelude.{FirstFailure, Good, IsAccepted, IsInRange, IsKey, Kept, KeyReused, Ledger, List}
-use Rattle.book.proofs.Prelude.{MatchOption, None, Option, Refusal, Refused, Reply, Request, Runs, Some, Done, accept}
-use Rattle.book.proofs.Prelude.{ap, arith, checks, drop, find, false, if◌then◌else◌, inl, inr, insert_in_order, is_lt}
-use Rattle.book.proofs.Prelude.{is_some, kept_under, nat_cmp, new_key, places, refl, same_command, slice_cmp, subst}
-use Rattle.book.proofs.Prelude.{suc, sym, take, true≢false, zero, ℕ}
-use Rattle.book.specs.Answers.{After}
-use Rattle.book.proofs.Goodness.{good_answer}
-use Rattle.book.proofs.Lists.{find-new, length-insert, same_number, some_is}
-use Rattle.book.proofs.Sums.{each-imp}
-use Rattle.book.proofs.Runs.{accepted_once, answered_once}
+use Rattle.ledger.proofs.Prelude.{[], ◌+◌, ◌<◌, ◌==◌, ◌∙◌, ◌∷◌, ◌≡◌, ◌≤◌, ◌⊎◌, Answers, AnswersNew, Bool, Each}
+use Rattle.ledger.proofs.Prelude.{FirstFailure, Good, IsAccepted, IsInRange, IsKey, Kept, KeyReused, Ledger, List}
+use Rattle.ledger.proofs.Prelude.{MatchOption, None, Option, Refusal, Refused, Reply, Request, Runs, Some, Done, accept}
+use Rattle.ledger.proofs.Prelude.{ap, arith, checks, drop, find, false, if◌then◌else◌, inl, inr, insert_in_order, is_lt}
+use Rattle.ledger.proofs.Prelude.{is_some, kept_under, nat_cmp, new_key, places, refl, same_command, slice_cmp, subst}
+use Rattle.ledger.proofs.Prelude.{suc, sym, take, true≢false, zero, ℕ}
+use Rattle.ledger.specs.Answers.{After}
+use Rattle.ledger.proofs.Goodness.{good_answer}
+use Rattle.ledger.proofs.Lists.{find-new, length-insert, same_number, some_is}
+use Rattle.ledger.proofs.Sums.{each-imp}
+use Rattle.ledger.proofs.Runs.{accepted_once, answered_once}
 use native.Mathlib.Decide.{dec_le}
 use Rattle.laws.specs.Walks.{AreInRange, AreKeptBehind, GoesOnBehind, KeepsAt, StandIn, kept_at}
 

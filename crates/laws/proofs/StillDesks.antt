@@ -1,11 +1,11 @@
 -- Where no place is free and every open order is firm, nothing moves any more.
-use Rattle.book.proofs.Prelude.{[], ◌+ℤ◌, ◌+◌, ◌<◌, ◌==◌, ◌∙◌, ◌∷◌, ◌≡◌, ◌≤◌, Bool, Command, Each, Field, FirstFailure, Good, IsSomeAnd, IsStrictlySortedBy, IsTrue, Kept, Ledger, Less, List, None, Option, Order, Reply, Request, Runs, Some, accept, ap, arith, checks, count_by, effect, false, if◌then◌else◌, ints, is_lt, is_open, is_settled, map, moved_by_order, nat_cmp, new_key, numbered, open_orders, order_numbered, places, refl, settled, slice_cmp, subst, sym, total, true, true≢false, ℕ, ℤ}
+use Rattle.ledger.proofs.Prelude.{[], ◌+ℤ◌, ◌+◌, ◌<◌, ◌==◌, ◌∙◌, ◌∷◌, ◌≡◌, ◌≤◌, Bool, Command, Each, Field, FirstFailure, Good, IsSomeAnd, IsStrictlySortedBy, IsTrue, Kept, Ledger, Less, List, None, Option, Order, Reply, Request, Runs, Some, accept, ap, arith, checks, count_by, effect, false, if◌then◌else◌, ints, is_lt, is_open, is_settled, map, moved_by_order, nat_cmp, new_key, numbered, open_orders, order_numbered, places, refl, settled, slice_cmp, subst, sym, total, true, true≢false, ℕ, ℤ}
 use Rattle.words.specs.declared.command.Command.TheVariants as command
-use Rattle.book.specs.declared.limits.TheConstants.{MAX_PLACES}
-use Rattle.book.proofs.Futures.{all_pass, at_number, less_is}
-use Rattle.book.proofs.Lists.{counted, each-unmap, length-insert}
-use Rattle.book.proofs.Sums.{each-both, each-imp, each-map}
-use Rattle.book.proofs.Transfers.{found_is, not_same}
+use Rattle.ledger.specs.declared.limits.TheConstants.{MAX_PLACES}
+use Rattle.ledger.proofs.Passing.{all_pass}
+use Rattle.ledger.proofs.Lists.{counted, each-unmap, length-insert, at_number}
+use Rattle.ledger.proofs.Sums.{each-both, each-imp, each-map, less_is}
+use Rattle.ledger.proofs.Transfers.{found_is, not_same}
 use Rattle.laws.specs.Still.{IsStill}
 use Rattle.laws.proofs.AllOrNothing.{under}
 use Rattle.laws.proofs.OneOrder.{answered, changes, open_there}

@@ -1,13 +1,12 @@
 -- A command that names an order changes each field's settled value by what the order moves there, and no other command
 -- changes what it has moved.
-use Rattle.book.proofs.Prelude.{[], ◌+ℤ◌, ◌<◌, ◌==◌, ◌∙◌, ◌∷◌, ◌≡◌, ◌≢◌, Answers, Bool, Command, Each, Field, FirstFailure, Good, IsNone, IsSome, IsStrictlySortedBy, Ledger, Less, List, Name, None, Option, Order, Reply, Request, Some, ap, arith, checks, effect, expires, false, find, if◌then◌else◌, ints, is_settled, map, moved_by_order, nat_cmp, nat_lt, new_order, next, numbered, option_map_or, order_numbered, pos, refl, settled, subst, sym, total, transfer_lines, true, ℕ, ℤ}
+use Rattle.ledger.proofs.Prelude.{[], ◌+ℤ◌, ◌<◌, ◌==◌, ◌∙◌, ◌∷◌, ◌≡◌, ◌≢◌, Answers, Bool, Command, Each, Field, FirstFailure, Good, IsNone, IsSome, IsStrictlySortedBy, Ledger, Less, List, Name, None, Option, Order, Reply, Request, Some, ap, arith, checks, effect, expires, false, find, if◌then◌else◌, ints, is_settled, map, moved_by_order, nat_cmp, nat_lt, new_order, next, numbered, option_map_or, order_numbered, pos, refl, settled, subst, sym, total, transfer_lines, true, ℕ, ℤ}
 use Rattle.words.specs.declared.command.Command.TheVariants as command
-use Rattle.book.specs.declared.order.Kind.TheVariants.{Plain, Transfer}
-use Rattle.book.specs.Next.{insert_order}
-use Rattle.book.proofs.Futures.{all_pass, less_is}
-use Rattle.book.proofs.Lists.{each-unmap}
-use Rattle.book.proofs.OutcomeTests.{total-insert}
-use Rattle.book.proofs.Sums.{each-imp}
+use Rattle.ledger.specs.declared.order.Kind.TheVariants.{Plain, Transfer}
+use Rattle.ledger.specs.Next.{insert_order}
+use Rattle.ledger.proofs.Passing.{all_pass}
+use Rattle.ledger.proofs.Lists.{each-unmap}
+use Rattle.ledger.proofs.Sums.{each-imp, less_is, total-insert}
 use Rattle.laws.specs.Deals.{Names, moved_under}
 use Rattle.laws.proofs.OneOrder.{answered, beside, changes, found_none, found_some, more_number, number_is, other_number, put_in, same_number}
 

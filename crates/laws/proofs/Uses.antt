@@ -1,14 +1,13 @@
 -- An open order of which nothing is used uses all, line by line, where there is room for it.
-use Rattle.book.proofs.Prelude.{[], ◌++◌, ◌+◌, ◌<◌, ◌||◌, ◌∙◌, ◌∷◌, ◌≡◌, ◌≤◌, Answers, Bool, Done, Each, FirstFailure, IfSome, IsDistinct, IsNone, IsSomeAnd, IsTrue, Kept, Ledger, List, Name, None, Option, Order, Request, Some, accept, ap, arith, bytes_eq, change_lines, checks, false, find, if◌then◌else◌, inr, insert_in_order, is_lt, is_open, is_transfer, kept_under, length, line_name, line_on, map, nat_cmp, new_key, numbered, on, open_orders, order_numbered, places, raise_used, refl, same_name, slice_cmp, subst, sym, true, true≢false, ℕ}
+use Rattle.ledger.proofs.Prelude.{[], ◌++◌, ◌+◌, ◌<◌, ◌||◌, ◌∙◌, ◌∷◌, ◌≡◌, ◌≤◌, Answers, Bool, Done, Each, FirstFailure, IfSome, IsDistinct, IsNone, IsSomeAnd, IsTrue, Kept, Ledger, List, Name, None, Option, Order, Request, Some, accept, ap, arith, bytes_eq, change_lines, checks, false, find, if◌then◌else◌, inr, insert_in_order, is_lt, is_open, is_transfer, kept_under, length, line_name, line_on, map, nat_cmp, new_key, numbered, on, open_orders, order_numbered, places, raise_used, refl, same_name, slice_cmp, subst, sym, true, true≢false, ℕ}
 use Rattle.words.specs.declared.command.Command.TheVariants as command
-use Rattle.book.specs.declared.limits.TheConstants.{MAX_PLACES}
-use Rattle.book.specs.declared.order.Line.{Line}
-use Rattle.book.proofs.Lists.{count-map, each-unmap, length-insert, length-of-map}
-use Rattle.book.proofs.OutcomeTests.{same_self}
-use Rattle.book.proofs.Runs.{accepted_answered}
-use Rattle.book.proofs.Safety.{other_way}
-use Rattle.book.proofs.Sums.{each, each-of-push}
-use Rattle.book.proofs.Transfers.{found_is}
+use Rattle.ledger.specs.declared.limits.TheConstants.{MAX_PLACES}
+use Rattle.ledger.specs.declared.order.Line.{Line}
+use Rattle.ledger.proofs.Lists.{count-map, each-unmap, length-insert, length-of-map}
+use Rattle.ledger.proofs.FieldNames.{same_self, other_way}
+use Rattle.ledger.proofs.Runs.{accepted_answered}
+use Rattle.ledger.proofs.Sums.{each, each-of-push}
+use Rattle.ledger.proofs.Transfers.{found_is}
 use Rattle.laws.specs.Deals.{AllUsed, IsReady, Side}
 use Rattle.laws.proofs.AllOrNothing.{changed, not_closed, not_none, under}
 use Rattle.laws.proofs.OneOrder.{AsOpened, held_line}

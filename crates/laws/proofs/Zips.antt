@@ -1,5 +1,5 @@
 -- Sides one beside the other, before and after, of which one goes on.
-use Rattle.book.proofs.Prelude.{[], ◌∷◌, Each, List, inl, inr, subst, sym}
+use Rattle.ledger.proofs.Prelude.{[], ◌∷◌, Each, List, inl, inr, subst, sym}
 use Rattle.std.specs.List.{AllZip}
 use Rattle.laws.specs.Deals.{OneGoes, Side}
 

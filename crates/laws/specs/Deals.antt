@@ -14,11 +14,11 @@ use Rattle.words.specs.declared.command.Command.TheVariants.{Open, Transfer, Mor
 use Rattle.words.specs.declared.command.Request.{Request}
 use Rattle.words.specs.declared.reply.Reply.{Reply}
 use Rattle.words.specs.declared.reply.Reply.TheVariants.{Done}
-use Rattle.book.specs.declared.limits.TheConstants.{MAX_PLACES}
-use Rattle.book.specs.Good.{Good}
-use Rattle.book.specs.Ledger.{Field as FieldOf, Ledger, Name, Order, is_open, is_settled, kept_under, name_of, open_orders, order_numbered, places, same_name}
-use Rattle.book.specs.Outcomes.{moved_by_order, settled, signed, total}
-use Rattle.book.specs.Answers.{Answers, OfOrder}
+use Rattle.ledger.specs.declared.limits.TheConstants.{MAX_PLACES}
+use Rattle.ledger.specs.Good.{Good}
+use Rattle.ledger.specs.Ledger.{Field as FieldOf, Ledger, Name, Order, is_open, is_settled, kept_under, name_of, open_orders, order_numbered, places, same_name}
+use Rattle.ledger.specs.Outcomes.{moved_by_order, settled, signed, total}
+use Rattle.ledger.specs.Answers.{Answers, OfOrder}
 
 -- one side of a deal: what the order at the desk is to move, and the desk's ledger
 pub record Side : Type 0 where

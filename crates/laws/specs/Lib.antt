@@ -1,3 +1,5 @@
+pub mod Examples
+pub mod RowsByCommand
 pub mod Walks
 pub mod Late
 pub mod Deals

@@ -5,7 +5,7 @@ use Rattle.std.specs.List.{AllByRecursion as Each}
 use Rattle.escrow.specs.Codes.{IsKey}
 use Rattle.words.specs.Spelling.{IsInRange}
 use Rattle.words.specs.declared.command.Request.{Request}
-use Rattle.book.specs.Ledger.{Kept, Ledger, places}
+use Rattle.ledger.specs.Ledger.{Kept, Ledger, places}
 
 -- requests that a desk can be asked
 abbrev pub AreInRange : List Request → Type 0

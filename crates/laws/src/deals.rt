@@ -1,9 +1,9 @@
 //! Laws of a deal between desks, where whoever sends its commands keeps their guards.
 
-ghost use Rattle.book.specs.Answers.{Answers, Runs};
-ghost use Rattle.book.specs.Good.{Good};
-ghost use Rattle.book.specs.Ledger.{Field, Ledger, Name};
-ghost use Rattle.book.specs.Outcomes.{settled};
+ghost use Rattle.ledger.specs.Answers.{Answers, Runs};
+ghost use Rattle.ledger.specs.Good.{Good};
+ghost use Rattle.ledger.specs.Ledger.{Field, Ledger, Name};
+ghost use Rattle.ledger.specs.Outcomes.{settled};
 ghost use Rattle.laws.specs.Deals.{AllMovedOrUnderWay, ChangesByOrder, ComesToAnEnd, Course, Deal, GoesThrough, IsFree, IsNew, IsOver, IsOwn, IsReady, IsTransfer, Keeps, Names, NothingMoved, Turn, moved_in_all, moved_under};
 ghost use Rattle.laws.specs.Still.{IsStill};
 ghost use Rattle.std.specs.List.{AllByRecursion as Each, AllZip, IsDistinct};

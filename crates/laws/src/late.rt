@@ -1,7 +1,7 @@
 //! The law of copies that come late into a log.
 
-ghost use Rattle.book.specs.Answers.{Runs};
-ghost use Rattle.book.specs.Ledger.{Ledger, kept_under};
+ghost use Rattle.ledger.specs.Answers.{Runs};
+ghost use Rattle.ledger.specs.Ledger.{Ledger, kept_under};
 ghost use Rattle.laws.specs.Late.{Entry, carried, requests};
 ghost use Rattle.laws.specs.Walks.{AreInRange};
 ghost use Rattle.std.specs.List.{AllByRecursion as Each, Contains};

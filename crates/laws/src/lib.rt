@@ -1,8 +1,9 @@
-//! Laws of several desks: of those that carry out one log, and of a deal between desks.
+//! Laws of ledgers, answers and runs; of desks that carry out one log, and of a deal between desks.
 #![tactic(auto)]
 
 mod deals;
 mod late;
+mod ledgers;
 mod walk;
 
 pub use deals::{
@@ -10,4 +11,10 @@ pub use deals::{
     ready_deals_go_through, still_desks_stand, transfers_between_even_out,
 };
 pub use late::late_copies_change_nothing;
+pub use ledgers::{
+    answers_stay_good, bounds_are_held, changes_are_put_in_turn, changes_suffice,
+    each_command_changes_its_rows, exactly_one_answer, firm_orders_stay, good_ledgers_honour,
+    rows_are_one, rows_tell_all, runs_stay_good, spellings_tell_commands, tests_are_comparisons,
+    transfers_even_out, worked_examples_hold,
+};
 pub use walk::{one_walk_finds_the_place, stopped_desks_find_where_to_go_on};

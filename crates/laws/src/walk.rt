@@ -1,8 +1,8 @@
 //! Laws of a desk that stopped while it carried out a log.
 
-ghost use Rattle.book.specs.Answers.{After, Runs};
-ghost use Rattle.book.specs.Good.{Good};
-ghost use Rattle.book.specs.Ledger.{Ledger, places};
+ghost use Rattle.ledger.specs.Answers.{After, Runs};
+ghost use Rattle.ledger.specs.Good.{Good};
+ghost use Rattle.ledger.specs.Ledger.{Ledger, places};
 ghost use Rattle.laws.specs.Walks.{AreInRange, AreKeptBehind, GoesOnBehind};
 ghost use Rattle.std.specs.Prelude.{◌≡◌, ◌≢◌, ◌≤◌, ◌+◌, ◌∷◌, ℕ, List, [], drop};
 ghost use Rattle.words.specs.declared.command.Request.{Request};

@@ -1,7 +1,8 @@
 //! Books that carry commands out, and the rows that these change.
 
-use book::{Book, Change, FieldRow, KeptRow, LineRow, MoveRow, Planned};
+use book::{Book, Planned};
 use escrow::Key;
+use ledger::{Change, FieldRow, KeptRow, LineRow, MoveRow};
 use std::alloc::Global;
 use std::process::Abort;
 use std::test::Fail;

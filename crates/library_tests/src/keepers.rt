@@ -1,11 +1,12 @@
 //! Keepers of new desks, and their calls without clauses, so that a test's proof need not carry them.
 
 ghost use Rattle.std.specs.Prelude.{All};
-ghost use Rattle.book.specs.Tables.{rows_among};
+ghost use Rattle.ledger.specs.Tables.{rows_among};
 ghost use Rattle.keep.specs.Content.{IsTheRow};
 
-use book::{Change, Tables};
-use keep::{Keep, KeepFault, PlainKeep, SqlKeep};
+use keep::{Keep, KeepFault, PlainKeep};
+use ledger::{Change, Tables};
+use sql_keep::SqlKeep;
 use sqlite::{Alter, Connection, MemStore};
 use std::alloc::Global;
 use std::test::Fail;

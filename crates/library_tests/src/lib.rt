@@ -22,6 +22,8 @@ mod of_keep;
 #[cfg(test)]
 mod of_laws;
 #[cfg(test)]
+mod of_ledger;
+#[cfg(test)]
 mod of_rounds;
 #[cfg(test)]
 mod of_web;

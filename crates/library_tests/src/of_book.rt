@@ -4,33 +4,13 @@ mod steps;
 mod tables;
 
 use crate::books::{Step, book_after, request};
-use book::{Book, FieldView, KeptView, Kind, OrderView, Planned, Standing};
+use book::{Book, FieldView, KeptView, OrderView, Planned};
 use escrow::{Article, Branch, Key, Moment, OrderNo, Way};
+use ledger::{Kind, Standing};
 use std::alloc::Global;
 use std::process::Abort;
 use std::test::Fail;
 use words::{Refusal, Reply};
-
-/// The laws hold of every ledger; a call of one costs nothing.
-#[test]
-fn laws_can_be_called() {
-    book::exactly_one_answer();
-    book::answers_stay_good();
-    book::runs_stay_good();
-    book::bounds_are_held();
-    book::tests_are_comparisons();
-    book::good_ledgers_honour();
-    book::transfers_even_out();
-    book::firm_orders_stay();
-    book::spellings_tell_commands();
-    book::rows_tell_all();
-    book::rows_are_one();
-    book::changes_suffice();
-    book::each_command_changes_its_rows();
-    book::changes_are_put_in_turn();
-    book::worked_examples_hold();
-    book::limits_are_those_of_the_rules();
-}
 
 /// The order of that number: the call without its clauses, so that a test's proof need not carry them.
 fn order(book: &Book, number: u64) -> Option<OrderView<'_>> {

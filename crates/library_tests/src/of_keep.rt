@@ -5,8 +5,9 @@ mod reopening;
 mod upgrading;
 
 use crate::keepers::{commit, connection_of, keeper, load, load_fault, plain_keeper, sql_keeper};
-use book::{Change, DeskRow, FieldRow, FirmRow, KeptRow, LineRow, MoveRow, OrderRow, Tables};
-use keep::{Keep, KeepFault, SqlKeep, a_fuse_tells_no_lie, keepers_in_memory_are_honest};
+use keep::{Keep, KeepFault};
+use ledger::{Change, DeskRow, FieldRow, FirmRow, KeptRow, LineRow, MoveRow, OrderRow, Tables};
+use sql_keep::{SqlKeep, a_fuse_tells_no_lie, keepers_in_memory_are_honest};
 use sqlite::MemStore;
 use sqlite_disk::Memory;
 use std::alloc::{AllocError, Global};

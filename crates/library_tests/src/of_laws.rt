@@ -1,8 +1,26 @@
-//! Tests of `laws`.
+//! Tests of `laws`: each holds of all ledgers or desks; a call of one costs nothing.
 
-/// The laws hold of all desks; a call of one costs nothing.
 #[test]
-fn laws_can_be_called() {
+fn laws_of_ledgers_can_be_called() {
+    laws::exactly_one_answer();
+    laws::answers_stay_good();
+    laws::runs_stay_good();
+    laws::bounds_are_held();
+    laws::tests_are_comparisons();
+    laws::good_ledgers_honour();
+    laws::transfers_even_out();
+    laws::firm_orders_stay();
+    laws::spellings_tell_commands();
+    laws::rows_tell_all();
+    laws::rows_are_one();
+    laws::changes_suffice();
+    laws::each_command_changes_its_rows();
+    laws::changes_are_put_in_turn();
+    laws::worked_examples_hold();
+}
+
+#[test]
+fn laws_of_desks_can_be_called() {
     laws::stopped_desks_find_where_to_go_on();
     laws::one_walk_finds_the_place();
     laws::late_copies_change_nothing();

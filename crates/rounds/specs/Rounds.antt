@@ -1,8 +1,8 @@
 -- Rounds: one order of the questions of all connections.
 use Rattle.std.specs.Prelude.{◌≡◌, ◌≢◌, ◌<◌, ◌≤◌, ◌⊎◌, Bool, false, true, ℕ, List, [], ◌∷◌, ◌++◌, Option, None, Some, Result, Err, Ok, if◌then◌else◌, length, nat_eq, slice_get, slice_index_or, take}
 use Rattle.std.specs.Io.KnownBytes.{Appends, Consumes, Keeps}
-use Rattle.book.specs.Good.{Good}
-use Rattle.book.specs.Ledger.{Ledger}
+use Rattle.ledger.specs.Good.{Good}
+use Rattle.ledger.specs.Ledger.{Ledger}
 use Rattle.desk.specs.Deferred.{DeferredView}
 use Rattle.keep.specs.declared.keep.Keep.{Ghosts}
 use Rattle.desk.specs.Desk.{DeskView, IsStored, LeavesEither, Snapshot}

@@ -1,8 +1,8 @@
 //! The turns of a round: what is asked at each place, and what becomes of the answers.
 
 ghost use Rattle.std.specs.Prelude.{◌≡◌, ◌≢◌, ◌<◌, ◌≤◌, ◌⊎◌, ◌↔◌, [], false, length, List, ℕ, option_map, IsTrue, OnErr, OnOk};
-ghost use Rattle.book.specs.Good.{Good};
-ghost use Rattle.book.specs.Ledger.{Ledger};
+ghost use Rattle.ledger.specs.Good.{Good};
+ghost use Rattle.ledger.specs.Ledger.{Ledger};
 ghost use Rattle.desk.specs.Deferred.{snapshot_off};
 ghost use Rattle.desk.specs.Desk.{IsStored, LeavesEither, Snapshot};
 ghost use Rattle.rounds.specs.Lines.{Heard, Said, speaks};

@@ -1,8 +1,8 @@
 -- Many connections at once: how their service ends, and what is found after it.
 use Rattle.std.proofs.Common.{◌≡◌, ◌≤◌, ◌⊎◌, ◌∙◌, ◌++◌, Bool, Err, IfErr, List, None, Ok, OnErr, OnOk, Option, Result, Some, ap, false, inl, inr, refl, subst, sym, true, true≢false, ℕ}
-use Rattle.book.specs.Good.{Good}
-use Rattle.book.specs.Ledger.{Ledger}
-use Rattle.book.specs.Rows.{Content}
+use Rattle.ledger.specs.Good.{Good}
+use Rattle.ledger.specs.Ledger.{Ledger}
+use Rattle.ledger.specs.Rows.{Content}
 use Rattle.keep.specs.declared.keep.Keep.{Ghosts}
 use Rattle.desk.specs.Deferred.{DeferredView, snapshot_off}
 use Rattle.desk.specs.Desk.{DeskState, DeskView, Goes, IsStored, LeavesEither, Snapshot, StaysStored, TellsStop, desk_state, going_at, snapshot}

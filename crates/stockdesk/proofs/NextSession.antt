@@ -3,11 +3,11 @@ use Rattle.std.proofs.Common.{◌≡◌, ◌≢◌, ◌⊎◌, ◌∙◌, ◌++�
 use Rattle.std.proofs.Math.Logic.{inl, inr}
 use Rattle.std.proofs.KnownBytes.{Appends-kept, Appends-nil, Consumes-kept, Consumes-nil}
 use Rattle.words.specs.declared.command.Request.{Request}
-use Rattle.book.specs.Answers.{IsAccepted}
-use Rattle.book.specs.Good.{Good}
-use Rattle.book.specs.Ledger.{Ledger}
-use Rattle.book.specs.Next.{accept}
-use Rattle.book.specs.Rows.{Content}
+use Rattle.ledger.specs.Answers.{IsAccepted}
+use Rattle.ledger.specs.Good.{Good}
+use Rattle.ledger.specs.Ledger.{Ledger}
+use Rattle.ledger.specs.Next.{accept}
+use Rattle.ledger.specs.Rows.{Content}
 use Rattle.desk.specs.Desk.{DeskState, IsStored, LeavesEither, TellsStop, Snapshot, going_at, snapshot}
 use Rattle.desk.specs.Headline.{IsFoundAfterItems, LeavesRowsOf}
 use Rattle.desk.specs.Script.{Writes}

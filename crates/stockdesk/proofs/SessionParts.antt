@@ -3,11 +3,11 @@ use Rattle.std.proofs.Common.{◌≡◌, ◌≢◌, ◌⊎◌, ◌∙◌, [], �
 use Rattle.std.proofs.Math.Logic.{inl, inr}
 use Rattle.std.proofs.KnownBytes.{Appends-kept, Appends-nil, Consumes-kept, Consumes-nil, Keeps-refl}
 use Rattle.std.proofs.lemmas.Result.{IfErr-at_err}
-use Rattle.book.specs.Good.{Good}
-use Rattle.book.specs.Ledger.{Ledger, new_ledger}
-use Rattle.book.specs.Rows.{Content, IsRowsOf}
-use Rattle.book.proofs.Runs.{good_new}
-use Rattle.book.proofs.EqualRows.{told_by_rows}
+use Rattle.ledger.specs.Good.{Good}
+use Rattle.ledger.specs.Ledger.{Ledger, new_ledger}
+use Rattle.ledger.specs.Rows.{Content, IsRowsOf}
+use Rattle.ledger.proofs.Runs.{good_new}
+use Rattle.ledger.proofs.EqualRows.{told_by_rows}
 use Rattle.keep.specs.Content.{new_content, new_row}
 use Rattle.keep.specs.declared.keep.Keep.{Ghosts}
 use Rattle.desk.specs.Desk.{DeskState, DeskView, IsStored, Snapshot, TellsStop, desk_state, going_at, snapshot}

@@ -5,8 +5,8 @@ use Rattle.sqlite_disk.specs.declared.Files.{Files}
 use Rattle.sqlite_wal.specs.Recovery.{Image}
 use Rattle.sqlite_wal.specs.Files.{outcomes}
 use Rattle.sqlite.specs.Files.{image_of}
-use Rattle.book.specs.Rows.{Content}
-use Rattle.keep.specs.Starts.{StartsOf}
+use Rattle.ledger.specs.Rows.{Content}
+use Rattle.sql_keep.specs.Starts.{StartsOf}
 
 -- the bytes hold this content in that version, with the log and without it
 abbrev pub StartsAlone : ℕ → Image → Content → Type 0

@@ -1,9 +1,9 @@
 -- What is shown of a desk to connections, and what these do to it.
 use Rattle.std.specs.Prelude.{◌≡◌, ◌<◌, ◌≤◌, ◌⊎◌, ◌^◌, false, true, ℕ, List, [], ◌∷◌, ◌++◌, None, Option, Some, codes, decimal, length, take}
 use Rattle.std.specs.Io.KnownBytes.{Appends}
-use Rattle.book.specs.Answers.{IsAccepted}
-use Rattle.book.specs.Ledger.{Ledger}
-use Rattle.book.specs.Next.{accept}
+use Rattle.ledger.specs.Answers.{IsAccepted}
+use Rattle.ledger.specs.Ledger.{Ledger}
+use Rattle.ledger.specs.Next.{accept}
 use Rattle.desk.specs.Desk.{DeskState, LeavesEither, Snapshot, going_at, snapshot}
 use Rattle.desk.specs.Dialogue.{EndsCut, EndsWhole}
 use Rattle.desk.specs.Streams.{Streams}

@@ -1,8 +1,8 @@
 -- What the program does for a task, by what it reads and writes.
 use Rattle.std.specs.Prelude.{◌≡◌, ◌⊎◌, ℕ, List, [], ◌++◌}
 use Rattle.std.specs.Io.KnownBytes.{Appends, Keeps}
-use Rattle.book.specs.Good.{Good}
-use Rattle.book.specs.Ledger.{Ledger, new_ledger}
+use Rattle.ledger.specs.Good.{Good}
+use Rattle.ledger.specs.Ledger.{Ledger, new_ledger}
 use Rattle.clap.specs.Words.{Text, subcommand_of}
 use Rattle.desk.specs.Streams.{IsSilent, Streams}
 use Rattle.desk.specs.Text.{RepliesAll, items_of}

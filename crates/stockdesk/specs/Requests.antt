@@ -2,7 +2,7 @@
 use Rattle.std.specs.Prelude.{◌≡◌, ◌⊎◌, ◌↔◌, ◌++◌, ℕ, List, Option, IfSome}
 use Rattle.std.specs.declared.num.NonZeroUsize.{NonZeroUsize}
 use Rattle.std.specs.Io.KnownBytes.{Appends, Keeps}
-use Rattle.book.specs.Ledger.{Ledger}
+use Rattle.ledger.specs.Ledger.{Ledger}
 use Rattle.words.specs.declared.command.Request.{Request}
 use Rattle.desk.specs.Desk.{DeskState}
 use Rattle.desk.specs.Lists.{IsCutInLists}

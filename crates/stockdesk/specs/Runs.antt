@@ -3,7 +3,7 @@ use Rattle.std.specs.Prelude.{ℕ, List, [], ◌++◌, Option, Some}
 use Rattle.std.specs.Io.KnownBytes.{Appends, Consumes}
 use Rattle.words.specs.Stream.{Feeds}
 use Rattle.words.specs.declared.item.Item.{Item}
-use Rattle.book.specs.Ledger.{Ledger}
+use Rattle.ledger.specs.Ledger.{Ledger}
 use Rattle.desk.specs.Desk.{going_at}
 use Rattle.desk.specs.Dialogue.{IsPrompt}
 use Rattle.desk.specs.Script.{WritesText, lines}

@@ -1,12 +1,11 @@
 -- What a session does with a desk that is held, and with what it reads and writes.
 use Rattle.std.specs.Prelude.{◌≡◌, ◌≢◌, ◌≤◌, ◌⊎◌, ◌↔◌, ℕ, pos, [], ◌∷◌, IsTrue, false}
 use Rattle.sqlite_wal.specs.Recovery.{Image}
-use Rattle.book.specs.Good.{Good}
-use Rattle.book.specs.Ledger.{Ledger}
-use Rattle.book.specs.Rows.{Content, IsDamaged, IsRowsOf}
-use Rattle.keep.specs.Content.{IsDesk, IsOneRow, new_content}
-use Rattle.keep.specs.Description.{newest}
-use Rattle.keep.specs.Starts.{StartsOf}
+use Rattle.ledger.specs.Good.{Good}
+use Rattle.ledger.specs.Ledger.{Ledger}
+use Rattle.ledger.specs.Rows.{Content, IsDamaged, IsRowsOf}
+use Rattle.keep.specs.Content.{IsDesk, IsOneRow, new_content, newest}
+use Rattle.sql_keep.specs.Starts.{StartsOf}
 use Rattle.keep.specs.declared.keep.Keep.{Ghosts}
 use Rattle.desk.specs.Desk.{DeskState, DeskView, IsStored, desk_state}
 use Rattle.desk.specs.Opening.{IsLeft}

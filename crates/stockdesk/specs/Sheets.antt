@@ -1,7 +1,7 @@
 -- What is shown of a desk: a stock sheet.
 use Rattle.std.specs.Prelude.{◌≡◌, ◌≤◌, ◌⊎◌, ℕ, List, [], Option, length, take}
 use Rattle.std.specs.Io.KnownBytes.{Appends}
-use Rattle.book.specs.Ledger.{Ledger}
+use Rattle.ledger.specs.Ledger.{Ledger}
 use Rattle.files.specs.Sheets.{IsArticleSheet, IsBranchSheet}
 use Rattle.stockdesk.specs.declared.session.Fault.{Fault}
 use Rattle.stockdesk.specs.declared.sheet.SheetOf.{SheetOf}

@@ -1,7 +1,7 @@
 -- What a session does on the desk that a keeper holds.
 use Rattle.std.specs.Prelude.{◌≡◌, List, None, Result, Err, IfErr, OnOk}
 use Rattle.std.specs.Io.KnownBytes.{Keeps}
-use Rattle.book.specs.Ledger.{Ledger}
+use Rattle.ledger.specs.Ledger.{Ledger}
 use Rattle.keep.specs.declared.keep.Keep.{Ghosts}
 use Rattle.desk.specs.Desk.{DeskState, DeskView, Goes, TellsStop, desk_state}
 use Rattle.desk.specs.Headline.{IsFoundAfterItems, IsFoundAfterLines, LeavesRowsOf}

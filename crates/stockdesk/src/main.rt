@@ -3,7 +3,7 @@
 
 ghost use Rattle.std.specs.Prelude.{◌≡◌, ◌≢◌, ◌≤◌, ◌⊎◌, map};
 ghost use Rattle.desk.specs.Streams.{IsSilent, streams};
-ghost use Rattle.book.specs.Ledger.{new_ledger};
+ghost use Rattle.ledger.specs.Ledger.{new_ledger};
 ghost use Rattle.clap.specs.Words.{kind_of};
 ghost use Rattle.stockdesk.specs.Done.{DoesAsked, DoesAskedInPart};
 ghost use Rattle.stockdesk.specs.Runs.{AnswersText, BeginsText};

@@ -1,7 +1,7 @@
 //! A new desk in memory, which ends with the program.
 
 ghost use Rattle.std.specs.Prelude.{◌≡◌, IfErr, OnErr, OnOk};
-ghost use Rattle.book.specs.Ledger.{new_ledger};
+ghost use Rattle.ledger.specs.Ledger.{new_ledger};
 ghost use Rattle.desk.specs.Streams.{streams};
 ghost use Rattle.stockdesk.specs.Runs.{AnswersLines, AnswersText, BeginsText};
 ghost use Rattle.stockdesk.specs.Sessions.{IsUnbegun};

@@ -4,7 +4,8 @@ ghost use Rattle.std.specs.Prelude.{◌≡◌, ◌⊎◌, false, IfErr, IfOk};
 ghost use Rattle.stockdesk.specs.Sessions.{IsNewDesk};
 
 use crate::session::Fault;
-use keep::{Keep, KeepFault, SqlKeep};
+use keep::{Keep, KeepFault};
+use sql_keep::SqlKeep;
 use sqlite::{Alter, Connection};
 
 /// Makes a new desk over the connection, and gives its keeper. An error gives the connection back.

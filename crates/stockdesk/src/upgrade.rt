@@ -3,11 +3,12 @@
 ghost use Rattle.std.specs.Prelude.{◌≡◌, ◌↔◌, false, IfErr};
 ghost use Rattle.sqlite.specs.Held.{state};
 ghost use Rattle.sqlite.specs.State.{HasCleanDisk};
-ghost use Rattle.keep.specs.Old.{Upgrades};
+ghost use Rattle.sql_keep.specs.Old.{Upgrades};
 ghost use Rattle.stockdesk.specs.Sessions.{IsNotOpened};
 
 use crate::session::Fault;
-use keep::{KeepFault, SqlKeep};
+use keep::KeepFault;
+use sql_keep::SqlKeep;
 use sqlite::Alter;
 
 /// The fault that one of an upgrade is told as.

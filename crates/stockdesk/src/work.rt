@@ -1,9 +1,9 @@
 //! A session: work that is done on the desk that a keeper holds.
 
 ghost use Rattle.std.specs.Prelude.{◌≡◌, ◌⊎◌, ◌∷◌, [], false, Err, IfErr, IsTrue, OnOk};
-ghost use Rattle.book.specs.Good.{Good};
-ghost use Rattle.book.specs.Ledger.{Ledger};
-ghost use Rattle.book.specs.Rows.{Content, IsRowsOf};
+ghost use Rattle.ledger.specs.Good.{Good};
+ghost use Rattle.ledger.specs.Ledger.{Ledger};
+ghost use Rattle.ledger.specs.Rows.{Content, IsRowsOf};
 ghost use Rattle.desk.specs.Desk.{Goes, TellsStop, desk_state};
 ghost use Rattle.desk.specs.Streams.{streams};
 ghost use Rattle.stockdesk.specs.Outside.{outside};

@@ -1,8 +1,8 @@
 -- The answer to a message, by what it asks for.
 use Rattle.std.proofs.Common.{◌≡◌, ◌∙◌, Bool, MatchBool, true, false, true≢false, ℕ, List, ap, refl, subst, sym}
 use Rattle.words.specs.declared.command.Request.{Request}
-use Rattle.book.specs.Answers.{IsAccepted}
-use Rattle.book.specs.Next.{accept}
+use Rattle.ledger.specs.Answers.{IsAccepted}
+use Rattle.ledger.specs.Next.{accept}
 use Rattle.desk.specs.Desk.{DeskState, LeavesEither, Snapshot, StopsCall, snapshot}
 use Rattle.desk.specs.Dialogue.{AnswerKind, AnswersOne, bytes_of, no_memory, ordinary, stopping}
 use Rattle.desk.specs.declared.answer.Answer.{Answer as Text}

@@ -2,8 +2,8 @@
 use Rattle.std.proofs.Common.{◌≡◌, ◌∙◌, Bool, true, false, ℕ, List, [], ◌∷◌, Option, Some, None, MatchOption, MatchBool, ap, refl, subst, sym}
 use Rattle.std.specs.Str.{bytes_eq}
 use Rattle.serde_json.specs.Data.{Data}
-use Rattle.book.proofs.Runs.{answered_once}
-use Rattle.book.specs.Ledger.{Field, Ledger, Name, field_named, kept_under, name_of, order_numbered}
+use Rattle.ledger.proofs.Runs.{answered_once}
+use Rattle.ledger.specs.Ledger.{Field, Ledger, Name, field_named, kept_under, name_of, order_numbered}
 use Rattle.book.specs.declared.book.views.FieldView.{FieldView}
 use Rattle.desk.specs.Desk.{Snapshot}
 use Rattle.desk.specs.Dialogue.{AnswerKind, AreAnswers, IsTranscript, no_memory, ordinary, stopping, text_of}

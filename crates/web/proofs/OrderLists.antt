@@ -9,13 +9,12 @@ use Rattle.std.specs.List.Sorted.{IsStrictlySortedBy}
 use Rattle.serde_json.specs.Data.{Data, array, null}
 use Rattle.serde_json.specs.View.{items_of}
 use Rattle.serde_json.specs.Written.{has_float, items_have_float}
-use Rattle.book.proofs.CommandOrder.{each-found}
-use Rattle.book.proofs.Futures.{find_self, less_is}
-use Rattle.book.proofs.Lists.{each-unmap}
-use Rattle.book.proofs.Sums.{each-imp}
-use Rattle.book.specs.Good.{Good, IsGoodOrder}
-use Rattle.book.specs.Ledger.{Ledger, Order, is_open, order_numbered}
-use Rattle.book.specs.Next.{expires}
+use Rattle.ledger.proofs.OrderApart.{each-found}
+use Rattle.ledger.proofs.Lists.{each-unmap, find_self}
+use Rattle.ledger.proofs.Sums.{each-imp, less_is}
+use Rattle.ledger.specs.Good.{Good, IsGoodOrder}
+use Rattle.ledger.specs.Ledger.{Ledger, Order, is_open, order_numbered}
+use Rattle.ledger.specs.Next.{expires}
 use Rattle.book.specs.Views.{ShowsOrder, open_from}
 use Rattle.book.specs.declared.book.views.OrderView.{OrderView}
 use Rattle.escrow.specs.Ranges.{IsOrderNo}

@@ -3,12 +3,12 @@ use Rattle.std.proofs.Common.{◌≡◌, ◌∙◌, ℕ, false, List, [], ◌∷
 use Rattle.serde_json.specs.Data.{Data}
 use Rattle.serde_json.specs.View.{items_of}
 use Rattle.serde_json.specs.Written.{compact_text, has_float, items_have_float}
-use Rattle.book.specs.Ledger.{Order, shown_state}
+use Rattle.ledger.specs.Ledger.{Order, shown_state}
 use Rattle.book.specs.Views.{ShowsOrder}
 use Rattle.book.specs.declared.book.views.OrderView.{OrderView}
-use Rattle.book.specs.declared.order.Kind.{Kind}
-use Rattle.book.specs.declared.order.Line.{Line}
-use Rattle.book.specs.declared.order.Standing.{Standing}
+use Rattle.ledger.specs.declared.order.Kind.{Kind}
+use Rattle.ledger.specs.declared.order.Line.{Line}
+use Rattle.ledger.specs.declared.order.Standing.{Standing}
 use Rattle.web.specs.Objects.{line_object, order_object, shown_object, view_object}
 
 lines_have_no_float : (lines : List Line) → items_have_float (items_of (map line_object lines)) ≡ false

@@ -3,11 +3,11 @@ use Rattle.std.proofs.Common.{◌≡◌, Bool, true, false, ℕ, List, [], ◌�
 use Rattle.std.specs.List.{AllByRecursion as Each}
 use Rattle.std.specs.Str.{bytes_eq}
 use Rattle.serde_json.specs.Data.{Data}
-use Rattle.book.proofs.Goodness.{good_answer}
-use Rattle.book.proofs.Runs.{answered_if_good}
+use Rattle.ledger.proofs.Goodness.{good_answer}
+use Rattle.ledger.proofs.Runs.{answered_if_good}
 use Rattle.book.proofs.ShownNumbers.{Contains-of_find}
-use Rattle.book.specs.Good.{Good}
-use Rattle.book.specs.Ledger.{Field, Ledger, Name, field_named, kept_under, name_of, order_numbered, same_name}
+use Rattle.ledger.specs.Good.{Good}
+use Rattle.ledger.specs.Ledger.{Field, Ledger, Name, field_named, kept_under, name_of, order_numbered, same_name}
 use Rattle.desk.specs.Desk.{DeskState, Snapshot, snapshot}
 use Rattle.desk.specs.Dialogue.{AnswerKind, AreAnswers, BeginsTranscript, EndsCut, IsTranscript, ordinary, text_of}
 use Rattle.desk.specs.Streams.{Streams}

@@ -5,8 +5,8 @@ use Rattle.std.specs.Str.{IsUtf8, bytes_eq}
 use Rattle.serde_json.specs.Data.{Data}
 use Rattle.book.proofs.ShownNumbers.{Contains-of_find}
 use Rattle.book.proofs.Texts.{spelling_utf8}
-use Rattle.book.specs.Good.{Good, IsGoodKept}
-use Rattle.book.specs.Ledger.{Field, Kept, Ledger, field_named, kept_under, name_of}
+use Rattle.ledger.specs.Good.{Good, IsGoodKept}
+use Rattle.ledger.specs.Ledger.{Field, Kept, Ledger, field_named, kept_under, name_of}
 use Rattle.book.specs.Views.{ShowsField, ShowsKept}
 use Rattle.book.specs.declared.book.views.FieldView.{FieldView}
 use Rattle.book.specs.declared.book.views.KeptView.{KeptView}

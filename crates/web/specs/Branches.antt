@@ -4,7 +4,7 @@ use Rattle.std.specs.Str.{bytes_eq}
 use Rattle.std.specs.Cmp.Lexicographic.{slice_cmp}
 use Rattle.std.specs.List.Sorted.{IsStrictlySortedBy}
 use Rattle.std.specs.Ordering.{nat_cmp}
-use Rattle.book.specs.Ledger.{Field}
+use Rattle.ledger.specs.Ledger.{Field}
 
 -- the branches of the fields: fields in the order of their names have exactly one such list
 pub record AreBranches (fields : List Field) (branches : List (List ℕ)) : Type 0 where

@@ -5,11 +5,11 @@ use Rattle.escrow.specs.declared.quantity.Way.TheVariants.{Add, Take}
 use Rattle.words.specs.declared.command.Command.TheVariants.{Firm}
 use Rattle.words.specs.declared.reply.Refusal.TheVariants.{TooLittle}
 use Rattle.words.specs.declared.reply.Reply.TheVariants.{Done, Refused}
-use Rattle.book.specs.Ledger.{Kept, Ledger, Order, name_of}
+use Rattle.ledger.specs.Ledger.{Kept, Ledger, Order, name_of}
 use Rattle.book.specs.declared.book.views.FieldView.{FieldView}
-use Rattle.book.specs.declared.order.Kind.TheVariants.{Plain, Transfer}
-use Rattle.book.specs.declared.order.Line.{Line}
-use Rattle.book.specs.declared.order.State.TheVariants.{Aborted, Committed, Open}
+use Rattle.ledger.specs.declared.order.Kind.TheVariants.{Plain, Transfer}
+use Rattle.ledger.specs.declared.order.Line.{Line}
+use Rattle.ledger.specs.declared.order.State.TheVariants.{Aborted, Committed, Open}
 use Rattle.web.specs.Answers.{Answer, answer_bytes, bad_answer, head_line, json_answer, memory_answer, message_answer, none_answer, reply_answer, stopped_answer, text_answer}
 use Rattle.web.specs.Objects.{branches_object, desk_object, field_object, kept_object, order_object, orders_object}
 use Rattle.web.specs.Orders.{due, open_above}

@@ -6,12 +6,12 @@ use Rattle.words.specs.OpenLines.{way_word}
 use Rattle.words.specs.Spelling.{spelling}
 use Rattle.words.specs.Replies.{refusal_code, refusal_name}
 use Rattle.words.specs.declared.reply.Refusal.{Refusal}
-use Rattle.book.specs.Ledger.{Kept, Ledger, Order, open_orders, order_numbered, places, shown_state}
+use Rattle.ledger.specs.Ledger.{Kept, Ledger, Order, open_orders, order_numbered, places, shown_state}
 use Rattle.book.specs.declared.book.views.FieldView.{FieldView}
 use Rattle.book.specs.declared.book.views.OrderView.{OrderView}
-use Rattle.book.specs.declared.order.Kind.{Kind}
-use Rattle.book.specs.declared.order.Line.{Line}
-use Rattle.book.specs.declared.order.Standing.{Standing}
+use Rattle.ledger.specs.declared.order.Kind.{Kind}
+use Rattle.ledger.specs.declared.order.Line.{Line}
+use Rattle.ledger.specs.declared.order.Standing.{Standing}
 use Rattle.desk.specs.Replies.{kind_word, state_word}
 
 -- a name and its value

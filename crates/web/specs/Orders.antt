@@ -1,7 +1,7 @@
 -- Which orders a list shows: fifty at the most, as a number here, so that another limit of the code is refused.
 use Rattle.std.specs.Prelude.{◌&&◌, ℕ, List, filter, map, nat_lt, take}
-use Rattle.book.specs.Ledger.{Ledger, Order, is_open}
-use Rattle.book.specs.Next.{expires}
+use Rattle.ledger.specs.Ledger.{Ledger, Order, is_open}
+use Rattle.ledger.specs.Next.{expires}
 
 -- the open orders above that number
 abbrev pub opens : Ledger → ℕ → List Order

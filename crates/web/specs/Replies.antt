@@ -2,8 +2,8 @@
 use Rattle.std.specs.Prelude.{◌≡◌, ℕ, List, MatchOption, Option}
 use Rattle.serde_json.specs.Data.{Data}
 use Rattle.words.specs.declared.reply.Reply.{Reply}
-use Rattle.book.specs.Answers.{Answers}
-use Rattle.book.specs.Ledger.{Field, Ledger, field_named, kept_under, name_of, order_numbered}
+use Rattle.ledger.specs.Answers.{Answers}
+use Rattle.ledger.specs.Ledger.{Field, Ledger, field_named, kept_under, name_of, order_numbered}
 use Rattle.book.specs.Views.{ShowsField}
 use Rattle.book.specs.declared.book.views.FieldView.{FieldView}
 use Rattle.files.specs.Sheets.{IsArticleSheet, IsBranchSheet}

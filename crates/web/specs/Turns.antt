@@ -1,7 +1,7 @@
 -- How a part of a stream is found and answered (private: how a connection is served).
 use Rattle.std.specs.Prelude.{◌≡◌, Bool, false, true, ℕ, List, [], ◌∷◌, ◌++◌, length, suc}
 use Rattle.words.specs.declared.command.Request.{Request}
-use Rattle.book.specs.Ledger.{Ledger}
+use Rattle.ledger.specs.Ledger.{Ledger}
 use Rattle.desk.specs.Desk.{DeskState, Snapshot}
 use Rattle.desk.specs.Dialogue.{AnswersOne, Begins, bytes_of}
 use Rattle.desk.specs.declared.answer.Answer.{Answer as Text}

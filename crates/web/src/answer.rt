@@ -2,7 +2,7 @@
 
 ghost use Rattle.std.specs.Prelude.{◌≡◌, ◌++◌, IfOk, OnOk};
 ghost use Rattle.std.specs.Str.{IsUtf8};
-ghost use Rattle.book.specs.Ledger.{Order};
+ghost use Rattle.ledger.specs.Ledger.{Order};
 ghost use Rattle.book.specs.Views.{ShowsOrder};
 ghost use Rattle.web.specs.Answers.{Answer, answer_bytes, header_line, json_answer, json_of, reply_answer, status_line, text_answer};
 ghost use Rattle.web.specs.Objects.{branches_object, desk_object, field_object, listed_object, order_object, place_object, placed_object, refused_object};

@@ -2,7 +2,7 @@
 
 ghost use Rattle.std.specs.Prelude.{◌≡◌, ◌≢◌, false, ℕ, List};
 ghost use Rattle.std.specs.List.{AllByRecursion as Each};
-ghost use Rattle.book.specs.Good.{Good};
+ghost use Rattle.ledger.specs.Good.{Good};
 ghost use Rattle.desk.specs.Desk.{Snapshot};
 ghost use Rattle.desk.specs.Dialogue.{AnswerKind, AreAnswers, IsTranscript, ordinary};
 ghost use Rattle.web.specs.Answers.{Answer, stopped_answer};

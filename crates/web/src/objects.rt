@@ -4,13 +4,14 @@ ghost use Rattle.std.specs.Prelude.{◌≡◌, IfOk};
 ghost use Rattle.std.specs.Str.{IsUtf8};
 ghost use Rattle.serde_json.specs.View.{view as data_of};
 ghost use Rattle.serde_json.specs.Written.{compact_text};
-ghost use Rattle.book.specs.Ledger.{Order};
+ghost use Rattle.ledger.specs.Ledger.{Order};
 ghost use Rattle.book.specs.Views.{ShowsOrder};
 ghost use Rattle.web.specs.Objects.{branches_object, desk_object, field_object, line_object, line_objects, listed_object, listed_objects, numbered_object, order_object, view_object, place_object, placed_object, refused_object, texts};
 
 use crate::word::{article_text, branch_text, kind_text, state_text, utf8_text, way_text};
-use book::{Book, FieldView, KeptView, Line, OrderView};
+use book::{Book, FieldView, KeptView, OrderView};
 use escrow::{Branch, OrderNo};
+use ledger::Line;
 use serde_json::{Value, json};
 use std::alloc::{AllocError, Global};
 use words::Refusal;

@@ -1,7 +1,7 @@
 //! The orders that a list shows.
 
 ghost use Rattle.std.specs.Prelude.{◌≡◌, [], ◌∷◌, IfOk, MatchOption, map};
-ghost use Rattle.book.specs.Good.{Good};
+ghost use Rattle.ledger.specs.Good.{Good};
 ghost use Rattle.web.specs.Orders.{due, open_above, open_left};
 
 use book::Book;

@@ -1,7 +1,7 @@
 //! What is shown of a book where a view is asked for.
 
 ghost use Rattle.std.specs.Prelude.{IfOk};
-ghost use Rattle.book.specs.Good.{Good};
+ghost use Rattle.ledger.specs.Good.{Good};
 ghost use Rattle.web.specs.Turns.{IsNoCall, ShowsView};
 ghost use Rattle.web.specs.declared.ask.Ask.TheVariants as ask;
 

@@ -5,8 +5,8 @@ ghost use Rattle.std.specs.Str.{IsUtf8};
 ghost use Rattle.words.specs.OpenLines.{way_word};
 ghost use Rattle.desk.specs.Replies.{kind_word, state_word};
 
-use book::{Kind, Standing};
 use escrow::{Article, Branch, Way};
+use ledger::{Kind, Standing};
 use std::str;
 
 /// The text that UTF-8 bytes are.

@@ -11,12 +11,12 @@ use Rattle.words.specs.declared.reply.Refusal.{Refusal}
 use Rattle.words.specs.declared.reply.Refusal.TheVariants.{OtherWay, TooLittle, TooManyLines, TooMuch}
 use Rattle.words.specs.declared.limits.TheConstants.{MAX_ORDER_LINES}
 use Rattle.book.specs.Model.{entry_row}
-use Rattle.book.specs.inner.FieldRows.{field_rows}
-use Rattle.book.specs.Answers.{Check, FirstFailure, check}
-use Rattle.book.specs.Held.{BreaksBound}
-use Rattle.book.specs.Future.{AsksNoStock}
-use Rattle.book.specs.Ledger.{Ledger, Name, Order, line_on, name_cmp}
-use Rattle.book.specs.inner.RunningNumbers.{Accepts}
+use Rattle.ledger.specs.inner.FieldRows.{field_rows}
+use Rattle.ledger.specs.Answers.{Check, FirstFailure, check}
+use Rattle.ledger.specs.Held.{BreaksBound}
+use Rattle.ledger.specs.Future.{AsksNoStock}
+use Rattle.ledger.specs.Ledger.{Ledger, Name, Order, line_on, name_cmp}
+use Rattle.ledger.specs.inner.Shares.{Accepts}
 use Rattle.book.specs.declared.book.FieldEntry.{FieldEntry}
 
 -- the refusal and the line of the first of the checks that fails, or else something with the property

@@ -12,11 +12,11 @@ use Rattle.book.specs.declared.book.made.LineChange.TheVariants.{Hold, Release, 
 use Rattle.book.specs.declared.book.made.OrderChange.{OrderChange}
 use Rattle.book.specs.declared.book.made.OrderChange.TheVariants.{ChangeLines, End, HoldMore, MakeFirm}
 use Rattle.book.specs.declared.order.OrderEntry.{OrderEntry}
-use Rattle.book.specs.declared.order.Line.{Line}
-use Rattle.book.specs.declared.order.State.TheVariants.{Aborted}
-use Rattle.book.specs.Ledger.{Ledger, Order, line_name, on, order_numbered, transfer_kind}
+use Rattle.ledger.specs.declared.order.Line.{Line}
+use Rattle.ledger.specs.declared.order.State.TheVariants.{Aborted}
+use Rattle.ledger.specs.Ledger.{Ledger, Order, line_name, on, order_numbered, transfer_kind}
 use Rattle.book.specs.Model.{order_of}
-use Rattle.book.specs.Next.{Changes, Effect, Nothing, Opens, add_hold, change_lines, expires, lower_held, new_line, numbered, raise_held, raise_used, set_firm, set_state}
+use Rattle.ledger.specs.Next.{Changes, Effect, Nothing, Opens, add_hold, change_lines, expires, lower_held, new_line, numbered, raise_held, raise_used, set_firm, set_state}
 
 abbrev pub changed_line : LineChange → Line → Line
 changed_line (Hold q) l = raise_held q l

@@ -3,7 +3,7 @@ use Rattle.std.specs.Prelude.{◌≡◌, ◌<◌, ◌≤◌, ◌-◌, ℕ, Bool,
 use Rattle.std.specs.List.{filter}
 use Rattle.std.specs.Map.{keys_of}
 use Rattle.std.specs.Ordering.{match_ordering, nat_cmp}
-use Rattle.book.specs.Ledger.{open_state}
+use Rattle.ledger.specs.Ledger.{open_state}
 use Rattle.book.specs.declared.order.OrderEntry.{OrderEntry}
 
 -- the numbers of those that are open

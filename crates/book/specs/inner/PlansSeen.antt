@@ -1,9 +1,9 @@
 -- Plans as the book sees them: parts, and the rows that change.
 use Rattle.std.specs.Prelude.{◌≡◌, pos, [], ◌∷◌, map, option_map}
 use Rattle.book.specs.Model.{entry_row, move_of, order_of, slots_of}
-use Rattle.book.specs.Next.{move_made}
+use Rattle.ledger.specs.Next.{move_made}
 use Rattle.book.specs.Plans.{PlanView}
-use Rattle.book.specs.Rows.{Content}
+use Rattle.ledger.specs.Rows.{Content}
 use Rattle.book.specs.declared.book.plan.PlanParts.{PlanParts}
 
 -- the plan of these parts, which changes these rows

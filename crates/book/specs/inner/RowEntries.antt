@@ -4,41 +4,33 @@ use Rattle.std.specs.Ordering.{nat_cmp}
 use Rattle.std.specs.Cmp.Lexicographic.{slice_cmp}
 use Rattle.std.specs.List.Sorted.{IsStrictlySortedBy}
 use Rattle.std.specs.Map.{keys_of}
-use Rattle.std.specs.List.{AllByRecursion as Each, AllZip, IsDistinct}
+use Rattle.std.specs.List.{AllByRecursion as Each, IsDistinct}
 use Rattle.escrow.specs.Codes.{IsArticle, IsBranch, IsKey}
 use Rattle.escrow.specs.Ranges.{IsLevel, IsMoment, IsOrderNo, IsQty}
 use Rattle.escrow.specs.Stock.{Stock}
 use Rattle.words.specs.Spelling.{IsInRange}
 use Rattle.words.specs.declared.limits.TheConstants.{MAX_ORDER_LINES}
-use Rattle.book.specs.declared.limits.TheConstants.{MAX_FIELDS, MAX_ORDERS, MAX_PLACES}
+use Rattle.ledger.specs.declared.limits.TheConstants.{MAX_FIELDS, MAX_ORDERS, MAX_PLACES}
 use Rattle.book.specs.declared.book.tables.Entries.{Entries}
 use Rattle.book.specs.declared.book.tables.group.Head.{Head}
 use Rattle.book.specs.declared.book.tables.sums.Numbers.{Numbers}
 use Rattle.book.specs.declared.book.FieldEntry.{FieldEntry}
 use Rattle.book.specs.declared.book.KeptEntry.{KeptEntry}
 use Rattle.book.specs.declared.book.MoveEntry.{MoveEntry}
-use Rattle.book.specs.declared.order.State.TheVariants.{Aborted}
-use Rattle.book.specs.declared.order.Line.{Line}
-use Rattle.book.specs.declared.rows.FieldRow.{FieldRow}
-use Rattle.book.specs.declared.rows.FirmRow.{FirmRow}
-use Rattle.book.specs.declared.rows.KeptRow.{KeptRow}
-use Rattle.book.specs.declared.rows.LineRow.{LineRow}
-use Rattle.book.specs.declared.rows.MoveRow.{MoveRow}
-use Rattle.book.specs.declared.rows.OrderRow.{OrderRow}
-use Rattle.book.specs.Good.{Good, IsGoodField, IsGoodKept, IsTransferPair}
-use Rattle.book.specs.Ledger.{Field, Ledger, Move, Name, Order, is_transfer, line_name, name_cmp, open_orders, places, same_name}
-use Rattle.book.specs.Rows.{Content, FieldCells, FirmCells, LineCells, OrderCells, desk_row, firm_row, firm_rows, kind_code, kept_row, move_row, order_lines, order_row, state_code, way_code}
+use Rattle.ledger.specs.declared.order.State.TheVariants.{Aborted}
+use Rattle.ledger.specs.declared.order.Line.{Line}
+use Rattle.ledger.specs.declared.rows.FieldRow.{FieldRow}
+use Rattle.ledger.specs.declared.rows.FirmRow.{FirmRow}
+use Rattle.ledger.specs.declared.rows.KeptRow.{KeptRow}
+use Rattle.ledger.specs.declared.rows.LineRow.{LineRow}
+use Rattle.ledger.specs.declared.rows.MoveRow.{MoveRow}
+use Rattle.ledger.specs.declared.rows.OrderRow.{OrderRow}
+use Rattle.ledger.specs.Good.{Good, IsGoodField, IsGoodKept, IsTransferPair}
+use Rattle.ledger.specs.Ledger.{Ledger, Move, Name, Order, is_transfer, line_name, name_cmp, open_orders, places, same_name}
+use Rattle.ledger.specs.Rows.{FirmCells, LineCells, OrderCells, firm_row, firm_rows, kind_code, kept_row, move_row, order_lines, order_row, state_code, way_code}
 use Rattle.book.specs.inner.RunningNumbers.{IsUpToDate}
-use Rattle.book.specs.Tables.{kept_cells, line_cells, move_cells, order_cells}
+use Rattle.ledger.specs.Tables.{kept_cells, line_cells, move_cells, order_cells}
 use Rattle.book.specs.Model.{field_of, kept_of, move_of, order_of}
-
--- the row tells the field's name, its bounds and its start; of its three other numbers nothing is said
-pub record TellsField (f : Field) (row : FieldCells) : Type 0 where
-  pub branch : row.branch ≡ f.name.branch
-  pub article : row.article ≡ f.name.article
-  pub lo : row.lo ≡ pos f.lo
-  pub hi : row.hi ≡ pos f.hi
-  pub start : row.start ≡ pos f.start
 
 -- the row tells the line, of whatever order and number
 pub record TellsLine (l : Line) (row : LineCells) : Type 0 where
@@ -127,10 +119,6 @@ abbrev pub BeginsOther : ℕ → List LineRow → Type 0
 BeginsOther number [] = Unit {0}
 BeginsOther number (row ∷ rows) = row.number ≡ pos number → ⊥
 
--- none is a row of that order
-abbrev pub AreOthers : ℕ → List LineCells → Type 0
-AreOthers number rows = Each (λ row. row.number ≡ pos number → ⊥) rows
-
 -- the rows of orders and lines tell these orders
 pub record TellOrders (orders : List Order) (heads : List Head) (lines : List LineCells) : Type 0 where
   pub heads_are : map head_of orders ≡ heads
@@ -152,17 +140,6 @@ told_ledger e = record {
   orders = map order_of e.orders.items;
   kept = map kept_of e.kept.items;
 }
-
--- The content is the ledger's rows, but for the value, the infimum and the supremum of its fields, of which nothing is
--- said.
-pub record TellsLedger (A : Ledger) (C : Content) : Type 0 where
-  pub desk : C.desk ≡ desk_row A ∷ []
-  pub fields : AllZip TellsField A.fields C.fields
-  pub moves : C.moves ≡ map move_row A.moves
-  pub orders : C.orders ≡ map order_row A.orders
-  pub lines : C.lines ≡ flat_map order_lines A.orders
-  pub kept : C.kept ≡ map kept_row A.kept
-  pub firms : C.firms ≡ flat_map firm_rows A.orders
 
 -- what its clock, its fields and its kept keys are by themselves
 pub record IsInForm (A : Ledger) : Type 0 where

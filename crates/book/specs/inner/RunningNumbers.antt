@@ -1,34 +1,27 @@
 -- Running numbers: the entry of each field keeps its quantity, whose numbers are those of the ledger.
-use Rattle.std.specs.Prelude.{◌≡◌, ◌+◌, ◌≤◌, ℤ, pos, ◌-ℤ◌, ◌+ℤ◌, ◌≤ℤ◌, Bool, false, true, ◌&&◌, ◌++◌, List, Option, None, Some, find, flat_map, map, if◌then◌else◌, is_some}
+use Rattle.std.specs.Prelude.{◌≡◌, ◌+◌, ◌≤◌, pos, ◌-ℤ◌, ◌+ℤ◌, Bool, false, true, ◌&&◌, ◌++◌, List, Some, find, is_some}
 use Rattle.std.specs.BTreeMap.{insert_entry, is_at}
 use Rattle.std.specs.Map.{lookup}
-use Rattle.std.specs.Option.{option_map_or}
 use Rattle.std.specs.List.{AllByRecursion as Each, fold, list_any}
-use Rattle.escrow.specs.Codes.{IsKey}
 use Rattle.escrow.specs.Escrow.{held_of}
 use Rattle.escrow.specs.Stock.{Stock}
 use Rattle.escrow.specs.declared.quantity.Way.{Way}
-use Rattle.words.specs.Spelling.{IsInRange}
-use Rattle.words.specs.declared.command.Command.{Command}
 use Rattle.words.specs.declared.command.Request.{Request}
 use Rattle.words.specs.declared.open_line.OpenLine.{OpenLine}
-use Rattle.book.specs.inner.FieldRows.{field_row}
-use Rattle.book.specs.Answers.{IsAccepted}
-use Rattle.book.specs.Changes.{changes_field}
-use Rattle.book.specs.Good.{Good}
-use Rattle.book.specs.Held.{held_to_add, held_to_take, if_add, if_take}
-use Rattle.book.specs.Ledger.{Field, Ledger, Name, Order, line_name, name_cmp, name_of, open_state, same_name, settled_state, unsettled}
-use Rattle.book.specs.Next.{accept}
-use Rattle.book.specs.Outcomes.{settled, signed, total}
-use Rattle.book.specs.Rows.{FieldCells}
-use Rattle.book.specs.Steps.{LineStep, Step, changes_stock, lines_of, steps_of}
+use Rattle.ledger.specs.inner.FieldRows.{field_row}
+use Rattle.ledger.specs.Changes.{changes_field}
+use Rattle.ledger.specs.Good.{Good}
+use Rattle.ledger.specs.Held.{held_to_add, held_to_take, if_add, if_take}
+use Rattle.ledger.specs.Ledger.{Field, Ledger, Name, name_cmp, name_of, same_name}
+use Rattle.ledger.specs.Next.{accept}
+use Rattle.ledger.specs.Outcomes.{settled, signed}
+use Rattle.ledger.specs.Rows.{FieldCells}
 use Rattle.book.specs.Model.{entry_row, field_of, ledger_of}
 use Rattle.book.specs.declared.book.Book.TheInside.{Inside}
 use Rattle.book.specs.declared.book.FieldEntry.{FieldEntry}
 use Rattle.book.specs.declared.book.tables.sums.Numbers.{Numbers}
-use Rattle.book.specs.declared.order.Line.{Line}
-use Rattle.book.specs.declared.order.Share.{Share}
-use Rattle.book.specs.declared.order.State.{State}
+use Rattle.ledger.specs.declared.order.Share.{Share}
+use Rattle.ledger.specs.inner.Shares.{no_share, ShareStep, settled_part, take_part, add_part, added_on, AreHeld}
 
 -- The entry's quantity has the field's settled value, and what it holds is what the open orders hold on the field.
 abbrev pub IsUpToDate : Ledger → Name × FieldEntry → Type 0
@@ -43,18 +36,6 @@ abbrev pub with_entries : List (Name × FieldEntry) → List (Name × FieldEntry
 with_entries new old = fold (λ entries e. insert_entry name_cmp entries e.0 e.1) old new
 
 -- ---- a field's stock, as a line on it changes
-
--- what a line counts for in the stock of its field, where its order has the state, and is firm or not
-abbrev pub share_of : State → Bool → Line → Share
-share_of s firm l =
-    record {
-      settled = if settled_state s firm then l.used else 0;
-      held = if open_state s then unsettled firm l l.held
-          else 0;
-    }
-
-abbrev pub no_share : Share
-no_share = record { settled = 0; held = 0 }
 
 -- what the share of a line that way adds up to
 abbrev pub share_numbers : Way → Share → Numbers
@@ -76,14 +57,6 @@ pub record MayBecome (old : Stock) (way : Way) (before after : Share) : Type 0 w
 
 -- ---- the fields that a request changes
 
--- The request is accepted at a good ledger, in range, and the next ledger is good.
-pub record Accepts (A : Ledger) (r : Request) : Type 0 where
-  pub accepted : IsAccepted A r
-  pub key : IsKey r.key
-  pub range : IsInRange r.command
-  pub before : Good A
-  pub after : Good (accept A r)
-
 -- the entry is that of one of these fields that passes a test, and has its row
 pub record IsOneOf (t : Name → Bool) (row : Field → FieldCells) (fs : List Field) (e : Name × FieldEntry) : Type 0 where
   pub field : Field
@@ -101,54 +74,6 @@ HasEntry entries n = is_some (lookup (is_at (name_cmp n)) entries) ≡ true
 
 -- ---- what the lines count for
 
--- what a line counts for in the stock of its field, before a step and after it, and whether that stock changes
-pub record ShareStep : Type 0 where
-  pub name : Name
-  pub way : Way
-  pub before : Share
-  pub after : Share
-  pub changes : Bool
-
--- what a line counted for, if there were such an order and such a line
-abbrev pub share_before : Option Order → Option Line → Share
-share_before None l = no_share
-share_before (Some o) l = option_map_or (share_of o.state o.firm) l no_share
-
-abbrev pub share_step : Step → LineStep → ShareStep
-share_step s l = record {
-  name = line_name l.after;
-  way = l.after.way;
-  before = share_before s.before l.before;
-  after = share_of s.after.state s.after.firm l.after;
-  changes = changes_stock s l;
-}
-
--- those of the lines of an order, and of all orders that the command opens or changes
-abbrev pub shares_of_step : Step → List ShareStep
-shares_of_step s = map (share_step s) (lines_of s)
-
-abbrev pub share_steps : Ledger → Command → List ShareStep
-share_steps A c = flat_map shares_of_step (steps_of A c)
-
--- the parts of a stock to which a line's share adds: what is settled, what is held to take, what is held to add
-abbrev pub settled_part : Way → Share → ℤ
-settled_part w s = signed w s.settled
-
-abbrev pub take_part : Way → Share → ℤ
-take_part w s = pos (if_take w s.held)
-
-abbrev pub add_part : Way → Share → ℤ
-add_part w s = pos (if_add w s.held)
-
--- what these steps add on a field
-abbrev pub added_on : (Way → Share → ℤ) → Name → List ShareStep → ℤ
-added_on part f steps =
-    total (λ s. if same_name f s.name then part s.way s.after -ℤ part s.way s.before else pos 0) steps
-
--- what there was before them
-abbrev pub before_on : (Way → Share → ℤ) → Name → List ShareStep → ℤ
-before_on part f steps = total (λ s. if same_name f s.name then part s.way s.before else pos 0) steps
-
 -- the entry is that of a field of the ledger, with what these steps add
 pub record Counts (A : Ledger) (steps : List ShareStep) (e : Name × FieldEntry) : Type 0 where
   pub there : find (λ g. same_name e.0 g.name) A.fields ≡ Some (field_of e)
@@ -164,11 +89,6 @@ pub record CountsAll (A : Ledger) (steps : List ShareStep) (entries : List (Name
   -- where the stock does not change, the line counts as before
   pub alike : Each (λ s. s.changes ≡ false → s.after ≡ s.before) steps
 
--- No line of these steps counted for more than is held on its field, with all of them.
-abbrev pub AreHeld : Ledger → List ShareStep → Type 0
-AreHeld A steps = (n : Name) → (before_on take_part n steps ≤ℤ held_to_take A n)
-    × (before_on add_part n steps ≤ℤ held_to_add A n)
-
 -- where entries have counted other steps before, and these may be counted, they are then counted too
 abbrev pub CountsMore : Ledger → List ShareStep → List (Name × FieldEntry) → List (Name × FieldEntry) → Type 0
 CountsMore A steps old new = (done : List ShareStep) → CountsAll A done old → AreHeld A (done ++ steps)
@@ -177,12 +97,6 @@ CountsMore A steps old new = (done : List ShareStep) → CountsAll A done old �
 -- other steps have been counted, and these may be
 abbrev pub MayCount : Ledger → List ShareStep → List (Name × FieldEntry) → Type 0
 MayCount A steps old = (done : List ShareStep) × CountsAll A done old × AreHeld A (done ++ steps)
-
--- what is settled stays so, and what is settled then was settled or held; a stock that does not change is counted alike
-pub record Falls (s : ShareStep) : Type 0 where
-  pub settled : s.before.settled ≤ s.after.settled
-  pub used : s.after.settled + s.after.held ≤ s.before.settled + s.before.held
-  pub same : s.changes ≡ false → s.after ≡ s.before
 
 -- the share of a new line of an open order
 abbrev pub new_share : OpenLine → ShareStep

@@ -8,17 +8,17 @@ use Rattle.std.specs.Ordering.{nat_cmp}
 use Rattle.std.specs.declared.cmp.Ordering.{Ordering}
 use Rattle.words.specs.declared.command.Command.{Command}
 use Rattle.words.specs.declared.command.Request.{Request}
-use Rattle.book.specs.Answers.{FirstFailure, checks}
-use Rattle.book.specs.Changes.{amount_rows, state_row, mark_row}
-use Rattle.book.specs.Ledger.{Ledger, Order, order_numbered, places}
+use Rattle.ledger.specs.Answers.{FirstFailure, checks}
+use Rattle.ledger.specs.Changes.{amount_rows, state_row, mark_row}
+use Rattle.ledger.specs.Ledger.{Ledger, Order, order_numbered, places}
 use Rattle.book.specs.Model.{entry_row, move_of, order_of}
-use Rattle.book.specs.Next.{move_made, next}
-use Rattle.book.specs.Rows.{Content}
-use Rattle.book.specs.Steps.{LineStep, Step, orders_made}
-use Rattle.book.specs.Tables.{no_content}
+use Rattle.ledger.specs.Next.{move_made, next}
+use Rattle.ledger.specs.Rows.{Content}
+use Rattle.ledger.specs.Steps.{LineStep, Step, orders_made}
+use Rattle.ledger.specs.Tables.{no_content}
 use Rattle.book.specs.declared.book.plan.PlanParts.{PlanParts}
-use Rattle.book.specs.declared.order.Line.{Line}
-use Rattle.book.specs.inner.FieldRows.{field_rows}
+use Rattle.ledger.specs.declared.order.Line.{Line}
+use Rattle.ledger.specs.inner.FieldRows.{field_rows}
 use Rattle.book.specs.declared.order.OrderEntry.{OrderEntry}
 
 abbrev pub step_seen : Option OrderEntry → ℕ × OrderEntry → Step

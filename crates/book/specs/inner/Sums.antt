@@ -5,19 +5,19 @@ use Rattle.std.specs.List.Sorted.{IsStrictlySortedBy}
 use Rattle.std.specs.Map.{keys_of}
 use Rattle.escrow.specs.Ranges.{IsQty}
 use Rattle.words.specs.declared.limits.TheConstants.{MAX_ORDER_LINES}
-use Rattle.book.specs.declared.limits.TheConstants.{MAX_ORDERS, MAX_PLACES}
+use Rattle.ledger.specs.declared.limits.TheConstants.{MAX_ORDERS, MAX_PLACES}
 use Rattle.book.specs.declared.book.tables.sums.Numbers.{Numbers}
 use Rattle.book.specs.declared.book.FieldEntry.{FieldEntry}
 use Rattle.book.specs.declared.book.MoveEntry.{MoveEntry}
 use Rattle.book.specs.declared.order.OrderEntry.{OrderEntry}
-use Rattle.book.specs.declared.order.Line.{Line}
-use Rattle.book.specs.declared.order.State.{State}
-use Rattle.book.specs.Ledger.{Field, Name, line_name, name_cmp, open_state, same_name, settled_state, unsettled}
-use Rattle.book.specs.Outcomes.{signed, total}
-use Rattle.book.specs.Held.{if_add, if_take}
+use Rattle.ledger.specs.declared.order.Line.{Line}
+use Rattle.ledger.specs.declared.order.State.{State}
+use Rattle.ledger.specs.Ledger.{Field, Name, line_name, name_cmp, open_state, same_name, settled_state, unsettled}
+use Rattle.ledger.specs.Outcomes.{signed, total}
+use Rattle.ledger.specs.Held.{if_add, if_take}
 use Rattle.book.specs.Model.{field_of, move_of}
 use Rattle.book.specs.inner.Walk.{added_by_entry, moved_by_line, moved_by_move, moved_by_entry, nothing, IsSmall, plus, taken_by_entry}
-use Rattle.book.specs.Held.{added_by_line, taken_by_line}
+use Rattle.ledger.specs.Held.{added_by_line, taken_by_line}
 
 -- what the moves and the orders add up to on the field
 abbrev pub numbers_on : List MoveEntry → List (ℕ × OrderEntry) → Name → Numbers

@@ -2,14 +2,14 @@
 use Rattle.std.specs.Prelude.{ℕ, ◌+◌, ◌*◌, ℤ, pos, neg_ℤ, ◌+ℤ◌, ◌≤ℤ◌, if◌then◌else◌}
 use Rattle.escrow.specs.declared.limits.TheConstants.{MAX_LEVEL, MAX_QTY}
 use Rattle.words.specs.declared.limits.TheConstants.{MAX_ORDER_LINES}
-use Rattle.book.specs.declared.limits.TheConstants.{MAX_ORDERS, MAX_PLACES}
+use Rattle.ledger.specs.declared.limits.TheConstants.{MAX_ORDERS, MAX_PLACES}
 use Rattle.book.specs.declared.book.tables.sums.Numbers.{Numbers}
 use Rattle.book.specs.declared.book.MoveEntry.{MoveEntry}
 use Rattle.book.specs.declared.order.OrderEntry.{OrderEntry}
-use Rattle.book.specs.declared.order.Line.{Line}
-use Rattle.book.specs.Ledger.{Name, on, same_name}
-use Rattle.book.specs.Outcomes.{moved_by_order, signed}
-use Rattle.book.specs.Held.{added_by_order, taken_by_order}
+use Rattle.ledger.specs.declared.order.Line.{Line}
+use Rattle.ledger.specs.Ledger.{Name, on, same_name}
+use Rattle.ledger.specs.Outcomes.{moved_by_order, signed}
+use Rattle.ledger.specs.Held.{added_by_order, taken_by_order}
 use Rattle.book.specs.Model.{move_of, order_of}
 
 -- what a delivery or a write-off moves on the field

@@ -5,12 +5,12 @@ ghost use Rattle.std.specs.Option.{option_copied};
 ghost use Rattle.std.specs.Prelude.{◌≡◌, ◌≤◌, string_bytes, IfOk, ◌∷◌, [], length, map, OnOk};
 ghost use Rattle.std.specs.Str.{IsUtf8};
 ghost use Rattle.words.specs.declared.limits.TheConstants.{MAX_ORDER_LINES};
-ghost use Rattle.book.specs.Changes.{amount_rows};
-ghost use Rattle.book.specs.Next.{next};
-ghost use Rattle.book.specs.Rows.{desk_of, kept_row, kind_code, line_row, move_row, order_row, state_code, way_code};
-ghost use Rattle.book.specs.inner.RunningNumbers.{Accepts};
+ghost use Rattle.ledger.specs.Changes.{amount_rows};
+ghost use Rattle.ledger.specs.Next.{next};
+ghost use Rattle.ledger.specs.Rows.{desk_of, kept_row, kind_code, line_row, move_row, order_row, state_code, way_code};
+ghost use Rattle.ledger.specs.inner.Shares.{Accepts};
 ghost use Rattle.book.specs.inner.StepsSeen.{Makes, joined, step_rows, step_seen, step_to};
-ghost use Rattle.book.specs.Tables.{desk_cells, field_cells, kept_cells, line_cells, move_cells, no_content, order_cells, rows_among};
+ghost use Rattle.ledger.specs.Tables.{desk_cells, field_cells, kept_cells, line_cells, move_cells, no_content, order_cells, rows_among};
 ghost use Rattle.book.specs.Model.{entry_row, move_of, order_of};
 ghost use Rattle.book.specs.Plans.{ChangesTo};
 
@@ -18,11 +18,13 @@ use super::plan::PlanParts;
 use super::steps::{becomes_firm, changes_line, changes_state, line_before};
 use super::{Book, FieldEntry, MoveEntry};
 use crate::kept_words::KeptWords;
-use crate::limits::{MAX_PLACES, SCHEMA_VERSION};
-use crate::order::{Kind, Line, Order, OrderEntry, State};
-use crate::rows::{Change, DeskRow, FieldRow, FirmRow, KeptRow, LineRow, MoveRow, OrderRow};
+use crate::order::{Order, OrderEntry};
 use escrow::{Article, Branch, FieldName, Key, Moment, OrderNo, Way};
 use index::InOrder;
+use ledger::{
+    Change, DeskRow, FieldRow, FirmRow, KeptRow, Kind, Line, LineRow, MAX_PLACES, MoveRow,
+    OrderRow, SCHEMA_VERSION, State,
+};
 use std::alloc::Global;
 use words::{Command, Memory, Request};
 

@@ -7,20 +7,22 @@ ghost use Rattle.std.specs.List.Sorted.{IsStrictlySortedBy};
 ghost use Rattle.std.specs.Map.{keys_of};
 ghost use Rattle.std.specs.Option.{option_copied};
 ghost use Rattle.std.specs.Result.{IsOkAnd};
-ghost use Rattle.book.specs.inner.FieldRows.{field_rows};
+ghost use Rattle.ledger.specs.inner.FieldRows.{field_rows};
 ghost use Rattle.book.specs.inner.Checking.{IsFound};
-ghost use Rattle.book.specs.Ledger.{field_named, line_name, name_cmp};
+ghost use Rattle.ledger.specs.Ledger.{field_named, line_name, name_cmp};
 ghost use Rattle.book.specs.Model.{entry_row, order_of};
-ghost use Rattle.book.specs.inner.RunningNumbers.{Accepts, Becomes, Counts, CountsAll, CountsMore, Falls, MayBecome, AreHeld, MayCount, ShareStep, share_before, share_numbers, share_of, share_step, shares_of_step};
-ghost use Rattle.book.specs.Steps.{orders_made};
+ghost use Rattle.ledger.specs.inner.Shares.{Accepts, Falls, AreHeld, ShareStep, share_before, share_of, share_step, shares_of_step};
+ghost use Rattle.book.specs.inner.RunningNumbers.{Becomes, Counts, CountsAll, CountsMore, MayBecome, MayCount, share_numbers};
+ghost use Rattle.ledger.specs.Steps.{orders_made};
 ghost use Rattle.book.specs.inner.StepsSeen.{line_seen, lines_before, step_seen, step_to};
 
 use super::checks::Found;
 use super::steps::{changes_stock, line_before};
 use super::{Book, FieldEntry};
-use crate::order::{Line, NO_SHARE, Order, OrderEntry, Share, share_of};
+use crate::order::{NO_SHARE, Order, OrderEntry, share_of};
 use escrow::{FieldName, Quantity, Way};
 use index::InOrder;
+use ledger::{Line, Share};
 use std::alloc::Global;
 use words::{Memory, Request};
 

@@ -1,14 +1,14 @@
 //! What a command does to the orders: those that it opens or changes, as they are then.
 
 ghost use Rattle.book.specs.inner.InPlace.{MayChange, MayChangeOrder, changed_line, changed_order, effect_seen, held_lines, lines_wanted, made_of, MayChangeUnder};
-ghost use Rattle.book.specs.Ledger.{line_name, on, open_state};
-ghost use Rattle.book.specs.Next.{Changes, Opens, change_lines, effect, expires, new_line, new_order, numbered};
-ghost use Rattle.book.specs.inner.RunningNumbers.{Accepts};
-ghost use Rattle.book.specs.Steps.{orders_made};
+ghost use Rattle.ledger.specs.Ledger.{line_name, on, open_state};
+ghost use Rattle.ledger.specs.Next.{Changes, Opens, change_lines, effect, expires, new_line, new_order, numbered};
+ghost use Rattle.ledger.specs.inner.Shares.{Accepts};
+ghost use Rattle.ledger.specs.Steps.{orders_made};
 ghost use Rattle.book.specs.Model.{order_of};
 ghost use Rattle.book.specs.declared.book.made.LineChange.TheVariants as LineChange;
 ghost use Rattle.book.specs.declared.book.made.OrderChange.TheVariants as OrderChange;
-ghost use Rattle.book.specs.declared.order.State.TheVariants.{Aborted};
+ghost use Rattle.ledger.specs.declared.order.State.TheVariants.{Aborted};
 ghost use Rattle.words.specs.Kinds.{is_opening};
 ghost use Rattle.words.specs.declared.open_line.OpenLine.{OpenLine};
 ghost use Rattle.std.specs.List.{AllByRecursion as Each, filter};
@@ -17,8 +17,9 @@ ghost use Rattle.std.specs.Vec.{vec_capacity, vec_len};
 
 use super::Book;
 use super::plan::transfer_lines;
-use crate::order::{Kind, Line, Order, OrderEntry, State, is_on, line_in};
+use crate::order::{Order, OrderEntry, is_on, line_in};
 use escrow::{FieldName, Level, Moment, OrderNo, Qty};
+use ledger::{Kind, Line, State};
 use std::alloc::Global;
 use words::{Command, Memory, OpenLine, Request};
 

@@ -1,13 +1,13 @@
 //! What is answered to a request, before it is carried out; plans of accepted requests.
 
-ghost use Rattle.book.specs.Answers.{IsAccepted};
+ghost use Rattle.ledger.specs.Answers.{IsAccepted};
 ghost use Rattle.book.specs.inner.StepsSeen.{Makes};
 ghost use Rattle.book.specs.inner.Checking.{IsFound};
-ghost use Rattle.book.specs.Next.{move_made, moved_at_once, transfer_lines};
+ghost use Rattle.ledger.specs.Next.{move_made, moved_at_once, transfer_lines};
 ghost use Rattle.book.specs.PlanAnswers.{Plans};
 ghost use Rattle.book.specs.inner.PlansSeen.{AreTold, plan_of};
-ghost use Rattle.book.specs.inner.RunningNumbers.{Accepts};
-ghost use Rattle.book.specs.Tables.{rows_among};
+ghost use Rattle.ledger.specs.inner.Shares.{Accepts};
+ghost use Rattle.ledger.specs.Tables.{rows_among};
 ghost use Rattle.book.specs.Model.{move_of};
 ghost use Rattle.std.specs.Prelude.{◌≡◌, length, option_map, IfOk, OnErr};
 
@@ -15,9 +15,9 @@ use super::checks::Found;
 use super::{Book, FieldEntry, MoveEntry};
 use crate::kept_words::KeptWords;
 use crate::order::Order;
-use crate::rows::Change;
 use escrow::{Article, Branch, FieldName, Key, Moment, Qty, Way};
 use index::InOrder;
+use ledger::Change;
 use std::alloc::Global;
 use std::marker::Model;
 use words::{Command, Memory, OpenLine, Refusal, Request};
@@ -45,7 +45,7 @@ pub struct Plan {
 
 impl Model for Plan {
     ghost use Rattle.book.specs.Plans.{PlanView};
-    ghost use Rattle.book.specs.Tables.{rows_among};
+    ghost use Rattle.ledger.specs.Tables.{rows_among};
     ghost use Rattle.book.specs.inner.PlansSeen.{AreTold, plan_of};
 
     ghost Value = { PlanView };

@@ -1,11 +1,12 @@
 //! What differs between an order as it was, if it was there, and as an accepted command leaves it.
 
-ghost use Rattle.book.specs.Steps.{becomes_firm, changes_held, changes_line, changes_state, changes_stock};
+ghost use Rattle.ledger.specs.Steps.{becomes_firm, changes_held, changes_line, changes_state, changes_stock};
 ghost use Rattle.book.specs.inner.StepsSeen.{line_seen, lines_before, step_seen};
 ghost use Rattle.std.specs.Option.{option_copied};
 ghost use Rattle.std.specs.Prelude.{◌≡◌, ℕ, slice_get};
 
-use crate::order::{Line, Order, OrderEntry, is_open};
+use crate::order::{Order, OrderEntry, is_open};
+use ledger::Line;
 
 /// Whether the order is new, or ends.
 pub(super) fn changes_state(before: Option<&OrderEntry>, after: &Order) -> bool

@@ -2,13 +2,14 @@
 
 ghost use Rattle.std.specs.Prelude.{◌≡◌, ◌↔◌, ℕ, IfErr, IfOk, IsTrue, MatchOption, map};
 ghost use Rattle.std.specs.List.{AllByRecursion as Each, AllZip};
-ghost use Rattle.book.specs.Good.{Good};
-ghost use Rattle.book.specs.Ledger.{Ledger};
+ghost use Rattle.ledger.specs.Good.{Good};
+ghost use Rattle.ledger.specs.Ledger.{Ledger};
 ghost use Rattle.book.specs.Model.{order_of};
-ghost use Rattle.book.specs.Tables.{content_of, desk_cells, firm_cells, line_cells, order_cells};
-ghost use Rattle.book.specs.inner.RowEntries.{AreGood, AreInOrder, AreRowsOfOrders, IsBounded, IsFieldTold, IsInForm, IsWhole, IsWithinLimits, TellsLedger, told_ledger};
+ghost use Rattle.ledger.specs.Tables.{content_of, desk_cells, firm_cells, line_cells, order_cells};
+ghost use Rattle.book.specs.inner.RowEntries.{AreGood, AreInOrder, AreRowsOfOrders, IsBounded, IsFieldTold, IsInForm, IsWhole, IsWithinLimits, told_ledger};
+ghost use Rattle.ledger.specs.inner.ToldLedgers.{TellsLedger};
 ghost use Rattle.escrow.specs.Ranges.{IsMoment};
-ghost use Rattle.book.specs.Rows.{IsDamaged, IsRowsOf, desk_of};
+ghost use Rattle.ledger.specs.Rows.{IsDamaged, IsRowsOf, desk_of};
 ghost use Rattle.book.specs.declared.book.tables.TablesFault.TheVariants as TablesFault;
 
 mod good;
@@ -25,12 +26,14 @@ use self::marks::read_heads;
 use self::sums::are_up_to_date;
 use self::told::{moment, natural, read_all};
 use crate::book::{Book, FieldEntry, KeptEntry, MoveEntry};
-use crate::limits::{MAX_FIELDS, MAX_ORDERS, MAX_PLACES, SCHEMA_VERSION};
-use crate::order::{Line, Order, count_open};
+use crate::order::{Order, count_open};
 use crate::orders::Orders;
-use crate::rows::{DeskRow, FirmRow, LineRow, OrderRow, Tables};
 use escrow::{FieldName, Key, Moment};
 use index::InOrder;
+use ledger::{
+    DeskRow, FirmRow, Line, LineRow, MAX_FIELDS, MAX_ORDERS, MAX_PLACES, OrderRow, SCHEMA_VERSION,
+    Tables,
+};
 use std::alloc::Global;
 use thiserror::Error;
 use words::Memory;

@@ -2,15 +2,16 @@
 
 ghost use Rattle.std.specs.Prelude.{◌≡◌, length, map, slice_get, IsSomeAnd, MatchOption};
 ghost use Rattle.std.specs.List.Sorted.{IsStrictlySortedBy};
-ghost use Rattle.book.specs.Good.{Good};
-ghost use Rattle.book.specs.Ledger.{Ledger, field_named, kept_under, name_cmp, name_of, open_orders, order_numbered, places, shown_state};
+ghost use Rattle.ledger.specs.Good.{Good};
+ghost use Rattle.ledger.specs.Ledger.{Ledger, field_named, kept_under, name_cmp, name_of, open_orders, order_numbered, places, shown_state};
 ghost use Rattle.book.specs.inner.RunningNumbers.{IsUpToDate};
 ghost use Rattle.book.specs.Model.{field_of, order_of};
 ghost use Rattle.book.specs.Views.{open_from, ShowsField, ShowsKept, ShowsOrder};
 
 use super::{Book, FieldEntry};
-use crate::order::{Kind, Line, OrderEntry, Standing, State};
+use crate::order::OrderEntry;
 use escrow::{Article, Branch, FieldName, Key, Level, Moment, OrderNo};
+use ledger::{Kind, Line, Standing, State};
 
 /// A field as it stands: its bounds, its settled value, and the least and the greatest value that the open
 /// orders can leave.

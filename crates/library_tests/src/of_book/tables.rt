@@ -1,10 +1,8 @@
 //! Books from the rows of their tables, in their order and out of it.
 
 use super::{field_at, numbers};
-use book::{
-    Book, DeskRow, FieldRow, FirmRow, KeptRow, LineRow, MoveRow, OrderRow, Rows, Tables,
-    TablesFault,
-};
+use book::{Book, TablesFault};
+use ledger::{DeskRow, FieldRow, FirmRow, KeptRow, LineRow, MoveRow, OrderRow, Rows, Tables};
 use std::alloc::Global;
 use std::test::Fail;
 

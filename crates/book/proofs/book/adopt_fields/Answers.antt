@@ -1,6 +1,7 @@
 use Rattle.std.proofs.lemmas.List.Sums.{fold-append}
-use Rattle.book.proofs.Prelude.{[], ◌∙◌, ◌∷◌, ap, arith, insert_entry, name_cmp, sym, take, with_entries}
-use Rattle.book.proofs.Lists.{read-step}
+use Rattle.ledger.proofs.Prelude.{[], ◌∙◌, ◌∷◌, ap, arith, insert_entry, name_cmp, sym, take}
+use Rattle.book.proofs.Prelude.{with_entries}
+use Rattle.ledger.proofs.Lists.{read-step}
 use Rattle.book.proofs.book.adopt_fields.Goals as goal
 
 pub put-requires : goal.put-requires

@@ -1,5 +1,6 @@
 -- the fields so far are in, and there is room for the others
-use Rattle.book.proofs.Prelude.{◌+◌, ◌≡◌, ◌≤◌, length, take, with_entries}
+use Rattle.ledger.proofs.Prelude.{◌+◌, ◌≡◌, ◌≤◌, length, take}
+use Rattle.book.proofs.Prelude.{with_entries}
 use Rattle.book.proofs.book.adopt_fields.Given as goal
 
 abbrev pub invariant-loop-place : goal.invariant-loop-place

@@ -1,4 +1,5 @@
-use Rattle.book.proofs.Prelude.{◌∙◌, List, OrderEntry, ap, arith, map, number_cmp, order_of, put_rows, subst, sym, ℕ}
+use Rattle.ledger.proofs.Prelude.{◌∙◌, List, ap, arith, map, put_rows, subst, sym, ℕ}
+use Rattle.book.proofs.Prelude.{OrderEntry, number_cmp, order_of}
 use Rattle.book.specs.Model.{slots_cmp, slots_of}
 use Rattle.book.specs.inner.StepsSeen.{MayBePut}
 use Rattle.book.proofs.CommandOrder.{put_viewed, rest_may, room_if_new, slots_viewed}

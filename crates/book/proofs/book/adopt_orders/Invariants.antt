@@ -1,5 +1,6 @@
 -- put in, the orders that are left give what all of them give, and there is room for one that is new
-use Rattle.book.proofs.Prelude.{◌≡◌, ◌≤◌, map, number_cmp, order_of, put_rows}
+use Rattle.ledger.proofs.Prelude.{◌≡◌, ◌≤◌, map, put_rows}
+use Rattle.book.proofs.Prelude.{number_cmp, order_of}
 use Rattle.book.specs.Model.{slots_cmp, slots_of}
 use Rattle.book.specs.inner.StepsSeen.{MayBePut}
 use Rattle.book.proofs.book.adopt_orders.Given as goal

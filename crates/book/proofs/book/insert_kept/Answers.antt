@@ -1,4 +1,5 @@
-use Rattle.book.proofs.Prelude.{◌∙◌, ap, kept_of, map}
+use Rattle.ledger.proofs.Prelude.{◌∙◌, ap, map}
+use Rattle.book.proofs.Prelude.{kept_of}
 use Rattle.book.proofs.KeyPlaces.{kept_absent, kept_inserted}
 use Rattle.book.proofs.book.insert_kept.Goals as goal
 

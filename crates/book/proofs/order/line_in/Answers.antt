@@ -1,6 +1,7 @@
-use Rattle.book.proofs.Prelude.{◌≡◌, Line, false, of_calls, on, rules, true}
+use Rattle.ledger.proofs.Prelude.{◌≡◌, false, of_calls, on, rules, true}
+use Rattle.ledger.specs.declared.order.Line.{Line}
 use Rattle.std.proofs.lemmas.Iterator.{YieldsList-from_slice, first_from_find}
-use Rattle.book.proofs.Lists.{find-first}
+use Rattle.ledger.proofs.Lists.{find-first}
 use Rattle.book.proofs.order.line_in.Goals as goal
 
 pub returns : goal.returns

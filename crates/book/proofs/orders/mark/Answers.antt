@@ -1,4 +1,4 @@
-use Rattle.book.proofs.Prelude.{◌∙◌, ◌≤◌, ap, arith, length, subst, sym}
+use Rattle.ledger.proofs.Prelude.{◌∙◌, ◌≤◌, ap, arith, length, subst, sym}
 use Rattle.book.specs.inner.OpenOrders.{marked}
 use Rattle.book.proofs.OpenOrders.{left_in, left_out, one_longer, put_in, taken_out}
 use Rattle.book.proofs.orders.mark.Goals as goal

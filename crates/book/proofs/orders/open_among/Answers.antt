@@ -1,8 +1,8 @@
-use Rattle.book.proofs.Prelude.{◌+◌, ◌++◌, ◌∙◌, ◌∷◌, ◌≡◌, [], ap, arith, if◌then◌else◌, length, length-take, open_state, sym, take}
+use Rattle.ledger.proofs.Prelude.{◌+◌, ◌++◌, ◌∙◌, ◌∷◌, ◌≡◌, [], ap, arith, if◌then◌else◌, length, length-take, open_state, sym, take}
 use Rattle.std.specs.List.{insert}
 use Rattle.std.proofs.lemmas.List.Edits.{insert_end}
 use Rattle.book.specs.inner.OpenOrders.{open_numbers}
-use Rattle.book.proofs.Lists.{take-step}
+use Rattle.ledger.proofs.Lists.{take-step}
 use Rattle.book.proofs.OpenOrders.{few_open, open_pushed}
 use Rattle.book.proofs.orders.open_among.Goals as goal
 

@@ -1,5 +1,5 @@
 -- the numbers of the open ones so far are there
-use Rattle.book.proofs.Prelude.{◌^◌, ◌≡◌, ◌≤◌, length, take}
+use Rattle.ledger.proofs.Prelude.{◌^◌, ◌≡◌, ◌≤◌, length, take}
 use Rattle.book.specs.inner.OpenOrders.{open_numbers}
 use Rattle.book.proofs.orders.open_among.Given as goal
 

@@ -1,5 +1,5 @@
 use Rattle.std.proofs.lemmas.Fn.{always_returns_same}
-use Rattle.book.proofs.Prelude.{nat_cmp, rules}
+use Rattle.ledger.proofs.Prelude.{nat_cmp, rules}
 use Rattle.book.proofs.OpenOrders.{searched_at}
 use Rattle.book.proofs.orders.place_of.Goals as goal
 

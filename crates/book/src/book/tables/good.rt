@@ -1,7 +1,7 @@
 //! Whether entries are those of a good ledger, whatever their fields' numbers.
 
-ghost use Rattle.book.specs.Good.{IsTransferPair};
-ghost use Rattle.book.specs.Ledger.{line_name, same_name};
+ghost use Rattle.ledger.specs.Good.{IsTransferPair};
+ghost use Rattle.ledger.specs.Ledger.{line_name, same_name};
 ghost use Rattle.book.specs.inner.RowEntries.{IsMoveByItself, IsOrderByItself};
 ghost use Rattle.book.specs.Model.{kept_of, move_of, order_of};
 ghost use Rattle.escrow.specs.Ranges.{IsLevel};
@@ -12,8 +12,9 @@ ghost use Rattle.std.specs.Ordering.{nat_cmp};
 ghost use Rattle.std.specs.Prelude.{◌≡◌, ◌≤◌, ◌↔◌, IsTrue, map, nat_lt, ◌<◌, IfOk, false, length, nat_eq, slice_index_or, true};
 
 use crate::book::{KeptEntry, MoveEntry};
-use crate::order::{Kind, Line, Order, State, line_in};
+use crate::order::{Order, line_in};
 use escrow::{FieldName, Key, Qty, Way};
+use ledger::{Kind, Line, State};
 use std::alloc::Global;
 use words::{MAX_ORDER_LINES, Memory};
 

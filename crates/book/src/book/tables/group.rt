@@ -4,18 +4,19 @@ ghost use Rattle.std.specs.Prelude.{◌≡◌, ◌≤◌, ◌↔◌, ◌++◌, p
 ghost use Rattle.std.specs.List.{AllByRecursion as Each, AllZip};
 ghost use Rattle.std.specs.List.Sorted.{IsStrictlySortedBy};
 ghost use Rattle.std.specs.Ordering.{nat_cmp};
-ghost use Rattle.book.specs.Ledger.{Order};
-ghost use Rattle.book.specs.Rows.{LineCells, lines_from};
-ghost use Rattle.book.specs.Tables.{line_cells};
-ghost use Rattle.book.specs.inner.RowEntries.{AreNumbered, AreOthers, BeginsOther, IsLineTold, TellOrders};
+ghost use Rattle.ledger.specs.Ledger.{Order};
+ghost use Rattle.ledger.specs.Rows.{LineCells, lines_from};
+ghost use Rattle.ledger.specs.Tables.{line_cells};
+ghost use Rattle.book.specs.inner.RowEntries.{AreNumbered, BeginsOther, IsLineTold, TellOrders};
+ghost use Rattle.ledger.specs.inner.ToldLedgers.{AreOthers};
 ghost use Rattle.book.specs.Model.{order_of};
 ghost use Rattle.book.specs.declared.book.tables.TablesFault.TheVariants as TablesFault;
-ghost use Rattle.book.specs.declared.order.Line.{Line};
+ghost use Rattle.ledger.specs.declared.order.Line.{Line};
 
 use super::TablesFault;
-use crate::order::{Kind, Line, Order, OrderEntry, State};
-use crate::rows::LineRow;
+use crate::order::{Order, OrderEntry};
 use escrow::{Moment, OrderNo};
+use ledger::{Kind, Line, LineRow, State};
 use std::alloc::Global;
 
 /// An order but for its lines.

@@ -3,10 +3,10 @@
 ghost use Rattle.std.specs.Prelude.{◌≡◌, ◌↔◌, false, flat_map, map, slice_get, IfErr, IfOk, IsTrue, List};
 ghost use Rattle.std.specs.List.Sorted.{IsStrictlySortedBy};
 ghost use Rattle.std.specs.Ordering.{nat_cmp};
-ghost use Rattle.book.specs.Good.{Good};
-ghost use Rattle.book.specs.Ledger.{Ledger};
-ghost use Rattle.book.specs.Rows.{firm_rows, order_row};
-ghost use Rattle.book.specs.Tables.{firm_cells, order_cells};
+ghost use Rattle.ledger.specs.Good.{Good};
+ghost use Rattle.ledger.specs.Ledger.{Ledger};
+ghost use Rattle.ledger.specs.Rows.{firm_rows, order_row};
+ghost use Rattle.ledger.specs.Tables.{firm_cells, order_cells};
 ghost use Rattle.book.specs.inner.RowEntries.{head_row, mark_rows, Marks, TellHeads};
 ghost use Rattle.book.specs.declared.book.tables.TablesFault.TheVariants as TablesFault;
 ghost use Rattle.book.specs.declared.book.tables.group.Head.{Head};
@@ -14,8 +14,8 @@ ghost use Rattle.book.specs.declared.book.tables.group.Head.{Head};
 use super::TablesFault;
 use super::group::Head;
 use super::told::read_all;
-use crate::rows::{FirmRow, OrderRow};
 use escrow::OrderNo;
+use ledger::{FirmRow, OrderRow};
 use std::alloc::Global;
 
 /// The heads that the rows of orders tell, marked as the rows of firm orders say.

@@ -1,7 +1,7 @@
 //! What all moves and orders add up to on each of the fields, in one walk over them; whether the fields have these
 //! numbers.
 
-ghost use Rattle.book.specs.Ledger.{line_name, Name};
+ghost use Rattle.ledger.specs.Ledger.{line_name, Name};
 ghost use Rattle.book.specs.inner.Sums.{added, entry_name, field_among, lines_numbers, numbers_on, only_on, part_of_line, AreFewMoves, AreFewOrders, AreFieldsInOrder, AreLinesOnFields, AreMovesOnFields, AreOnFields, AreOrdersOnFields, AreSums, IsField, IsFieldAt};
 ghost use Rattle.book.specs.inner.RowEntries.{HasNumbers, HaveNumbers};
 ghost use Rattle.book.specs.Model.{move_of};
@@ -13,8 +13,9 @@ ghost use Rattle.std.specs.Prelude.{◌≡◌, ◌+◌, ◌≤◌, ◌↔◌, le
 ghost use Rattle.words.specs.declared.limits.TheConstants.{MAX_ORDER_LINES};
 
 use crate::book::{Field, FieldEntry, MoveEntry};
-use crate::order::{Line, Order, State, share_of};
+use crate::order::{Order, share_of};
 use escrow::{FieldName, Way};
+use ledger::{Line, State};
 use std::alloc::Global;
 use words::Memory;
 

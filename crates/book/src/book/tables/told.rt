@@ -3,26 +3,25 @@
 ghost use Rattle.std.specs.Prelude.{◌≡◌, pos, ℕ, IfErr, IfOk, MatchOption};
 ghost use Rattle.std.specs.List.{AllByRecursion as Each, AllZip};
 ghost use Rattle.escrow.specs.Ranges.{IsLevel, IsMoment};
-ghost use Rattle.book.specs.Ledger.{Name};
-ghost use Rattle.book.specs.Rows.{kind_code, state_code, way_code};
+ghost use Rattle.ledger.specs.Ledger.{Name};
+ghost use Rattle.ledger.specs.Rows.{kind_code, state_code, way_code};
 ghost use Rattle.book.specs.inner.RowEntries.{IsFieldTold, IsHeadTold, IsKeptTold, IsLineTold, IsMoveTold, IsQuantityTold};
 ghost use Rattle.escrow.specs.Stock.{Stock};
 ghost use Rattle.book.specs.declared.book.tables.TablesFault.TheVariants as TablesFault;
 ghost use Rattle.book.specs.declared.book.tables.group.Head.{Head};
 ghost use Rattle.book.specs.declared.book.FieldEntry.{FieldEntry};
 ghost use Rattle.book.specs.declared.book.MoveEntry.{MoveEntry};
-ghost use Rattle.book.specs.declared.order.Line.{Line};
-ghost use Rattle.book.specs.declared.order.Kind.{Kind};
-ghost use Rattle.book.specs.declared.order.State.{State};
+ghost use Rattle.ledger.specs.declared.order.Line.{Line};
+ghost use Rattle.ledger.specs.declared.order.Kind.{Kind};
+ghost use Rattle.ledger.specs.declared.order.State.{State};
 ghost use Rattle.escrow.specs.declared.quantity.Way.{Way};
 
 use super::TablesFault;
 use super::group::Head;
 use crate::book::{FieldEntry, KeptEntry, MoveEntry};
 use crate::kept_words::KeptWords;
-use crate::order::{Kind, Line, State};
-use crate::rows::{FieldRow, KeptRow, LineRow, MoveRow, OrderRow};
 use escrow::{Article, Branch, FieldName, Key, Level, Moment, OrderNo, Quantity, Way};
+use ledger::{FieldRow, KeptRow, Kind, Line, LineRow, MoveRow, OrderRow, State};
 use std::alloc::Global;
 use words::WordsFault;
 

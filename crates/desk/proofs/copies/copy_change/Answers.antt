@@ -1,6 +1,6 @@
 use Rattle.std.proofs.Common.{refl, subst, sym}
-use Rattle.book.specs.declared.rows.Change.{Change}
-use Rattle.book.specs.declared.rows.Change.TheVariants as change
+use Rattle.ledger.specs.declared.rows.Change.{Change}
+use Rattle.ledger.specs.declared.rows.Change.TheVariants as change
 use Rattle.desk.specs.Deferred.{IsSameRow}
 use Rattle.desk.proofs.copies.copy_change.Goals as goal
 

@@ -1,5 +1,5 @@
 use Rattle.std.proofs.Common.{◌∙◌, ap, ◌++◌, List}
-use Rattle.book.specs.declared.rows.Change.{Change}
+use Rattle.ledger.specs.declared.rows.Change.{Change}
 use Rattle.desk.proofs.PutOff.{copies_same, put_joined, rows_joined}
 use Rattle.desk.proofs.copies.put_off.Goals as goal
 

@@ -1,7 +1,7 @@
 use Rattle.std.proofs.Common.{◌≡◌, ◌≤◌, ◌∙◌, Err, List, ℕ, ap, arith, false, inr, length, refl, rules, sym, take, true, true≢false}
 use Rattle.std.proofs.KnownBytes.{Keeps-refl}
 use Rattle.std.proofs.lemmas.List.{length-take}
-use Rattle.book.proofs.TestResults.{passed_up}
+use Rattle.ledger.proofs.TestResults.{passed_up}
 use Rattle.desk.specs.Desk.{desk_state}
 use Rattle.desk.specs.Dialogue.{is_end, longest_piece}
 use Rattle.desk.specs.declared.dialogue.TheConstants.{PIECE}

@@ -1,7 +1,7 @@
 use Rattle.std.proofs.Common.{◌≡◌, ◌∙◌, ◌≤◌, ◌-◌, List, ap, arith, drop, false, length, refl, rules, subst, sym, take}
 use Rattle.std.proofs.Math.Seq.{take-length}
 use Rattle.words.specs.declared.command.Request.{Request}
-use Rattle.book.proofs.TestResults.{passed_up}
+use Rattle.ledger.proofs.TestResults.{passed_up}
 use Rattle.desk.specs.Desk.{desk_state}
 use Rattle.desk.specs.Script.{WritesLines}
 use Rattle.desk.specs.Text.{items_of}

@@ -2,7 +2,7 @@ use Rattle.std.proofs.Common.{◌≡◌, ◌∙◌, ◌+◌, ◌<◌, ◌≤◌,
 use Rattle.std.specs.List.{AllZip}
 use Rattle.std.proofs.lemmas.List.{take_all, take_more}
 use Rattle.std.proofs.lemmas.List.Elements.{AllZip-get_or, AllZip-push, length_all_zip}
-use Rattle.book.specs.declared.rows.Change.{Change}
+use Rattle.ledger.specs.declared.rows.Change.{Change}
 use Rattle.desk.specs.Deferred.{IsSameRow}
 use Rattle.desk.proofs.same.are_same.Goals as goal
 

@@ -1,6 +1,6 @@
 use Rattle.std.proofs.Common.{◌≡◌, ◌∙◌, ap, subst, sym}
-use Rattle.book.specs.Tables.{field_cells, kept_cells, line_cells, move_cells}
-use Rattle.book.specs.declared.rows.Change.{Change}
+use Rattle.ledger.specs.Tables.{field_cells, kept_cells, line_cells, move_cells}
+use Rattle.ledger.specs.declared.rows.Change.{Change}
 use Rattle.desk.specs.Deferred.{IsSameRow}
 use Rattle.desk.proofs.same.same_row.Goals as goal
 

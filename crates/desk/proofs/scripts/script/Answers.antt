@@ -1,5 +1,5 @@
 use Rattle.std.proofs.Common.{Ok}
-use Rattle.book.proofs.TestResults.{passed_up}
+use Rattle.ledger.proofs.TestResults.{passed_up}
 use Rattle.desk.proofs.Faults.{never_ok}
 use Rattle.desk.proofs.LineAnswers.{script_tells}
 use Rattle.desk.proofs.SomeText.{script_begins}

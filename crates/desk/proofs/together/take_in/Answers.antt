@@ -2,9 +2,9 @@ use Rattle.std.proofs.Common.{[], ◌++◌, ◌∙◌, ◌∷◌, List, ap, arit
 use Rattle.words.specs.declared.reply.Reply.TheVariants.{Done}
 use Rattle.std.specs.Vec.{vec_capacity, vec_len}
 use Rattle.desk.specs.Replies.{request_line}
-use Rattle.book.specs.Ledger.{Ledger}
-use Rattle.book.specs.Next.{accept}
-use Rattle.book.specs.declared.rows.Change.{Change}
+use Rattle.ledger.specs.Ledger.{Ledger}
+use Rattle.ledger.specs.Next.{accept}
+use Rattle.ledger.specs.declared.rows.Change.{Change}
 use Rattle.desk.proofs.Batches.{joined_accepted, same_count}
 use Rattle.desk.proofs.together.take_in.Goals as goal
 

@@ -1,7 +1,7 @@
 use Rattle.std.proofs.Common.{◌≡◌, ◌∙◌, ◌+◌, ◌≤◌, ◌∷◌, [], IfSome, ap, arith, inr, length, length-append, refl, sym}
 use Rattle.csv.specs.Reading.{source_of}
 use Rattle.csv.specs.Records.{fields_of}
-use Rattle.book.proofs.TestResults.{passed_up}
+use Rattle.ledger.proofs.TestResults.{passed_up}
 use Rattle.files.specs.Files.{BeginsFile, FaultsAt, NamesFirst}
 use Rattle.files.specs.declared.fault.FileFault.TheVariants.{Io}
 use Rattle.files.proofs.NextRecord.{names_given, names_header, names_none, whole_file}

@@ -1,4 +1,4 @@
-use Rattle.book.proofs.Prelude.{arith, refl, subst, suc, ◌+◌, ◌∷◌, ◌≡◌}
+use Rattle.ledger.proofs.Prelude.{arith, refl, subst, suc, ◌+◌, ◌∷◌, ◌≡◌}
 use Rattle.laws.specs.Walks.{GoesOnBehind}
 use Rattle.laws.proofs.Places.{at_end, at_first, at_later, nowhere}
 use Rattle.laws.proofs.walk.one_walk_finds_the_place.Goals as goal

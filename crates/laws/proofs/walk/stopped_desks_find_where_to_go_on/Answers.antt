@@ -1,4 +1,4 @@
-use Rattle.book.proofs.Prelude.{take}
+use Rattle.ledger.proofs.Prelude.{take}
 use Rattle.laws.proofs.Places.{goes_on, one_kept, place, range_take, some_kept, standing}
 use Rattle.laws.proofs.walk.stopped_desks_find_where_to_go_on.Goals as goal
 

@@ -6,8 +6,8 @@ use Rattle.sqlite.specs.Effect.{Database}
 use Rattle.sqlite.specs.Files.{file_state}
 use Rattle.sqlite_trees.specs.Tree.{Trees}
 use Rattle.sqlite_wal.specs.Recovery.{Image}
-use Rattle.book.specs.Rows.{Content}
-use Rattle.keep.specs.Content.{HoldsOf, IsContentOf}
+use Rattle.ledger.specs.Rows.{Content}
+use Rattle.sql_keep.specs.StoreContent.{HoldsOf, IsContentOf}
 use Rattle.stockdesk.specs.Closing.{StartsAlone}
 use Rattle.stockdesk.proofs.file.close.Goals as goal
 

@@ -1,4 +1,4 @@
-use Rattle.keep.specs.Description.{newest}
+use Rattle.keep.specs.Content.{newest}
 use Rattle.stockdesk.proofs.file.open.Goals as goal
 
 pub returns-in_ok-open_path-in-File-clause-opened : goal.returns-in_ok-open_path-in-File-clause-opened

@@ -1,8 +1,8 @@
 use Rattle.std.proofs.lemmas.Result.{on_ok_weaker}
 use Rattle.desk.proofs.Faults.{of_error}
-use Rattle.keep.specs.Laws.{holds_tables}
+use Rattle.sql_keep.specs.Laws.{holds_tables}
 use Rattle.stockdesk.proofs.SessionParts.{starts_part, starts_whole}
-use Rattle.keep.proofs.Schemas.{holds_one_row}
+use Rattle.sql_keep.proofs.Schemas.{holds_one_row}
 use Rattle.stockdesk.proofs.file.session.Goals as goal
 
 pub returns-clause-whole : goal.returns-clause-whole

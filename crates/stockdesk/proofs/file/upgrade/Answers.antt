@@ -6,13 +6,13 @@ use Rattle.sqlite.specs.Files.{file_state}
 use Rattle.sqlite.specs.State.{HasCleanDisk}
 use Rattle.sqlite.specs.WalFiles.{image_at}
 use Rattle.sqlite_trees.specs.Tree.{Trees}
-use Rattle.book.specs.Rows.{Content}
-use Rattle.keep.specs.Content.{HasTables, Holds, HoldsOf, IsDesk, IsOneRow}
-use Rattle.keep.specs.Description.{newest}
-use Rattle.keep.specs.Laws.{holds_tables, old_is_apart}
-use Rattle.keep.specs.Old.{HoldsOld, IsOld, IsOldContent}
-use Rattle.keep.specs.Starts.{StartsOld}
-use Rattle.keep.proofs.Schemas.{holds_one_row}
+use Rattle.ledger.specs.Rows.{Content}
+use Rattle.keep.specs.Content.{IsDesk, IsOneRow, newest}
+use Rattle.sql_keep.specs.StoreContent.{HasTables, Holds, HoldsOf}
+use Rattle.sql_keep.specs.Laws.{holds_tables, old_is_apart}
+use Rattle.sql_keep.specs.Old.{HoldsOld, IsOld, IsOldContent}
+use Rattle.sql_keep.specs.Starts.{StartsOld}
+use Rattle.sql_keep.proofs.Schemas.{holds_one_row}
 use Rattle.stockdesk.proofs.file.upgrade.Goals as goal
 
 -- what the bytes hold of an older version the store holds

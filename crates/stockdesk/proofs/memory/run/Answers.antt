@@ -1,7 +1,7 @@
 use Rattle.std.proofs.lemmas.Result.{on_ok_weaker}
 use Rattle.sqlite.proofs.Callers.{memory_is_clean}
 use Rattle.desk.proofs.Faults.{of_error}
-use Rattle.keep.specs.Laws.{holds_tables}
+use Rattle.sql_keep.specs.Laws.{holds_tables}
 use Rattle.stockdesk.proofs.SessionParts.{on_error, opens_new, runs_nothing, runs_part, runs_so_far, runs_whole}
 use Rattle.stockdesk.proofs.memory.run.Goals as goal
 

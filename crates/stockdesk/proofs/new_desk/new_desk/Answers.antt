@@ -1,7 +1,8 @@
 use Rattle.std.proofs.Common.{◌≡◌, [], ◌∷◌, ap, subst, sym}
 use Rattle.sqlite.specs.State.{HasCleanDisk}
 use Rattle.sqlite.specs.Held.{state}
-use Rattle.keep.specs.Content.{Holds, LeavesOnly, new_content}
+use Rattle.keep.specs.Content.{new_content}
+use Rattle.sql_keep.specs.StoreContent.{Holds, LeavesOnly}
 use Rattle.stockdesk.proofs.new_desk.new_desk.Goals as goal
 
 pub returns-in-Ok-clause-made : goal.returns-in-Ok-clause-made

@@ -1,7 +1,7 @@
 use Rattle.std.proofs.Common.{Err, Ok, ap, subst, sym, ◌≡◌}
 use Rattle.sqlite.specs.Held.{state}
 use Rattle.sqlite.specs.State.{HasCleanDisk}
-use Rattle.keep.specs.Old.{Upgrades}
+use Rattle.sql_keep.specs.Old.{Upgrades}
 use Rattle.stockdesk.specs.declared.session.Fault.TheVariants as Fault
 use Rattle.stockdesk.proofs.upgrade.upgrade.Goals as goal
 

@@ -1,8 +1,8 @@
 use Rattle.std.proofs.Common.{◌≡◌, [], ◌∷◌, Err, ap, subst}
 use Rattle.std.proofs.Math.Logic.{inl, inr}
 use Rattle.std.proofs.KnownBytes.{Keeps-refl}
-use Rattle.book.proofs.EqualRows.{told_by_rows}
-use Rattle.book.specs.Ledger.{Ledger}
+use Rattle.ledger.proofs.EqualRows.{told_by_rows}
+use Rattle.ledger.specs.Ledger.{Ledger}
 use Rattle.desk.proofs.Faults.{of_error}
 use Rattle.desk.proofs.FoundAfter.{stored_left}
 use Rattle.desk.specs.Headline.{LeavesRowsOf}

@@ -1,6 +1,6 @@
 use Rattle.std.proofs.Common.{◌∙◌, refl, subst, sym}
 use Rattle.std.proofs.lemmas.Result.{IfOk-weaker}
-use Rattle.book.specs.Good.{Good}
+use Rattle.ledger.specs.Good.{Good}
 use Rattle.desk.specs.Desk.{desk_state, snapshot}
 use Rattle.web.specs.Replies.{reply_of_stopped}
 use Rattle.web.proofs.CommandAnswers.{replies_stopped}

@@ -4,7 +4,7 @@ use Rattle.serde_json.proofs.Views.{view-Array}
 use Rattle.serde_json.specs.Data.{Data, array}
 use Rattle.serde_json.specs.View.{items_of, view}
 use Rattle.serde_json.specs.declared.value.Value.{Value}
-use Rattle.book.specs.declared.order.Line.{Line}
+use Rattle.ledger.specs.declared.order.Line.{Line}
 use Rattle.web.specs.Objects.{line_object}
 use Rattle.web.proofs.objects.line_values.Goals as goal
 

@@ -1,5 +1,5 @@
 use Rattle.std.proofs.Common.{refl}
-use Rattle.book.specs.Next.{expires}
+use Rattle.ledger.specs.Next.{expires}
 use Rattle.web.specs.Answers.{json_answer}
 use Rattle.web.specs.Objects.{orders_object}
 use Rattle.web.specs.Orders.{due}

@@ -1,5 +1,5 @@
 use Rattle.std.proofs.Common.{◌∙◌}
-use Rattle.book.specs.Ledger.{kept_under}
+use Rattle.ledger.specs.Ledger.{kept_under}
 use Rattle.book.specs.Views.{ShowsKept}
 use Rattle.web.specs.Answers.{none_answer}
 use Rattle.web.specs.Objects.{kept_object}

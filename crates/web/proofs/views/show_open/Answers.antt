@@ -1,5 +1,5 @@
 use Rattle.std.proofs.Common.{◌&&◌, nat_lt, refl}
-use Rattle.book.specs.Ledger.{is_open}
+use Rattle.ledger.specs.Ledger.{is_open}
 use Rattle.web.specs.Answers.{json_answer}
 use Rattle.web.specs.Objects.{orders_object}
 use Rattle.web.specs.Orders.{open_above}

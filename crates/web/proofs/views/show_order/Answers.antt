@@ -1,4 +1,4 @@
-use Rattle.book.specs.Ledger.{order_numbered}
+use Rattle.ledger.specs.Ledger.{order_numbered}
 use Rattle.book.specs.Views.{ShowsOrder}
 use Rattle.web.specs.Answers.{none_answer}
 use Rattle.web.specs.Objects.{order_object}

@@ -1,12 +1,13 @@
-use Rattle.book.proofs.Prelude.{◌+◌, ◌∙◌, ◌≡◌, ◌≤◌, BookView, Done, Each, Good, IsUpToDate, Ledger, accept, number_cmp, order_of, orders_made, put_rows, ap, article_total, field_of, map, move_made, move_of, option_map, places, rules, subst, sym}
-use Rattle.book.specs.Plans.{PlanView}
-use Rattle.book.proofs.Futures.{honours_always}
-use Rattle.book.proofs.Goodness.{good_accept}
-use Rattle.book.proofs.NextContent.{may_be_put, orders_put}
-use Rattle.book.proofs.RunningNumbers.{adopted, clock_told}
-use Rattle.book.proofs.Transfers.{total_answer}
-use Rattle.book.proofs.Runs.{accepted_answered, honours_if_good, no_key}
+use Rattle.book.proofs.Prelude.{BookView, IsUpToDate, field_of, move_of, number_cmp, order_of}
+use Rattle.ledger.proofs.Prelude.{Done, Each, Good, Ledger, accept, ap, article_total, map, move_made, option_map, orders_made, places, put_rows, rules, subst, sym, ◌+◌, ◌∙◌, ◌≡◌, ◌≤◌}
 use Rattle.book.proofs.book.Book.adopt.Goals as goal
+use Rattle.book.specs.Plans.{PlanView}
+use Rattle.ledger.proofs.Futures.{honours_always}
+use Rattle.ledger.proofs.Goodness.{good_accept}
+use Rattle.book.proofs.PutOrders.{may_be_put, orders_put}
+use Rattle.book.proofs.RunningNumbers.{adopted, clock_told}
+use Rattle.ledger.proofs.Transfers.{total_answer}
+use Rattle.ledger.proofs.Runs.{accepted_answered, honours_if_good, no_key}
 
 pub insert_kept-requires-clause-absent : goal.insert_kept-requires-clause-absent
 insert_kept-requires-clause-absent c = search (rules, no_key)

@@ -1,11 +1,13 @@
-use Rattle.book.proofs.Prelude.{◌∙◌, ◌≡◌, ◌≤◌, Each, List, MAX_ORDER_LINES, MAX_PLACES, Order, OrderEntry, ap, arith, effect, length, map, order_of, rows_among, step_to, subst, sym, ℕ}
-use Rattle.book.proofs.Among.{appended}
-use Rattle.book.proofs.Falls.{made_each}
-use Rattle.book.proofs.Lists.{each-unmap, length-insert}
-use Rattle.book.proofs.NextRows.{changes_to, place_fits, rows_made}
-use Rattle.book.proofs.Steps.{steps_seen}
-use Rattle.book.proofs.Sums.{each-imp}
+use Rattle.ledger.proofs.Prelude.{Each, List, MAX_ORDER_LINES, Order, ap, arith, effect, length, map, rows_among, subst, sym, ℕ, ◌∙◌, ◌≡◌, ◌≤◌}
+use Rattle.ledger.specs.declared.limits.TheConstants.{MAX_PLACES}
+use Rattle.book.proofs.Prelude.{OrderEntry, order_of, step_to}
 use Rattle.book.proofs.book.Book.changes_of.Goals as goal
+use Rattle.book.proofs.Among.{appended}
+use Rattle.ledger.proofs.Falls.{made_each}
+use Rattle.ledger.proofs.Lists.{each-unmap, length-insert}
+use Rattle.book.proofs.NextRows.{changes_to, place_fits, rows_made}
+use Rattle.book.proofs.StepsSeen.{steps_seen}
+use Rattle.ledger.proofs.Sums.{each-imp}
 
 pub desk_row-requires : goal.desk_row-requires
 desk_row-requires c = subst (λ n. n ≤ MAX_PLACES) (sym c.requires.makes.place) (place_fits c.args.self.now.ledger c.args.request.now c.requires.accepts.after)

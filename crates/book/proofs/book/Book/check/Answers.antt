@@ -1,4 +1,5 @@
-use Rattle.book.proofs.Prelude.{Command, Finds, IsFound, checks, subst, sym}
+use Rattle.ledger.proofs.Prelude.{Command, checks, subst, sym}
+use Rattle.book.proofs.Prelude.{Finds, IsFound}
 use Rattle.book.proofs.book.Book.check.Goals as goal
 
 pub returns-in-Rebound : goal.returns-in-Rebound

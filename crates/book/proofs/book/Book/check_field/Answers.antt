@@ -1,4 +1,4 @@
-use Rattle.book.proofs.Prelude.{arith, common_steps, inr, refl}
+use Rattle.ledger.proofs.Prelude.{arith, common_steps, inr, refl}
 use Rattle.book.proofs.CheckAnswers.{no}
 use Rattle.book.proofs.FieldRows.{new_found, only_found}
 use Rattle.words.specs.declared.command.Command.TheVariants.{Field}

@@ -1,4 +1,5 @@
-use Rattle.book.proofs.Prelude.{[], FieldEntry, IfOk, List, ap, common_steps, map, new_share, subst, take_all, ◌+◌, ◌∙◌, ◌∷◌, Name, None, OpenLine, Some, arith, name_of, no_field, refl, sym}
+use Rattle.ledger.proofs.Prelude.{[], IfOk, List, ap, common_steps, map, subst, take_all, ◌+◌, ◌∙◌, ◌∷◌, Name, None, OpenLine, Some, arith, name_of, no_field, refl, sym}
+use Rattle.book.proofs.Prelude.{FieldEntry, new_share}
 use Rattle.book.specs.inner.Checking.{bound_checks}
 use Rattle.book.specs.inner.RunningNumbers.{CountsAll}
 use Rattle.index.specs.InOrder.{Entries}

@@ -1,4 +1,5 @@
-use Rattle.book.proofs.Prelude.{IfOk, map, new_share, take}
+use Rattle.ledger.proofs.Prelude.{IfOk, map, take}
+use Rattle.book.proofs.Prelude.{new_share}
 use Rattle.book.specs.inner.RunningNumbers.{CountsAll}
 use Rattle.book.proofs.CheckAnswers.{AreApart, RestDecides}
 use Rattle.book.proofs.book.Book.check_lines.Given as goal

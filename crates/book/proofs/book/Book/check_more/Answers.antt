@@ -1,4 +1,5 @@
-use Rattle.book.proofs.Prelude.{IsFound, More, None, Some, arith, checks, field_of, order_of}
+use Rattle.book.proofs.Prelude.{IsFound, field_of, order_of}
+use Rattle.ledger.proofs.Prelude.{More, None, Some, arith, checks}
 use Rattle.book.proofs.CheckAnswers.{fails_with, go_on, more_decides, no}
 use Rattle.book.proofs.FieldRows.{more_found, only_found}
 use Rattle.book.specs.inner.Checking.{bound_checks, hold_checks}

@@ -1,4 +1,4 @@
-use Rattle.book.proofs.Prelude.{[], ◌∙◌, ◌∷◌, None, Some, Refusal, ap, inl, inr, no_field, refl, sym, true≢false}
+use Rattle.ledger.proofs.Prelude.{[], ◌∙◌, ◌∷◌, None, Some, Refusal, ap, inl, inr, no_field, refl, sym, true≢false}
 use Rattle.book.proofs.CheckAnswers.{fails_with, cut_short, full_decides, go_on, moving_decides, no}
 use Rattle.book.proofs.FieldRows.{moved_found, only_found}
 use Rattle.book.proofs.RunningNumbers.{grants, move_granted, refuses}

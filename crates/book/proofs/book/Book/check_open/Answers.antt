@@ -1,4 +1,4 @@
-use Rattle.book.proofs.Prelude.{[], None, line_checks, new_order, order_checks}
+use Rattle.ledger.proofs.Prelude.{[], None, line_checks, new_order, order_checks}
 use Rattle.book.proofs.CheckAnswers.{go_on}
 use Rattle.book.proofs.book.Book.check_open.Goals as goal
 

@@ -1,4 +1,6 @@
-use Rattle.book.proofs.Prelude.{Finds, IfOk, IsFound, IsSomeAnd, Ledger, List, OpenLine, Plain, Transfer, checks, map, new_share, subst, transfer_lines}
+use Rattle.book.proofs.Prelude.{Finds, IsFound, new_share}
+use Rattle.ledger.proofs.Prelude.{IfOk, IsSomeAnd, Ledger, List, OpenLine, checks, map, subst, transfer_lines}
+use Rattle.ledger.specs.declared.order.Kind.TheVariants.{Plain, Transfer}
 use Rattle.words.specs.declared.command.Command.TheVariants as command
 use Rattle.book.specs.inner.RunningNumbers.{CountsAll}
 use Rattle.book.proofs.CheckAnswers.{finds_too}

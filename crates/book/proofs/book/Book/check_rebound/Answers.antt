@@ -1,4 +1,5 @@
-use Rattle.book.proofs.Prelude.{IsFound, None, Some, arith, checks}
+use Rattle.book.proofs.Prelude.{IsFound}
+use Rattle.ledger.proofs.Prelude.{None, Some, arith, checks}
 use Rattle.book.proofs.CheckAnswers.{fails_with, no, rebound_decides}
 use Rattle.book.proofs.FieldRows.{bounds_found, only_found}
 use Rattle.words.specs.declared.command.Command.TheVariants.{Rebound}

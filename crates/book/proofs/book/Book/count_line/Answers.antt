@@ -1,4 +1,6 @@
-use Rattle.book.proofs.Prelude.{◌∙◌, ◌≡◌, Counts, FieldEntry, Ledger, Line, Name, Option, ShareStep, Step, ap, changes_stock, false, insert_entry, line_seen, lines_before, name_cmp, option_copied, share_before, share_step, slice_get, step_seen, subst, sym, true}
+use Rattle.ledger.proofs.Prelude.{◌∙◌, ◌≡◌, Ledger, Name, Option, ShareStep, Step, ap, changes_stock, false, insert_entry, name_cmp, option_copied, share_before, share_step, slice_get, subst, sym, true}
+use Rattle.book.proofs.Prelude.{Counts, FieldEntry, line_seen, lines_before, step_seen}
+use Rattle.ledger.specs.declared.order.Line.{Line}
 use Rattle.book.proofs.ChangedFields.{line_counted, line_held, line_skipped, on_ok_both}
 use Rattle.book.proofs.book.Book.count_line.Goals as goal
 

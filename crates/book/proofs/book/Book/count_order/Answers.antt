@@ -1,7 +1,9 @@
-use Rattle.book.proofs.Prelude.{[], ◌+◌, ◌<◌, ◌∷◌, ◌≡◌, CountsMore, Falls, Ledger, Line, List, MayCount, Step, ap, arith, get_or, length, line_seen, line_steps, map, option_map_or, order_of, share_step, slice_get, step_to, subst, sym, take_all, ℕ}
-use Rattle.book.proofs.ChangedFields.{counts-nothing, line_falls, line_may, line_more, seen_both}
-use Rattle.book.proofs.Steps.{IsStepAt, step_at}
+use Rattle.book.proofs.Prelude.{CountsMore, MayCount, line_seen, order_of, step_to}
+use Rattle.ledger.proofs.Prelude.{Falls, Ledger, List, Step, [], ap, arith, get_or, length, line_steps, map, option_map_or, share_step, slice_get, subst, sym, take_all, ℕ, ◌+◌, ◌<◌, ◌∷◌, ◌≡◌}
+use Rattle.ledger.specs.declared.order.Line.{Line}
 use Rattle.book.proofs.book.Book.count_order.Goals as goal
+use Rattle.book.proofs.ChangedFields.{counts-nothing, line_falls, line_may, line_more, seen_both}
+use Rattle.book.proofs.StepsSeen.{IsStepAt, step_at}
 
 pub loop-place-init : goal.loop-place-init
 loop-place-init c = counts-nothing c.args.self.now.ledger c.args.fields.now.entries

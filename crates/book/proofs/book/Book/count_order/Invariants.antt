@@ -1,5 +1,6 @@
 -- the lines so far are counted
-use Rattle.book.proofs.Prelude.{[], CountsMore, line_steps, map, option_map_or, order_of, share_step, step_to, take}
+use Rattle.ledger.proofs.Prelude.{[], line_steps, map, option_map_or, share_step, take}
+use Rattle.book.proofs.Prelude.{CountsMore, order_of, step_to}
 use Rattle.book.proofs.book.Book.count_order.Given as goal
 
 abbrev pub invariant-loop-place : goal.invariant-loop-place

@@ -1,4 +1,5 @@
-use Rattle.book.proofs.Prelude.{CountsAll, Ledger, List, ShareStep, subst, sym, take}
+use Rattle.book.proofs.Prelude.{CountsAll}
+use Rattle.ledger.proofs.Prelude.{Ledger, List, ShareStep, subst, sym, take}
 use Rattle.book.proofs.ChangedFields.{all_shares, next_shares, order_falls, order_held}
 use Rattle.book.proofs.book.Book.count_orders.Goals as goal
 

@@ -1,5 +1,6 @@
 -- the lines of the orders so far are counted
-use Rattle.book.proofs.Prelude.{CountsAll, flat_map, map, order_of, shares_of_step, step_to, take}
+use Rattle.book.proofs.Prelude.{CountsAll, order_of, step_to}
+use Rattle.ledger.proofs.Prelude.{flat_map, map, shares_of_step, take}
 use Rattle.book.proofs.book.Book.count_orders.Given as goal
 
 abbrev pub invariant-loop-order : goal.invariant-loop-order

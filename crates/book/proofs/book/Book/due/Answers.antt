@@ -1,5 +1,6 @@
 use Rattle.std.proofs.lemmas.List.Sorted.{IsNonDecreasingBy-from_sort}
-use Rattle.book.proofs.Prelude.{◌∙◌, BookView, IsPermutation, List, ap, expires, filter, map, subst, ℕ}
+use Rattle.ledger.proofs.Prelude.{◌∙◌, IsPermutation, List, ap, expires, filter, map, subst, ℕ}
+use Rattle.book.proofs.Prelude.{BookView}
 use Rattle.book.proofs.ExpiredOrders.{numbers_sorted}
 use Rattle.book.proofs.book.Book.due.Goals as goal
 

@@ -1,6 +1,7 @@
-use Rattle.book.proofs.Prelude.{BookView, Good, IsUpToDate, get_or_from_slice_get, ledger_of, slice_get_within, subst, sym}
+use Rattle.book.proofs.Prelude.{BookView, IsUpToDate, ledger_of}
+use Rattle.ledger.proofs.Prelude.{Good, get_or_from_slice_get, slice_get_within, subst, sym}
 use Rattle.book.proofs.ShownNumbers.{slice_get-fields}
-use Rattle.book.proofs.Lists.{each-at}
+use Rattle.ledger.proofs.Lists.{each-at}
 use Rattle.book.proofs.book.Book.field_at.Goals as goal
 
 pub returns-clause-found : goal.returns-clause-found

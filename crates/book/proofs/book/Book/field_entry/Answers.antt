@@ -1,4 +1,5 @@
-use Rattle.book.proofs.Prelude.{◌≡◌, Bor, Each, Field, FieldEntry, IfSome, IsUpToDate, Ledger, List, MatchOption, Name, None, Option, Some, arith, field_of, is_at, ledger_of, lookup, name_cmp, option_copied, option_map, sym}
+use Rattle.ledger.proofs.Prelude.{◌≡◌, Bor, Each, Field, IfSome, Ledger, List, MatchOption, Name, None, Option, Some, arith, is_at, lookup, name_cmp, option_copied, option_map, sym}
+use Rattle.book.proofs.Prelude.{FieldEntry, IsUpToDate, field_of, ledger_of}
 use Rattle.book.proofs.KeyPlaces.{field_found}
 use Rattle.book.proofs.ChangedFields.{each_at_name}
 use Rattle.book.proofs.book.Book.field_entry.Goals as goal

@@ -1,4 +1,4 @@
-use Rattle.book.proofs.Prelude.{◌∙◌, ap, option_copied, sym}
+use Rattle.ledger.proofs.Prelude.{◌∙◌, ap, option_copied, sym}
 use Rattle.book.proofs.ChangedFields.{from_book, from_entries}
 use Rattle.book.proofs.book.Book.field_so_far.Goals as goal
 

@@ -1,10 +1,11 @@
-use Rattle.book.proofs.Prelude.{◌∙◌, ◌≡◌, Accepts, AreHeld, CountsAll, Each, Err, Falls, IfOk, IsFound, IsSome, Ledger, List, Ok, Order, OrderEntry, Request, Result, ShareStep, ap, field_named, flat_map, line_name, map, order_of, orders_made, share_steps, shares_of_step, step_to, subst, sym, ℕ}
+use Rattle.ledger.proofs.Prelude.{Accepts, AreHeld, Each, Err, Falls, IfOk, IsSome, Ledger, List, Ok, Order, Request, Result, ShareStep, ap, field_named, flat_map, line_name, map, orders_made, share_steps, shares_of_step, subst, sym, ℕ, ◌∙◌, ◌≡◌}
+use Rattle.book.proofs.Prelude.{CountsAll, IsFound, OrderEntry, order_of, step_to}
+use Rattle.book.proofs.book.Book.fields_after.Goals as goal
 use Rattle.book.proofs.ChangedFields.{all_shares}
 use Rattle.book.proofs.FieldRows.{asks_none, counted_rows, keeps_fields}
-use Rattle.book.proofs.Falls.{all_fall, all_held, fields_there}
-use Rattle.book.proofs.Lists.{each-unmap}
-use Rattle.book.proofs.Steps.{steps_seen}
-use Rattle.book.proofs.book.Book.fields_after.Goals as goal
+use Rattle.ledger.proofs.Falls.{all_fall, all_held, fields_there}
+use Rattle.ledger.proofs.Lists.{each-unmap}
+use Rattle.book.proofs.StepsSeen.{steps_seen}
 
 -- what the lines of the orders count for
 shares : (A : Ledger) (r : Request) (os : List (ℕ × OrderEntry)) → Accepts A r → map order_of os ≡ orders_made A r.command → share_steps A r.command ≡ all_shares A os
@@ -29,7 +30,7 @@ count_orders-requires-clause-falls c =
 pub count_orders-requires-clause-may : goal.count_orders-requires-clause-may
 count_orders-requires-clause-may c =
     let A : Ledger = c.args.self.now.ledger in let r : Request = c.args.request.now in
-    subst (AreHeld A) (shares A r c.args.orders.now c.requires.accepts c.requires.orders) (all_held A r c.requires.accepts (subst (IsFound A r.command) c.in_default.is c.requires.found))
+    subst (AreHeld A) (shares A r c.args.orders.now c.requires.accepts c.requires.orders) (all_held A r c.requires.accepts)
 
 pub returns : goal.returns
 returns c =

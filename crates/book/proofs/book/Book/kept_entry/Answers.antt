@@ -1,4 +1,5 @@
-use Rattle.book.proofs.Prelude.{◌≡◌, Bor, Kept, KeptEntry, List, MatchOption, None, Option, Some, kept_of, option_copied, option_map, ℕ}
+use Rattle.ledger.proofs.Prelude.{◌≡◌, Bor, Kept, List, MatchOption, None, Option, Some, option_copied, option_map, ℕ}
+use Rattle.book.proofs.Prelude.{KeptEntry, kept_of}
 use Rattle.book.proofs.KeyPlaces.{kept_found}
 use Rattle.book.proofs.book.Book.kept_entry.Goals as goal
 

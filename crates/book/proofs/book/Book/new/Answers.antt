@@ -1,4 +1,4 @@
-use Rattle.book.proofs.Runs.{good_new}
+use Rattle.ledger.proofs.Runs.{good_new}
 use Rattle.book.proofs.book.Book.new.Goals as goal
 
 pub invariant_of-result : goal.invariant_of-result

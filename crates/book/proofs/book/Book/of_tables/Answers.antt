@@ -1,8 +1,9 @@
-use Rattle.book.proofs.Prelude.{◌∙◌, ◌≡◌, AllZip, Content, Each, Field, Good, IsFieldRow, IsRowsOf, IsUpToDate, Kept, Ledger, Order, OrderEntry, ap, arith, count_by, field_of, is_open, kept_of, ledger_of, map, map-map, move_of, open_orders, open_state, order_of, subst, sym, told_ledger, ℕ}
-use Rattle.book.specs.Tables.{content_of}
+use Rattle.ledger.proofs.Prelude.{◌∙◌, ◌≡◌, AllZip, Content, Each, Field, Good, IsFieldRow, IsRowsOf, Kept, Ledger, Order, ap, arith, count_by, is_open, map, map-map, open_orders, open_state, subst, sym, ℕ}
+use Rattle.book.proofs.Prelude.{IsUpToDate, OrderEntry, field_of, kept_of, ledger_of, move_of, order_of, told_ledger}
+use Rattle.ledger.specs.Tables.{content_of}
 use Rattle.book.proofs.NextRows.{viewed}
-use Rattle.book.proofs.TestResults.{true_not_false}
-use Rattle.book.proofs.EqualRows.{one_content, rows_are, rows_of, rows_tell, told_once}
+use Rattle.ledger.proofs.TestResults.{true_not_false}
+use Rattle.ledger.proofs.EqualRows.{one_content, rows_are, rows_of, rows_tell, told_once}
 use Rattle.book.proofs.RowEntries.{told_bounded, told_rows}
 use Rattle.book.proofs.RunningNumbers.{entries_of_rows, rows_of_entries}
 use Rattle.book.proofs.book.Book.of_tables.Goals as goal

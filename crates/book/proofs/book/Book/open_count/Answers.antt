@@ -1,4 +1,5 @@
-use Rattle.book.proofs.Prelude.{BookView, ◌∙◌, ap, open_orders}
+use Rattle.book.proofs.Prelude.{BookView}
+use Rattle.ledger.proofs.Prelude.{◌∙◌, ap, open_orders}
 use Rattle.book.proofs.OpenOrders.{open_counted}
 use Rattle.book.proofs.book.Book.open_count.Goals as goal
 

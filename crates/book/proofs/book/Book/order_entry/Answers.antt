@@ -1,4 +1,5 @@
-use Rattle.book.proofs.Prelude.{◌≡◌, Bor, MatchOption, None, Option, Order, OrderEntry, Some, option_copied, option_map, order_of, ℕ}
+use Rattle.ledger.proofs.Prelude.{◌≡◌, Bor, MatchOption, None, Option, Order, Some, option_copied, option_map, ℕ}
+use Rattle.book.proofs.Prelude.{OrderEntry, order_of}
 use Rattle.book.proofs.KeyPlaces.{order_found}
 use Rattle.book.proofs.book.Book.order_entry.Goals as goal
 

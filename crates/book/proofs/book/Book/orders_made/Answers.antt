@@ -1,8 +1,9 @@
-use Rattle.book.proofs.Prelude.{[], ◌++◌, ◌∙◌, ◌∷◌, Effect, OrderEntry, Step, ap, effect, effect_seen, expires, flat_map, made_of, map, order_of, steps, sym}
+use Rattle.ledger.proofs.Prelude.{[], ◌++◌, ◌∙◌, ◌∷◌, Effect, Step, ap, effect, expires, flat_map, map, steps, sym}
+use Rattle.book.proofs.Prelude.{OrderEntry, effect_seen, made_of, order_of}
 use Rattle.std.proofs.Common.{Global, Vec}
 use Rattle.escrow.specs.declared.number.OrderNo.{OrderNo}
 use Rattle.book.specs.declared.book.made.OrderChange.TheVariants.{End}
-use Rattle.book.specs.declared.order.State.TheVariants.{Aborted}
+use Rattle.ledger.specs.declared.order.State.TheVariants.{Aborted}
 use Rattle.book.proofs.CommandOrder.{may_change}
 use Rattle.book.proofs.ExpiredOrders.{number_made, numbered_made}
 use Rattle.book.proofs.book.Book.orders_made.Goals.{in-Nothing, in-Opens+in_ok-push-in-Opens, in-Changes+in_ok-push_changed-in-Changes, in-Expires+in_ok-numbers-in-Expires+in_ok-push_aborted-in-Expires}

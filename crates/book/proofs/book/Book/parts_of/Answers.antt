@@ -1,4 +1,5 @@
-use Rattle.book.proofs.Prelude.{◌∙◌, Command, ap, map, move_made, next, order_of, refl}
+use Rattle.ledger.proofs.Prelude.{◌∙◌, Command, ap, map, move_made, next, refl}
+use Rattle.book.proofs.Prelude.{order_of}
 use Rattle.book.proofs.NextRows.{place_is}
 use Rattle.book.proofs.book.Book.parts_of.Goals as goal
 

@@ -1,4 +1,5 @@
-use Rattle.book.proofs.Prelude.{◌∙◌, ◌≡◌, ChangesTo, Command, FirstFailure, IsAccepted, None, Request, ap, checks, is_some, orders_made, rows_among, subst, sym}
+use Rattle.ledger.proofs.Prelude.{◌∙◌, ◌≡◌, Command, FirstFailure, IsAccepted, None, Request, ap, checks, is_some, orders_made, rows_among, subst, sym}
+use Rattle.book.proofs.Prelude.{ChangesTo}
 use Rattle.book.specs.Plans.{Fits}
 use Rattle.book.specs.inner.PlansSeen.{plan_of}
 use Rattle.book.proofs.book.Book.plan.Goals as goal

@@ -1,6 +1,7 @@
-use Rattle.book.proofs.Prelude.{◌++◌, ◌∙◌, List, Order, ap, append_assoc, flat_map, made_of, map, order_of, sym, take}
+use Rattle.ledger.proofs.Prelude.{◌++◌, ◌∙◌, List, Order, ap, append_assoc, flat_map, map, sym, take}
+use Rattle.book.proofs.Prelude.{made_of, order_of}
 use Rattle.book.specs.declared.book.made.OrderChange.TheVariants.{End}
-use Rattle.book.specs.declared.order.State.TheVariants.{Aborted}
+use Rattle.ledger.specs.declared.order.State.TheVariants.{Aborted}
 use Rattle.book.proofs.ExpiredOrders.{flat_next}
 use Rattle.book.proofs.book.Book.push_aborted.Goals as goal
 

@@ -1,7 +1,8 @@
 -- the orders so far are there
-use Rattle.book.proofs.Prelude.{◌++◌, ◌≡◌, flat_map, made_of, map, order_of, take}
+use Rattle.ledger.proofs.Prelude.{◌++◌, ◌≡◌, flat_map, map, take}
+use Rattle.book.proofs.Prelude.{made_of, order_of}
 use Rattle.book.specs.declared.book.made.OrderChange.TheVariants.{End}
-use Rattle.book.specs.declared.order.State.TheVariants.{Aborted}
+use Rattle.ledger.specs.declared.order.State.TheVariants.{Aborted}
 use Rattle.book.proofs.book.Book.push_aborted.Given as goal
 
 abbrev pub invariant-loop-number : goal.invariant-loop-number

@@ -1,4 +1,5 @@
-use Rattle.book.proofs.Prelude.{[], ◌++◌, ◌∙◌, ◌∷◌, ◌+◌, ◌≤◌, Order, Some, ap, changed_order, map, map-append, option_map_or, order_of, subst, sym, vec_capacity, vec_len}
+use Rattle.ledger.proofs.Prelude.{[], ◌++◌, ◌∙◌, ◌∷◌, ◌+◌, ◌≤◌, Order, Some, ap, map, map-append, option_map_or, subst, sym, vec_capacity, vec_len}
+use Rattle.book.proofs.Prelude.{changed_order, order_of}
 use Rattle.book.proofs.book.Book.push_changed.Goals as goal
 
 pub change_order-requires : goal.change_order-requires

@@ -1,5 +1,6 @@
-use Rattle.book.proofs.Prelude.{[], ◌∙◌, ◌∷◌, List, OrderEntry, ap, append_assoc, arith, flat_map-append, map, map-append, order_of, step_to, take, ℕ}
-use Rattle.book.proofs.Lists.{take-step}
+use Rattle.ledger.proofs.Prelude.{[], ◌∙◌, ◌∷◌, List, ap, append_assoc, arith, flat_map-append, map, map-append, take, ℕ}
+use Rattle.book.proofs.Prelude.{OrderEntry, order_of, step_to}
+use Rattle.ledger.proofs.Lists.{take-step}
 use Rattle.book.proofs.book.Book.push_steps.Goals as goal
 
 pub loop-order-preserved : goal.loop-order-preserved

@@ -1,5 +1,6 @@
 -- the rows of the orders so far are there
-use Rattle.book.proofs.Prelude.{◌≡◌, joined, map, order_of, rows_among, step_rows, step_to, take}
+use Rattle.ledger.proofs.Prelude.{◌≡◌, map, rows_among, take}
+use Rattle.book.proofs.Prelude.{joined, order_of, step_rows, step_to}
 use Rattle.book.proofs.book.Book.push_steps.Given as goal
 
 abbrev pub invariant-loop-order : goal.invariant-loop-order

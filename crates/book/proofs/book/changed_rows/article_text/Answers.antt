@@ -1,4 +1,4 @@
-use Rattle.book.proofs.Prelude.{IsUtf8, subst, sym}
+use Rattle.ledger.proofs.Prelude.{IsUtf8, subst, sym}
 use Rattle.book.proofs.Texts.{article_utf8}
 use Rattle.book.proofs.book.changed_rows.article_text.Goals as goal
 

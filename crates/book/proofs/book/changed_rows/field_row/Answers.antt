@@ -1,4 +1,4 @@
-use Rattle.book.proofs.Prelude.{arith, ints, pos}
+use Rattle.ledger.proofs.Prelude.{arith, ints, pos}
 use Rattle.book.proofs.RunningNumbers.{entry_cells_are, greatest_is, least_is}
 use Rattle.book.proofs.book.changed_rows.field_row.Goals as goal
 

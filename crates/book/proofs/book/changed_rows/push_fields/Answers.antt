@@ -1,6 +1,7 @@
-use Rattle.book.proofs.Prelude.{[], ◌∙◌, ◌∷◌, ap, append_assoc, arith, entry_row, map, map-append, take}
+use Rattle.ledger.proofs.Prelude.{[], ◌∙◌, ◌∷◌, ap, append_assoc, arith, map, map-append, take}
+use Rattle.book.proofs.Prelude.{entry_row}
 use Rattle.book.proofs.Among.{appended}
-use Rattle.book.proofs.Lists.{read-step}
+use Rattle.ledger.proofs.Lists.{read-step}
 use Rattle.book.proofs.book.changed_rows.push_fields.Goals as goal
 
 pub loop-place-preserved : goal.loop-place-preserved

@@ -1,5 +1,6 @@
 -- the rows of the fields so far are there
-use Rattle.book.proofs.Prelude.{◌≡◌, entry_row, joined, map, no_content, rows_among, take}
+use Rattle.ledger.proofs.Prelude.{◌≡◌, map, no_content, rows_among, take}
+use Rattle.book.proofs.Prelude.{entry_row, joined}
 use Rattle.book.proofs.book.changed_rows.push_fields.Given as goal
 
 abbrev pub invariant-loop-place : goal.invariant-loop-place

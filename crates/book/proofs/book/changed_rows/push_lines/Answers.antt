@@ -1,7 +1,9 @@
-use Rattle.book.proofs.Prelude.{List, Line, append_assoc, arith, flat_map-append, lines_before, option_copied}
-use Rattle.book.proofs.Among.{appended}
-use Rattle.book.proofs.Steps.{step_at}
+use Rattle.ledger.specs.declared.order.Line.{Line}
+use Rattle.ledger.proofs.Prelude.{List, append_assoc, arith, flat_map-append, option_copied}
+use Rattle.book.proofs.Prelude.{lines_before}
 use Rattle.book.proofs.book.changed_rows.push_lines.Goals as goal
+use Rattle.book.proofs.Among.{appended}
+use Rattle.book.proofs.StepsSeen.{step_at}
 
 pub loop-place-preserved : goal.loop-place-preserved
 loop-place-preserved c =

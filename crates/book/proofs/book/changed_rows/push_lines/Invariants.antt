@@ -1,5 +1,6 @@
 -- the rows of the lines so far that change are there
-use Rattle.book.proofs.Prelude.{◌≡◌, amount_row, flat_map, joined, line_steps, lines_before, no_content, option_copied, rows_among, take}
+use Rattle.ledger.proofs.Prelude.{◌≡◌, amount_row, flat_map, line_steps, no_content, option_copied, rows_among, take}
+use Rattle.book.proofs.Prelude.{joined, lines_before}
 use Rattle.book.proofs.book.changed_rows.push_lines.Given as goal
 
 abbrev pub invariant-loop-place : goal.invariant-loop-place

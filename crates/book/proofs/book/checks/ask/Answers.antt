@@ -1,4 +1,5 @@
-use Rattle.book.proofs.Prelude.{FieldEntry, Refusal, Some, Stock, ap, inl, inr, refl, sym, true≢false}
+use Rattle.book.proofs.Prelude.{FieldEntry}
+use Rattle.ledger.proofs.Prelude.{Refusal, Some, Stock, ap, inl, inr, refl, sym, true≢false}
 use Rattle.book.proofs.RunningNumbers.{ask_granted, grants, refuses}
 use Rattle.book.proofs.book.checks.ask.Goals as goal
 

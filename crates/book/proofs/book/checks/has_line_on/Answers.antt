@@ -1,6 +1,6 @@
-use Rattle.book.proofs.Prelude.{◌≡◌, Name, OpenLine, false, new_line, of_calls, on, rules, true}
+use Rattle.ledger.proofs.Prelude.{◌≡◌, Name, OpenLine, false, new_line, of_calls, on, rules, true}
 use Rattle.std.proofs.lemmas.Iterator.{YieldsList-from_slice, cases_from_any}
-use Rattle.book.proofs.Lists.{find-any}
+use Rattle.ledger.proofs.Lists.{find-any}
 use Rattle.book.proofs.book.checks.has_line_on.Goals as goal
 
 pub returns : goal.returns

@@ -1,4 +1,5 @@
-use Rattle.book.proofs.Prelude.{FieldEntry, Stock, ap, arith, inl, inr, ints, refl, subst}
+use Rattle.book.proofs.Prelude.{FieldEntry}
+use Rattle.ledger.proofs.Prelude.{Stock, ap, arith, inl, inr, ints, refl, subst}
 use Rattle.escrow.specs.Escrow.{RefusesBounds}
 use Rattle.book.proofs.CheckAnswers.{bounds_decide}
 use Rattle.book.proofs.book.checks.rebound.Goals as goal

@@ -1,5 +1,5 @@
-use Rattle.book.proofs.Prelude.{◌∙◌, arith}
-use Rattle.book.proofs.Lists.{walk_end, walk_step}
+use Rattle.ledger.proofs.Prelude.{◌∙◌, arith}
+use Rattle.ledger.proofs.Lists.{walk_end, walk_step}
 use Rattle.book.proofs.book.made.change_lines.Goals as goal
 
 pub loop-line-preserved : goal.loop-line-preserved

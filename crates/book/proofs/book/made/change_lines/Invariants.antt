@@ -1,6 +1,7 @@
 -- the lines so far are changed
-use Rattle.book.proofs.Prelude.{◌||◌, ◌≡◌, changed_line, if◌then◌else◌, on}
-use Rattle.book.proofs.Lists.{walked}
+use Rattle.ledger.proofs.Prelude.{◌||◌, ◌≡◌, if◌then◌else◌, on}
+use Rattle.book.proofs.Prelude.{changed_line}
+use Rattle.ledger.proofs.Lists.{walked}
 use Rattle.book.proofs.book.made.change_lines.Given as goal
 
 abbrev pub invariant-loop-line : goal.invariant-loop-line

@@ -1,5 +1,6 @@
 -- the numbers of those so far that expire
-use Rattle.book.proofs.Prelude.{◌≡◌, expires, filter, map, order_of, take}
+use Rattle.ledger.proofs.Prelude.{◌≡◌, expires, filter, map, take}
+use Rattle.book.proofs.Prelude.{order_of}
 use Rattle.book.proofs.book.made.expiring.Given as goal
 
 abbrev pub invariant-loop-order : goal.invariant-loop-order

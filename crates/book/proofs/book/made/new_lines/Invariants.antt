@@ -1,5 +1,5 @@
 -- the lines so far are made
-use Rattle.book.proofs.Prelude.{◌≡◌, map, new_line, take}
+use Rattle.ledger.proofs.Prelude.{◌≡◌, map, new_line, take}
 use Rattle.book.proofs.book.made.new_lines.Given as goal
 
 abbrev pub invariant-loop-line : goal.invariant-loop-line

@@ -1,6 +1,7 @@
-use Rattle.book.proofs.Prelude.{◌↔◌, AreOnFields, HaveNumbers, IfOk, IfOk-weaker, IsTrue, IsWhole, arith, common_steps, ints, move_of, numbers_on, order_of}
-use Rattle.book.proofs.Lists.{each-unmap, length-of-map}
-use Rattle.book.proofs.Sums.{each-imp}
+use Rattle.ledger.proofs.Prelude.{◌↔◌, IfOk, IfOk-weaker, IsTrue, arith, common_steps, ints}
+use Rattle.book.proofs.Prelude.{AreOnFields, HaveNumbers, IsWhole, move_of, numbers_on, order_of}
+use Rattle.ledger.proofs.Lists.{each-unmap, length-of-map}
+use Rattle.ledger.proofs.Sums.{each-imp}
 use Rattle.book.proofs.JudgedLedger.{few_moves_if_whole, good_iff, whole_if_good}
 use Rattle.book.proofs.book.tables.are_good.Goals as goal
 

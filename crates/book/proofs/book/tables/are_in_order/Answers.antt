@@ -1,5 +1,5 @@
-use Rattle.book.proofs.Prelude.{◌∙◌, refl, sym, true≢false}
-use Rattle.book.proofs.TestResults.{no}
+use Rattle.ledger.proofs.Prelude.{◌∙◌, refl, sym, true≢false}
+use Rattle.ledger.proofs.TestResults.{no}
 use Rattle.book.proofs.book.tables.are_in_order.Goals as goal
 use Rattle.book.proofs.book.tables.are_in_order.Goals.{then-not-are_keys_in_order-via-then-not-are_keys_in_order, then-not-are_keys_in_order-via-else-not-are_keys_in_order+then-not-are_moves_in_order}
 

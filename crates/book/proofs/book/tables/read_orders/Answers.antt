@@ -1,6 +1,6 @@
-use Rattle.book.proofs.Prelude.{arith}
+use Rattle.ledger.proofs.Prelude.{arith}
 use Rattle.book.proofs.RowEntries.{lines_told, orders_told, rows_of_orders}
-use Rattle.book.proofs.TestResults.{passed_up}
+use Rattle.ledger.proofs.TestResults.{passed_up}
 use Rattle.book.proofs.book.tables.read_orders.Goals as goal
 
 pub returns-in_err-told-clause-damaged : goal.returns-in_err-told-clause-damaged

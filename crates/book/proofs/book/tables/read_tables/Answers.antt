@@ -1,9 +1,12 @@
-use Rattle.book.proofs.Prelude.{[], ◌∙◌, ◌∷◌, ◌≡◌, AllZip, DeskCells, Each, FieldEntry, FieldRow, IsFieldRow, IsFieldTold, IsGoodField, IsGoodKept, IsKeptTold, IsMoveTold, KeptCells, KeptEntry, KeptRow, List, Name, TellsField, ap, arith, field_cells, field_of, firm_cells, kept_cells, kept_of, kept_row, length, line_cells, map, move_cells, move_of, move_row, order_cells, places, subst, sym, ℕ}
-use Rattle.book.specs.Rows.{desk_of}
+use Rattle.ledger.proofs.Prelude.{[], ◌∙◌, ◌∷◌, ◌≡◌, AllZip, DeskCells, Each, IsFieldRow, IsGoodField, IsGoodKept, KeptCells, List, Name, TellsField, ap, arith, field_cells, firm_cells, kept_cells, kept_row, length, line_cells, map, move_cells, move_row, order_cells, places, subst, sym, ℕ}
+use Rattle.book.proofs.Prelude.{FieldEntry, IsFieldTold, IsKeptTold, IsMoveTold, KeptEntry, field_of, kept_of, move_of}
+use Rattle.ledger.specs.declared.rows.FieldRow.{FieldRow}
+use Rattle.ledger.specs.declared.rows.KeptRow.{KeptRow}
+use Rattle.ledger.specs.Rows.{desk_of}
 use Rattle.book.proofs.RowEntries.{fields_told, good_field, kept_told, moves_told, rows_of, tells_field}
-use Rattle.book.proofs.Lists.{length-of-map, zip-length, zip-map}
-use Rattle.book.proofs.EqualRows.{same_first}
-use Rattle.book.proofs.TestResults.{passed_up}
+use Rattle.ledger.proofs.Lists.{length-of-map, zip-length, zip-map}
+use Rattle.ledger.proofs.EqualRows.{same_first}
+use Rattle.ledger.proofs.TestResults.{passed_up}
 use Rattle.book.proofs.book.tables.read_tables.Goals as goal
 
 pub returns-in_err-fields-clause-damaged : goal.returns-in_err-fields-clause-damaged

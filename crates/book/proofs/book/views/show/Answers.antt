@@ -1,8 +1,9 @@
-use Rattle.book.proofs.Prelude.{◌+ℤ◌, ◌-ℤ◌, ◌∙◌, ◌≡◌, Field, FieldCells, IsInfimum, IsSupremum, ap, field_of, held_to_add, held_to_take, pos, refl, settled, subst, sym}
-use Rattle.book.proofs.Bounds.{inf_is, sup_is}
-use Rattle.book.proofs.Futures.{sounds_from_good}
-use Rattle.book.proofs.RunningNumbers.{greatest_is, least_is}
+use Rattle.ledger.proofs.Prelude.{Field, FieldCells, IsInfimum, IsSupremum, ap, held_to_add, held_to_take, pos, refl, settled, subst, sym, ◌+ℤ◌, ◌-ℤ◌, ◌∙◌, ◌≡◌}
+use Rattle.book.proofs.Prelude.{field_of}
 use Rattle.book.proofs.book.views.show.Goals as goal
+use Rattle.ledger.proofs.Bounds.{inf_is, sup_is}
+use Rattle.ledger.proofs.Falls.{sounds_from_good}
+use Rattle.book.proofs.RunningNumbers.{greatest_is, least_is}
 
 pub returns : goal.returns
 returns c A good up =

@@ -1,4 +1,4 @@
-use Rattle.book.proofs.Prelude.{arith, spelling_one}
+use Rattle.ledger.proofs.Prelude.{arith, spelling_one}
 use Rattle.book.proofs.kept_words.KeptWords.of.Goals as goal
 
 pub returns : goal.returns

@@ -1,4 +1,4 @@
-use Rattle.book.proofs.Prelude.{None, Some, ◌∙◌, ◌≡◌, ◌≤◌, IsStrictlySortedBy, ap, arith, find, length, nat_cmp, option_copied, slice_get, subst, sym}
+use Rattle.ledger.proofs.Prelude.{None, Some, ◌∙◌, ◌≡◌, ◌≤◌, IsStrictlySortedBy, ap, arith, find, length, nat_cmp, option_copied, slice_get, subst, sym}
 use Rattle.book.specs.OrderLists.{OrderEntries}
 use Rattle.book.specs.inner.OpenOrders.{IsFirstFrom, is_open_from, open_numbers}
 use Rattle.book.proofs.OpenOrders.{first_open, none_open, open_sorted}

@@ -1,4 +1,4 @@
-use Rattle.book.proofs.Prelude.{ap, arith, length}
+use Rattle.ledger.proofs.Prelude.{ap, arith, length}
 use Rattle.book.proofs.orders.Orders.reserve.Goals as goal
 
 pub overflow_add-len : goal.overflow_add-len

@@ -1,8 +1,8 @@
 use Rattle.std.proofs.Common.{◌≡◌, [], ◌∷◌, List, false, subst, sym}
-use Rattle.book.specs.Rows.{Content}
-use Rattle.book.specs.declared.rows.Change.{Change}
+use Rattle.ledger.specs.Rows.{Content}
+use Rattle.ledger.specs.declared.rows.Change.{Change}
 use Rattle.desk.specs.Deferred.{PutsOff, PutsOffOneOf}
-use Rattle.keep.specs.Transactions.{with_changes}
+use Rattle.keep.specs.Content.{with_changes}
 use Rattle.desk.proofs.PutOff.{off_alone, off_either, off_still}
 use Rattle.desk.proofs.deferred.DeferredKeep.commit.Goals as goal
 

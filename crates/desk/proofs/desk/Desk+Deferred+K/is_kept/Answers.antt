@@ -1,5 +1,5 @@
 use Rattle.std.proofs.Common.{◌≡◌, [], List, false, subst}
-use Rattle.book.specs.declared.rows.Change.{Change}
+use Rattle.ledger.specs.declared.rows.Change.{Change}
 use Rattle.desk.specs.Deferred.{PutsOff, PutsOffOneOf}
 use Rattle.desk.specs.Desk.{IsStored}
 use Rattle.desk.proofs.PutOff.{stored_behind}

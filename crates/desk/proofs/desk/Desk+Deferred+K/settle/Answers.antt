@@ -1,7 +1,7 @@
 use Rattle.std.proofs.Common.{◌≡◌, ◌∙◌, List, false, subst, sym, true≢false}
-use Rattle.book.specs.Good.{Good}
-use Rattle.book.specs.Ledger.{Ledger}
-use Rattle.book.specs.declared.rows.Change.{Change}
+use Rattle.ledger.specs.Good.{Good}
+use Rattle.ledger.specs.Ledger.{Ledger}
+use Rattle.ledger.specs.declared.rows.Change.{Change}
 use Rattle.desk.specs.Deferred.{PutsOff, PutsOffOneOf}
 use Rattle.desk.specs.Desk.{IsStored, LeavesEither}
 use Rattle.desk.proofs.PutOff.{err_when, lost_off, of_ok, off_alone, ok_anyway, stored_behind}

@@ -1,10 +1,10 @@
 use Rattle.std.proofs.Common.{◌≡◌, ◌∙◌, false, true≢false, ap, subst, sym, ℕ}
 use Rattle.words.specs.declared.reply.Reply.TheVariants.{Done}
-use Rattle.book.specs.Answers.{Answers}
-use Rattle.book.specs.Good.{Good}
-use Rattle.book.specs.Ledger.{Ledger}
-use Rattle.book.proofs.Runs.{accepted_answered}
-use Rattle.book.specs.Next.{accept}
+use Rattle.ledger.specs.Answers.{Answers}
+use Rattle.ledger.specs.Good.{Good}
+use Rattle.ledger.specs.Ledger.{Ledger}
+use Rattle.ledger.proofs.Runs.{accepted_answered}
+use Rattle.ledger.specs.Next.{accept}
 use Rattle.book.specs.Plans.{Fits}
 use Rattle.desk.specs.Desk.{IsStored, LeavesEither}
 use Rattle.desk.proofs.NextRows.{stored_next, leaves_either}

@@ -1,6 +1,6 @@
 use Rattle.std.proofs.Common.{MatchOption, None, subst, ◌≡◌}
 use Rattle.std.specs.Option.{IsSomeAnd}
-use Rattle.book.specs.Ledger.{field_named, name_of}
+use Rattle.ledger.specs.Ledger.{field_named, name_of}
 use Rattle.book.specs.Views.{ShowsField}
 use Rattle.desk.proofs.desk.Desk.field.Goals as goal
 

@@ -1,11 +1,11 @@
 use Rattle.std.proofs.Common.{◌≢◌, inl, inr, subst, sym}
-use Rattle.book.specs.Good.{Good}
-use Rattle.book.specs.Ledger.{Ledger}
-use Rattle.book.specs.Rows.{IsRowsOf}
-use Rattle.book.specs.Tables.{content_of}
-use Rattle.book.proofs.Futures.{honours_always}
-use Rattle.book.proofs.Runs.{honours_if_good}
-use Rattle.book.proofs.EqualRows.{told_by_rows}
+use Rattle.ledger.specs.Good.{Good}
+use Rattle.ledger.specs.Ledger.{Ledger}
+use Rattle.ledger.specs.Rows.{IsRowsOf}
+use Rattle.ledger.specs.Tables.{content_of}
+use Rattle.ledger.proofs.Futures.{honours_always}
+use Rattle.ledger.proofs.Runs.{honours_if_good}
+use Rattle.ledger.proofs.EqualRows.{told_by_rows}
 use Rattle.desk.specs.declared.fault.OpenFault.TheVariants.{Damaged, NotADesk, OldVersion, Store}
 use Rattle.desk.proofs.desk.Desk.open.Given.{Over}
 use Rattle.desk.proofs.desk.Desk.open.Goals as goal

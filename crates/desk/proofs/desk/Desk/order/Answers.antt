@@ -1,6 +1,6 @@
 use Rattle.std.proofs.Common.{MatchOption, None, subst, ◌≡◌}
 use Rattle.std.specs.Option.{IsSomeAnd}
-use Rattle.book.specs.Ledger.{order_numbered}
+use Rattle.ledger.specs.Ledger.{order_numbered}
 use Rattle.book.specs.Views.{ShowsOrder}
 use Rattle.desk.proofs.desk.Desk.order.Goals as goal
 

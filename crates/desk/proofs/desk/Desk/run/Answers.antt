@@ -2,11 +2,11 @@ use Rattle.std.proofs.Common.{◌≡◌, ◌≢◌, ◌∙◌, ◌+◌, ◌++◌
 use Rattle.std.proofs.lemmas.List.{drop_more, length-append, take_more}
 use Rattle.words.specs.declared.command.Request.{Request}
 use Rattle.words.specs.declared.reply.Reply.{Reply}
-use Rattle.book.specs.Answers.{Runs}
+use Rattle.ledger.specs.Answers.{Runs}
 use Rattle.words.specs.declared.reply.Reply.TheVariants.{Done}
-use Rattle.book.specs.Ledger.{Ledger, places}
-use Rattle.book.specs.Next.{accept}
-use Rattle.book.proofs.Runs.{accepted_answered}
+use Rattle.ledger.specs.Ledger.{Ledger, places}
+use Rattle.ledger.specs.Next.{accept}
+use Rattle.ledger.proofs.Runs.{accepted_answered}
 use Rattle.desk.specs.Desk.{HasAccepted, LeavesEither}
 use Rattle.desk.specs.Replies.{request_line}
 use Rattle.desk.specs.Text.{RepliesAll, items_of}

@@ -1,6 +1,6 @@
 -- the requests so far are answered, and the desk goes on as it began; a stopped one answers none
 use Rattle.std.proofs.Common.{◌≡◌, [], length, take, IsTrue}
-use Rattle.book.specs.Answers.{Runs}
+use Rattle.ledger.specs.Answers.{Runs}
 use Rattle.desk.specs.Desk.{Goes}
 use Rattle.desk.specs.Text.{RepliesAll, items_of}
 use Rattle.desk.specs.declared.run.Ending.TheVariants.{All}

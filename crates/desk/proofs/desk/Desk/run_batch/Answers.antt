@@ -1,7 +1,7 @@
 use Rattle.std.proofs.Common.{◌≡◌, ◌∙◌, [], List, ap, false, length, rules, subst, sym, take, true, true≢false}
 use Rattle.std.specs.Prelude.{◌==◌}
 use Rattle.std.specs.Vec.{vec_len}
-use Rattle.book.specs.declared.rows.Change.{Change}
+use Rattle.ledger.specs.declared.rows.Change.{Change}
 use Rattle.desk.specs.Desk.{desk_state}
 use Rattle.desk.specs.Text.{RepliesAll, items_of}
 use Rattle.desk.specs.Together.{FailsAt, IsBatch}

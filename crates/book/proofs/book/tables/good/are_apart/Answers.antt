@@ -1,10 +1,11 @@
-use Rattle.book.proofs.Prelude.{[], ◌<◌, ◌∙◌, ◌∷◌, ◌≡◌, Bor, IsDistinct, Line, List, MatchOption, None, Option, Some, ap, arith, false, find, get_or, is_some, length, line_name, map, on, refl, same_name, subst, suc, sym, take, true, true≢false, zero, ℕ}
-use Rattle.book.proofs.OutcomeTests.{none_found}
-use Rattle.book.proofs.Safety.{other_way}
-use Rattle.book.proofs.CheckAnswers.{apart_push}
-use Rattle.book.proofs.Lists.{each-unmap, take-step, each_get}
-use Rattle.book.proofs.TestResults.{no}
+use Rattle.ledger.proofs.Prelude.{Bor, IsDistinct, List, MatchOption, None, Option, Some, [], ap, arith, false, find, get_or, is_some, length, line_name, map, on, refl, same_name, subst, suc, sym, take, true, true≢false, zero, ℕ, ◌<◌, ◌∙◌, ◌∷◌, ◌≡◌}
+use Rattle.ledger.specs.declared.order.Line.{Line}
 use Rattle.book.proofs.book.tables.good.are_apart.Goals as goal
+use Rattle.book.proofs.CheckAnswers.{apart_push}
+use Rattle.ledger.proofs.Lists.{each-unmap, each_get, take-step}
+use Rattle.ledger.proofs.TestResults.{no}
+use Rattle.ledger.proofs.FieldNames.{other_way}
+use Rattle.ledger.proofs.Sums.{none_found}
 
 none_before : (ls : List Line) (i : ℕ) (d : Line) → i < length ls → IsDistinct same_name (map line_name ls) → find (on (line_name (get_or ls i d))) (take i ls) ≡ None
 unfolding IsDistinct

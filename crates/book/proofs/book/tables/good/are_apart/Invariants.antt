@@ -1,5 +1,5 @@
 -- no two of the lines so far are on one field
-use Rattle.book.proofs.Prelude.{IsDistinct, line_name, map, same_name, take}
+use Rattle.ledger.proofs.Prelude.{IsDistinct, line_name, map, same_name, take}
 use Rattle.book.proofs.book.tables.good.are_apart.Given as goal
 
 abbrev pub invariant-loop-i : goal.invariant-loop-i

@@ -1,5 +1,5 @@
-use Rattle.book.proofs.Prelude.{◌≡◌, always_returns_same, is_lt, of_calls, refl, rules}
-use Rattle.book.proofs.InRow.{neighbours}
+use Rattle.ledger.proofs.Prelude.{◌≡◌, always_returns_same, is_lt, of_calls, refl, rules}
+use Rattle.ledger.proofs.InRow.{neighbours}
 use Rattle.book.proofs.book.tables.good.are_keys_in_order.Goals as goal
 
 pub returns : goal.returns

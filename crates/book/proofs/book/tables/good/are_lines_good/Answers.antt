@@ -1,6 +1,7 @@
-use Rattle.book.proofs.Prelude.{◌≤◌, IsLevel, Line, of_calls, rules}
+use Rattle.ledger.proofs.Prelude.{◌≤◌, IsLevel, of_calls, rules}
+use Rattle.ledger.specs.declared.order.Line.{Line}
 use Rattle.std.proofs.lemmas.Iterator.{YieldsList-from_slice, cases_from_all}
-use Rattle.book.proofs.Lists.{tested}
+use Rattle.ledger.proofs.Lists.{tested}
 use Rattle.book.proofs.book.tables.good.are_lines_good.Goals as goal
 
 pub returns : goal.returns

@@ -1,6 +1,7 @@
-use Rattle.book.proofs.Prelude.{IsMoveByItself, move_of, of_calls, rules}
+use Rattle.book.proofs.Prelude.{IsMoveByItself, move_of}
+use Rattle.ledger.proofs.Prelude.{of_calls, rules}
 use Rattle.std.proofs.lemmas.Iterator.{YieldsList-from_slice, cases_from_all}
-use Rattle.book.proofs.Lists.{each-tested}
+use Rattle.ledger.proofs.Lists.{each-tested}
 use Rattle.book.proofs.book.tables.good.are_moves_good.Goals as goal
 
 pub returns : goal.returns

@@ -1,6 +1,7 @@
-use Rattle.book.proofs.Prelude.{◌≡◌, Bool, Move, MoveEntry, always_returns_same, move_of, nat_cmp, nat_cmp_total, nat_lt, of_calls, rules}
-use Rattle.book.proofs.InRow.{in_order}
-use Rattle.book.proofs.GoodParts.{lt_is}
+use Rattle.ledger.proofs.Prelude.{◌≡◌, Bool, Move, always_returns_same, nat_cmp, nat_cmp_total, nat_lt, of_calls, rules}
+use Rattle.book.proofs.Prelude.{MoveEntry, move_of}
+use Rattle.ledger.proofs.InRow.{in_order}
+use Rattle.ledger.proofs.GoodParts.{lt_is}
 use Rattle.book.proofs.book.tables.good.are_moves_in_order.Goals as goal
 
 abbrev before : MoveEntry → MoveEntry → Bool

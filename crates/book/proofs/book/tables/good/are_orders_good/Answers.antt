@@ -1,6 +1,7 @@
-use Rattle.book.proofs.Prelude.{IsOrderByItself, of_calls, order_of, rules}
+use Rattle.book.proofs.Prelude.{IsOrderByItself, order_of}
+use Rattle.ledger.proofs.Prelude.{of_calls, rules}
 use Rattle.std.proofs.lemmas.Iterator.{YieldsList-from_slice, cases_from_all}
-use Rattle.book.proofs.Lists.{each-tested}
+use Rattle.ledger.proofs.Lists.{each-tested}
 use Rattle.book.proofs.book.tables.good.are_orders_good.Goals as goal
 
 pub returns : goal.returns

@@ -1,8 +1,9 @@
-use Rattle.book.proofs.Prelude.{◌∙◌, ◌≡◌, ◌≤◌, Bool, IsDistinct, Kept, KeptEntry, List, ap, arith, false, kept_of, length, list_any, map, map-map, nat_eq, refl, slice_index_or, subst, sym, take, take_all, true, ℕ}
+use Rattle.ledger.proofs.Prelude.{◌∙◌, ◌≡◌, ◌≤◌, Bool, IsDistinct, Kept, List, ap, arith, false, length, list_any, map, map-map, nat_eq, refl, slice_index_or, subst, sym, take, take_all, true, ℕ}
+use Rattle.book.proofs.Prelude.{KeptEntry, kept_of}
 use Rattle.std.proofs.lemmas.List.{get_or-replicate, length-set}
-use Rattle.book.proofs.Lists.{each-unmap, apart_next, marks_next, not_before, each-at, each-end, each-next}
-use Rattle.book.proofs.Sums.{each-map}
-use Rattle.book.proofs.TestResults.{no, true_not_false, yes}
+use Rattle.ledger.proofs.Lists.{each-unmap, apart_next, marks_next, not_before, each-at, each-end, each-next}
+use Rattle.ledger.proofs.Sums.{each-map}
+use Rattle.ledger.proofs.TestResults.{no, true_not_false, yes}
 use Rattle.book.proofs.book.tables.good.are_places_good.Goals as goal
 
 abbrev Entry : Type 0

@@ -1,5 +1,5 @@
 -- the places so far are in range and apart, and just they are taken
-use Rattle.book.proofs.Prelude.{◌+◌, ◌≡◌, ◌≤◌, Each, IsDistinct, length, list_any, map, nat_eq, slice_index_or, take, true, ℕ}
+use Rattle.ledger.proofs.Prelude.{◌+◌, ◌≡◌, ◌≤◌, Each, IsDistinct, length, list_any, map, nat_eq, slice_index_or, take, true, ℕ}
 use Rattle.book.proofs.book.tables.good.are_places_good.Given as goal
 
 abbrev pub invariant-loop-entry : goal.invariant-loop-entry

@@ -1,7 +1,7 @@
-use Rattle.book.proofs.Prelude.{arith, common_steps, ints, length-take-le}
+use Rattle.ledger.proofs.Prelude.{arith, common_steps, ints, length-take-le}
 use Rattle.book.proofs.LineGroups.{numbered-at, numbered-push}
-use Rattle.book.proofs.TestResults.{no}
-use Rattle.book.proofs.Lists.{take-step}
+use Rattle.ledger.proofs.TestResults.{no}
+use Rattle.ledger.proofs.Lists.{take-step}
 use Rattle.book.proofs.book.tables.group.are_numbered.Goals as goal
 
 pub loop-i-preserved : goal.loop-i-preserved

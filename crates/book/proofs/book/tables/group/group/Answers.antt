@@ -1,7 +1,9 @@
-use Rattle.book.proofs.Prelude.{[], ◌++◌, ◌+◌, ◌<◌, ◌∙◌, ◌∷◌, ◌≡◌, BeginsOther, Head, IsLineTold, LineCells, LineRow, List, Order, OrderEntry, ap, arith, drop, drop-drop, flat_map, get_or, head_of, length, length-drop, line_cells, lines_from, map, map-append, order_lines, order_of, subst, sym, ℕ}
+use Rattle.ledger.proofs.Prelude.{[], ◌++◌, ◌+◌, ◌<◌, ◌∙◌, ◌∷◌, ◌≡◌, LineCells, List, Order, ap, arith, drop, drop-drop, flat_map, get_or, length, length-drop, line_cells, lines_from, map, map-append, order_lines, subst, sym, ℕ}
+use Rattle.book.proofs.Prelude.{BeginsOther, Head, IsLineTold, OrderEntry, head_of, order_of}
+use Rattle.ledger.specs.declared.rows.LineRow.{LineRow}
 use Rattle.book.proofs.LineGroups.{Tail, drop-step, left_step, lines_step, none_left, tail-first}
-use Rattle.book.proofs.Lists.{zip-drop, zip-length, take-step}
-use Rattle.book.proofs.TestResults.{passed_up}
+use Rattle.ledger.proofs.Lists.{zip-drop, zip-length, take-step}
+use Rattle.ledger.proofs.TestResults.{passed_up}
 use Rattle.book.proofs.book.tables.group.group.Goals as goal
 
 pub behind-lines_left-requires : goal.behind-lines_left-requires

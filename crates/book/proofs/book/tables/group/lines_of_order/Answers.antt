@@ -1,6 +1,8 @@
-use Rattle.book.proofs.Prelude.{◌++◌, ◌∙◌, ◌≡◌, BeginsOther, IsLineTold, LineCells, LineRow, List, ap, arith, drop, length, length-take-le, line_cells, lines_from, map, map-append, subst, sym, take, take-append-drop, true≢false}
+use Rattle.ledger.proofs.Prelude.{◌++◌, ◌∙◌, ◌≡◌, LineCells, List, ap, arith, drop, length, length-take-le, line_cells, lines_from, map, map-append, subst, sym, take, take-append-drop, true≢false}
+use Rattle.book.proofs.Prelude.{BeginsOther, IsLineTold}
+use Rattle.ledger.specs.declared.rows.LineRow.{LineRow}
 use Rattle.book.proofs.LineGroups.{begins-cells, number-cells, numbered-from, own_rows, split_rows}
-use Rattle.book.proofs.Lists.{zip-length, zip-take}
+use Rattle.ledger.proofs.Lists.{zip-length, zip-take}
 use Rattle.book.proofs.book.tables.group.lines_of_order.Goals as goal
 
 pub slice_bounds-from_slice-end : goal.slice_bounds-from_slice-end

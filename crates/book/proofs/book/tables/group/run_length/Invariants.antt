@@ -1,5 +1,5 @@
 -- all rows so far are of the order
-use Rattle.book.proofs.Prelude.{◌≡◌, Each, pos, take}
+use Rattle.ledger.proofs.Prelude.{◌≡◌, Each, pos, take}
 use Rattle.book.proofs.book.tables.group.run_length.Given as goal
 
 abbrev pub invariant-loop-i : goal.invariant-loop-i

@@ -1,6 +1,8 @@
-use Rattle.book.proofs.Prelude.{◌+◌, ◌<◌, ◌≡◌, ◌≤◌, FirmRow, Head, List, OrderCells, arith, get_or, head_row, length, map, refl, set, subst, sym, ℕ}
+use Rattle.ledger.proofs.Prelude.{◌+◌, ◌<◌, ◌≡◌, ◌≤◌, List, OrderCells, arith, get_or, length, map, refl, set, subst, sym, ℕ}
+use Rattle.ledger.specs.declared.rows.FirmRow.{FirmRow}
+use Rattle.book.proofs.Prelude.{Head, head_row}
 use Rattle.book.proofs.Marks.{MarkedSoFar, all_marked, all_named, step_if_named, step_if_unnamed}
-use Rattle.book.proofs.TestResults.{true_not_false}
+use Rattle.ledger.proofs.TestResults.{true_not_false}
 use Rattle.book.proofs.book.tables.marks.mark.Goals as goal
 use Rattle.book.proofs.book.tables.marks.mark.Goals.{then-is_named, else-is_named}
 

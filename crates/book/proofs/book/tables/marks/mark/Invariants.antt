@@ -1,5 +1,6 @@
 -- the heads so far are marked by the rows so far
-use Rattle.book.proofs.Prelude.{head_row, map}
+use Rattle.book.proofs.Prelude.{head_row}
+use Rattle.ledger.proofs.Prelude.{map}
 use Rattle.book.proofs.Marks.{MarkedSoFar}
 use Rattle.book.proofs.book.tables.marks.mark.Given as goal
 

@@ -1,7 +1,7 @@
-use Rattle.book.proofs.Prelude.{arith}
+use Rattle.ledger.proofs.Prelude.{arith}
 use Rattle.std.proofs.Math.Seq.{take-append_seam}
 use Rattle.book.proofs.RowEntries.{heads_cells, heads_told, marked_by}
-use Rattle.book.proofs.TestResults.{passed_up}
+use Rattle.ledger.proofs.TestResults.{passed_up}
 use Rattle.book.proofs.book.tables.marks.read_heads.Goals as goal
 
 pub returns-in_err-heads-clause-damaged : goal.returns-in_err-heads-clause-damaged

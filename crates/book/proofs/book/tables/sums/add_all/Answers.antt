@@ -1,4 +1,5 @@
-use Rattle.book.proofs.Prelude.{◌≡◌, arith, entry_name, map, numbers_on}
+use Rattle.ledger.proofs.Prelude.{◌≡◌, arith, map}
+use Rattle.book.proofs.Prelude.{entry_name, numbers_on}
 use Rattle.std.proofs.lemmas.List.{length-replicate}
 use Rattle.book.proofs.SumsOnFields.{added-all, small-nothing}
 use Rattle.book.proofs.book.tables.sums.add_all.Goals as goal

@@ -1,4 +1,5 @@
-use Rattle.book.proofs.Prelude.{arith, most_of_line}
+use Rattle.ledger.proofs.Prelude.{arith}
+use Rattle.book.proofs.Prelude.{most_of_line}
 use Rattle.book.proofs.SumsOnFields.{added-same}
 use Rattle.book.proofs.book.tables.sums.add_line.Goals as goal
 

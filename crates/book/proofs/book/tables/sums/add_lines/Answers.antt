@@ -1,6 +1,7 @@
-use Rattle.book.proofs.Prelude.{[], ◌*◌, ◌+◌, ◌∙◌, ◌∷◌, ◌≡◌, ◌≤◌, Each, IsField, IsSmall, added, ap, arith, line_name, lines_numbers, most_of_all, most_of_line, most_of_lines, refl, subst, sym, take, ℕ}
+use Rattle.ledger.proofs.Prelude.{[], ◌*◌, ◌+◌, ◌∙◌, ◌∷◌, ◌≡◌, ◌≤◌, Each, ap, arith, line_name, refl, subst, sym, take, ℕ}
+use Rattle.book.proofs.Prelude.{IsField, IsSmall, added, lines_numbers, most_of_all, most_of_line, most_of_lines}
 use Rattle.book.proofs.SumsOnFields.{added-nothing, added-twice, each-small-up, line-step}
-use Rattle.book.proofs.Lists.{each-next}
+use Rattle.ledger.proofs.Lists.{each-next}
 use Rattle.book.proofs.book.tables.sums.add_lines.Goals as goal
 
 pub loop-line-init : goal.loop-line-init

@@ -1,5 +1,6 @@
 -- the lines so far are on fields, and added
-use Rattle.book.proofs.Prelude.{◌*◌, ◌+◌, ◌≡◌, AreLinesOnFields, Each, IsSmall, added, lines_numbers, most_of_line, take, ℕ}
+use Rattle.ledger.proofs.Prelude.{◌*◌, ◌+◌, ◌≡◌, Each, take, ℕ}
+use Rattle.book.proofs.Prelude.{AreLinesOnFields, IsSmall, added, lines_numbers, most_of_line}
 use Rattle.book.proofs.book.tables.sums.add_lines.Given as goal
 
 abbrev pub invariant-loop-line : goal.invariant-loop-line

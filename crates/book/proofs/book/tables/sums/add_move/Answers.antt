@@ -1,4 +1,5 @@
-use Rattle.book.proofs.Prelude.{◌+◌, arith, ints, most_of_all, most_of_move}
+use Rattle.ledger.proofs.Prelude.{◌+◌, arith, ints}
+use Rattle.book.proofs.Prelude.{most_of_all, most_of_move}
 use Rattle.book.proofs.SumsOnFields.{sums-up}
 use Rattle.book.proofs.book.tables.sums.add_move.Goals as goal
 

@@ -1,6 +1,7 @@
-use Rattle.book.proofs.Prelude.{[], ◌*◌, ◌+◌, ◌∙◌, ◌∷◌, ◌≡◌, Each, IsField, IsSmall, added, ap, arith, most_of_move, move_of, numbers_on, refl, subst, sym, take, ℕ}
+use Rattle.ledger.proofs.Prelude.{[], ◌*◌, ◌+◌, ◌∙◌, ◌∷◌, ◌≡◌, Each, ap, arith, refl, subst, sym, take, ℕ}
+use Rattle.book.proofs.Prelude.{IsField, IsSmall, added, most_of_move, move_of, numbers_on}
 use Rattle.book.proofs.SumsOnFields.{added-nothing, added-twice, each-small-up, move-step}
-use Rattle.book.proofs.Lists.{each-next}
+use Rattle.ledger.proofs.Lists.{each-next}
 use Rattle.book.proofs.book.tables.sums.add_moves.Goals as goal
 
 pub loop-entry-init : goal.loop-entry-init

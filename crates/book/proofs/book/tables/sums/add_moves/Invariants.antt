@@ -1,5 +1,6 @@
 -- the moves so far are on fields, and added
-use Rattle.book.proofs.Prelude.{[], ◌*◌, ◌≡◌, AreMovesOnFields, Each, IsSmall, added, most_of_move, numbers_on, take}
+use Rattle.ledger.proofs.Prelude.{[], ◌*◌, ◌≡◌, Each, take}
+use Rattle.book.proofs.Prelude.{AreMovesOnFields, IsSmall, added, most_of_move, numbers_on}
 use Rattle.book.proofs.book.tables.sums.add_moves.Given as goal
 
 abbrev pub invariant-loop-entry : goal.invariant-loop-entry

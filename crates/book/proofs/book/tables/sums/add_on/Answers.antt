@@ -1,4 +1,5 @@
-use Rattle.book.proofs.Prelude.{◌+◌, ◌≤◌, arith, nothing, refl}
+use Rattle.ledger.proofs.Prelude.{◌+◌, ◌≤◌, arith, refl}
+use Rattle.book.proofs.Prelude.{nothing}
 use Rattle.book.proofs.SumsOnFields.{added-at, added-none, there_at, each-small-set, each-small-up}
 use Rattle.book.proofs.book.tables.sums.add_on.Goals as goal
 

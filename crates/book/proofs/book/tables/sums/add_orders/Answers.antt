@@ -1,6 +1,8 @@
-use Rattle.book.proofs.Prelude.{[], ◌*◌, ◌+◌, ◌∙◌, ◌≡◌, AreLinesOnFields, Each, IsSmall, Line, List, added, ap, arith, lines_numbers, most_of_lines, most_of_moves, numbers_on, refl, subst, sym, take, ℕ}
+use Rattle.ledger.proofs.Prelude.{[], ◌*◌, ◌+◌, ◌∙◌, ◌≡◌, Each, List, ap, arith, refl, subst, sym, take, ℕ}
+use Rattle.book.proofs.Prelude.{AreLinesOnFields, IsSmall, added, lines_numbers, most_of_lines, most_of_moves, numbers_on}
+use Rattle.ledger.specs.declared.order.Line.{Line}
 use Rattle.book.proofs.SumsOnFields.{added-nothing, added-twice, each-small-up, order-step}
-use Rattle.book.proofs.Lists.{each-next}
+use Rattle.ledger.proofs.Lists.{each-next}
 use Rattle.book.proofs.book.tables.sums.add_orders.Goals as goal
 
 pub loop-entry-init : goal.loop-entry-init

@@ -1,5 +1,6 @@
 -- the orders so far are on fields, and added
-use Rattle.book.proofs.Prelude.{[], ◌*◌, ◌+◌, ◌≡◌, AreOrdersOnFields, Each, IsSmall, added, most_of_lines, most_of_moves, numbers_on, take}
+use Rattle.ledger.proofs.Prelude.{[], ◌*◌, ◌+◌, ◌≡◌, Each, take}
+use Rattle.book.proofs.Prelude.{AreOrdersOnFields, IsSmall, added, most_of_lines, most_of_moves, numbers_on}
 use Rattle.book.proofs.book.tables.sums.add_orders.Given as goal
 
 abbrev pub invariant-loop-entry : goal.invariant-loop-entry

@@ -1,4 +1,5 @@
-use Rattle.book.proofs.Prelude.{◌≡◌, Err, Name, Ok, always_returns_same, entry_name, name_cmp, of_calls, rules}
+use Rattle.ledger.proofs.Prelude.{◌≡◌, Err, Name, Ok, always_returns_same, name_cmp, of_calls, rules}
+use Rattle.book.proofs.Prelude.{entry_name}
 use Rattle.book.proofs.SumsOnFields.{searched}
 use Rattle.book.proofs.book.tables.sums.field_index.Goals as goal
 

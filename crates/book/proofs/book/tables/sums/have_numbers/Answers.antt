@@ -1,5 +1,6 @@
-use Rattle.book.proofs.Prelude.{◌<◌, ◌≡◌, FieldEntry, HasNumbers, List, Name, Numbers, arith, entry_name, get_or, length, map, pos, refl, subst, ℕ}
-use Rattle.book.proofs.Lists.{each-next, get-of-map}
+use Rattle.ledger.proofs.Prelude.{◌<◌, ◌≡◌, List, Name, arith, get_or, length, map, pos, refl, subst, ℕ}
+use Rattle.book.proofs.Prelude.{FieldEntry, HasNumbers, Numbers, entry_name}
+use Rattle.ledger.proofs.Lists.{each-next, get-of-map}
 use Rattle.book.proofs.book.tables.sums.have_numbers.Goals as goal
 
 -- what stands for numbers past the last

@@ -1,5 +1,6 @@
 -- the entries so far have their numbers, whatever numbers the sums are
-use Rattle.book.proofs.Prelude.{◌≡◌, HaveNumbers, Name, Numbers, entry_name, map, take}
+use Rattle.ledger.proofs.Prelude.{◌≡◌, Name, map, take}
+use Rattle.book.proofs.Prelude.{HaveNumbers, Numbers, entry_name}
 use Rattle.book.proofs.book.tables.sums.have_numbers.Given as goal
 
 abbrev pub invariant-loop-i : goal.invariant-loop-i

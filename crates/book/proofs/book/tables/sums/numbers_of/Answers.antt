@@ -1,4 +1,4 @@
-use Rattle.book.proofs.Prelude.{arith, ints, pos}
+use Rattle.ledger.proofs.Prelude.{arith, ints, pos}
 use Rattle.book.proofs.RunningNumbers.{greatest_is, least_is}
 use Rattle.book.proofs.book.tables.sums.numbers_of.Goals as goal
 

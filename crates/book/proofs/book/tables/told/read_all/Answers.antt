@@ -1,6 +1,6 @@
-use Rattle.book.proofs.Prelude.{arith, take}
-use Rattle.book.proofs.TestResults.{passed_up}
-use Rattle.book.proofs.Lists.{each-at, take-step, zip-push}
+use Rattle.ledger.proofs.Prelude.{arith, take}
+use Rattle.ledger.proofs.TestResults.{passed_up}
+use Rattle.ledger.proofs.Lists.{each-at, take-step, zip-push}
 use Rattle.book.proofs.book.tables.told.read_all.Goals as goal
 
 pub loop-row-preserved : goal.loop-row-preserved

@@ -1,5 +1,5 @@
 -- what is read so far is what the rows so far tell
-use Rattle.book.proofs.Prelude.{AllZip, take}
+use Rattle.ledger.proofs.Prelude.{AllZip, take}
 use Rattle.book.proofs.book.tables.told.read_all.Given as goal
 
 abbrev pub invariant-loop-row : goal.invariant-loop-row

@@ -1,4 +1,4 @@
-use Rattle.book.proofs.Prelude.{arith, ints}
+use Rattle.ledger.proofs.Prelude.{arith, ints}
 use Rattle.book.proofs.SumsOnFields.{same-numbers}
 use Rattle.book.proofs.book.tables.sums.Numbers.plus.Goals as goal
 

@@ -1,5 +1,0 @@
-use Rattle.book.proofs.Goodness.{good_answer}
-use Rattle.book.proofs.laws.answers_stay_good.Goals as goal
-
-pub returns : goal.returns
-returns c A r reply B g key range h = good_answer A r reply B g key range h

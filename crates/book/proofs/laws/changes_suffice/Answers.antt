@@ -1,6 +1,0 @@
-use Rattle.book.proofs.NextContent.{changes_suffice}
-use Rattle.book.proofs.Runs.{no_key}
-use Rattle.book.proofs.laws.changes_suffice.Goals as goal
-
-pub returns : goal.returns
-returns c A r C D good key range accepted x y = changes_suffice A r C D good key range (no_key _ accepted.0) accepted.1 x y

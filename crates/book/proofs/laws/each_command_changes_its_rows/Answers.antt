@@ -1,5 +1,0 @@
-use Rattle.book.proofs.Table.{all_told, table_holds}
-use Rattle.book.proofs.laws.each_command_changes_its_rows.Goals as goal
-
-pub returns : goal.returns
-returns c A r next good range passed = all_told A r (table_holds A r.command good range passed) next

@@ -1,9 +1,0 @@
-use Rattle.book.proofs.Futures.{honours_always}
-use Rattle.book.proofs.Runs.{honours_if_good}
-use Rattle.book.proofs.laws.good_ledgers_honour.Goals as goal
-
-pub returns-clause-answered : goal.returns-clause-answered
-returns-clause-answered c A g = honours_if_good A g
-
-pub returns-clause-always : goal.returns-clause-always
-returns-clause-always c A g = honours_always A g

@@ -1,7 +1,0 @@
--- what is left is as wanted where the whole is
-use Rattle.std.proofs.Common.{◌≡◌, ◌↔◌, drop, map}
-use Rattle.keep.specs.Description.{declared}
-use Rattle.keep.proofs.schema.are_tables.Given as goal
-
-abbrev pub invariant-loop-table : goal.invariant-loop-table
-invariant-loop-table l = (l.left ≡ map declared (drop l.table-index l.tables)) ↔ (l.fn.found ≡ map declared l.tables)

@@ -1,5 +1,0 @@
-use Rattle.std.proofs.Common.{rules}
-use Rattle.keep.proofs.sql.SqlKeepKeep.is_stopped.Goals as goal
-
-pub returns : goal.returns
-returns g c = search rules

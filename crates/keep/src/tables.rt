@@ -1,9 +1,0 @@
-//! The seven tables, a file a table: how its rows are ordered, copied, put in and read.
-
-pub(crate) mod desk;
-pub(crate) mod field;
-pub(crate) mod firm;
-pub(crate) mod kept;
-pub(crate) mod line;
-pub(crate) mod moves;
-pub(crate) mod orders;

@@ -1,0 +1,430 @@
+-- A command that asks for stock: so much more is held or moved on one field. Where the check of the bound passes, each
+-- field keeps its room; and the check, over all outcomes, is one comparison with the ledger before.
+use Rattle.ledger.proofs.Prelude.{Add, Bool, BreaksBound, Changes, Each, Field, Good, IsDistinct, IsNone, IsSomeAnd, IsStrictlySortedBy, Kind, Ledger, Line, List, MatchOption, MayHoldMore, Move, Name, None, Open, OpenLine, Option, Order, Share, Some, State, Take, Way, [], add_hold, add_part, added_by_order, ap, append-nil, append_assoc, arith, bound, by_lt_z, false, field_named, find, held_to_add, held_to_take, hold_more, if_add, if_take, if◌then◌else◌, ints, is_open, is_some, length, line_checks, line_name, line_on, map, moved_by_order, nat_cmp, nat_lt, new_line, new_order, numbered, on, open_state, option_map_or, order_numbered, orders_after, places, pos, raise_held, refl, same_name, settled, settled_part, share_of, signed, steps, subst, sym, take_part, taken_by_order, total, true, true≢false, with_order, ℕ, ℤ, ◌++◌, ◌+ℤ◌, ◌+◌, ◌-ℤ◌, ◌<ℤ◌, ◌==◌, ◌↔◌, ◌∙◌, ◌∷◌, ◌≡◌, ◌≤ℤ◌, ◌≤◌}
+use Rattle.ledger.proofs.Bounds.{HasRoom, Sound, falls_below_iff, none-total, rises_above_iff}
+use Rattle.ledger.proofs.Falls.{sounds_from_good}
+use Rattle.ledger.proofs.FieldNames.{InOrder, OneOn, name_is, named, none_bad, one_on, one_on-map, one_on-push, other_way, same_self}
+use Rattle.ledger.proofs.Lists.{NumbersInOrder, found_both}
+use Rattle.ledger.proofs.Passing.{AllPass, none_if_not_some}
+use Rattle.ledger.proofs.Steps.{IsPart, add_counts, added_is, before, moved_is, no_settled, one_step, part_of, settled_counts, steps_add, take_counts, taken_is}
+use Rattle.ledger.proofs.Sums.{change_order, each, each-both, each-imp, each-insert, each-map, each-of-push, none_found, total-eq, total-insert, total-push, with_move}
+
+-- ---- one field, that way
+
+-- the field comes to less than its lower bound, or to more than its upper one
+abbrev pub Beyond : Way → Ledger → Field → Type 0
+Beyond Take B f = (settled B f -ℤ held_to_take B f.name) <ℤ pos f.lo
+Beyond Add B f = pos f.hi <ℤ (settled B f +ℤ held_to_add B f.name)
+
+-- it is within its bound
+abbrev pub Within : Way → Ledger → Field → Type 0
+Within Take B f = pos f.lo ≤ℤ (settled B f -ℤ held_to_take B f.name)
+Within Add B f = (settled B f +ℤ held_to_add B f.name) ≤ℤ pos f.hi
+
+abbrev across : Way → Way
+across Take = Add
+across Add = Take
+
+abbrev pub Room : Ledger → Type 0
+Room A = Each (HasRoom A) A.fields
+
+not_less : (a b : ℤ) → (a <ℤ b → ⊥) → b ≤ℤ a
+not_less a b h = by_lt_z a b (λ k. absurd (h k)) (λ k. k)
+
+within_unless : (w : Way) (B : Ledger) (f : Field) → (Beyond w B f → ⊥) → Within w B f
+within_unless Take B f h = not_less _ _ h
+within_unless Add B f h = not_less _ _ h
+
+pub room_side : (w : Way) (A : Ledger) (f : Field) → HasRoom A f → Within w A f
+room_side Take A f r = r.0
+room_side Add A f r = r.1
+
+room_sides : (w : Way) (B : Ledger) → Each (Within w B) B.fields → Each (Within (across w) B) B.fields → Room B
+room_sides Take B h k = each-both (λ f low high. (low, high)) B.fields h k
+room_sides Add B h k = each-both (λ f high low. (low, high)) B.fields h k
+
+-- the check of a bound looks at one number of the field under the name
+pub bound_iff : (w : Way) (B : Ledger) (name : Name) (i : ℕ) → Each Sound B.orders
+    → (bound w B name i).fails ↔ IsSomeAnd (field_named B name) (Beyond w B)
+bound_iff Take B name i sound = falls_below_iff B sound name
+bound_iff Add B name i sound = rises_above_iff B sound name
+
+-- where it passes, that field is within its bound, and so are all, if the others are
+pub within_tested : (w : Way) (B : Ledger) (name : Name) (i : ℕ) → Each Sound B.orders → InOrder B
+    → ((bound w B name i).fails → ⊥) → Each (λ f. same_name name f.name ≡ false → Within w B f) B.fields
+    → Each (Within w B) B.fields
+within_tested w B name i sound sorted pass others =
+    each-both (λ f other bad. one f (same_name name f.name) refl other bad) B.fields others (none_bad (Beyond w B) name B.fields sorted (λ h. pass ((bound_iff w B name i sound).1 h)))
+  where
+    one : (f : Field) (b : Bool) → same_name name f.name ≡ b → (same_name name f.name ≡ false → Within w B f)
+        → (same_name name f.name ≡ true → Beyond w B f → ⊥) → Within w B f
+    one f true e other bad = within_unless w B f (bad e)
+    one f false e other bad = other e
+
+-- moves and orders of which the check passes leave each field its room, where others come to no more, and none does the other way
+room_more : (w : Way) (A : Ledger) (ms : List Move) (os : List Order) (name : Name) (i : ℕ) → Each Sound os
+    → InOrder A → Room A
+    → ((f : Field) → (same_name f.name name ≡ false → Within w A f → Within w (record A { moves = ms; orders = os }) f) × (Within (across w) A f → Within (across w) (record A { moves = ms; orders = os }) f))
+    → ((bound w (record A { moves = ms; orders = os }) name i).fails → ⊥)
+    → Room (record A { moves = ms; orders = os })
+room_more w A ms os name i sound sorted room stays pass = room_sides w B
+    (within_tested w B name i sound sorted pass (each-imp (λ f r e. (stays f).0 (other_way name f.name e) (room_side w A f r)) A.fields room))
+    (each-imp (λ f r. (stays f).1 (room_side (across w) A f r)) A.fields room)
+  where
+    B : Ledger
+    B = record A { moves = ms; orders = os }
+
+-- the ledger has so much more that way, settled or held
+abbrev pub HasMore : Way → Ledger → Ledger → Field → ℕ → Type 0
+HasMore Take A B f q = settled B f -ℤ held_to_take B f.name ≡ (settled A f -ℤ held_to_take A f.name) -ℤ pos q
+HasMore Add A B f q = settled B f +ℤ held_to_add B f.name ≡ (settled A f +ℤ held_to_add A f.name) +ℤ pos q
+
+-- the check with so much more is one comparison with the ledger before
+compared : (w : Way) (A : Ledger) (ms : List Move) (os : List Order) (name : Name) (q i : ℕ) → Each Sound os
+    → ((f : Field) → f.name ≡ name → HasMore w A (record A { moves = ms; orders = os }) f q)
+    → (bound w (record A { moves = ms; orders = os }) name i).fails ↔ BreaksBound w A name q
+compared Take A ms os name q i sound more =
+    let iff = bound_iff Take (record A { moves = ms; orders = os }) name i sound in (
+      (λ h. named A.fields name _ _ (λ f e x. subst (λ z. z <ℤ pos f.lo) (more f e) x) (iff.0 h)),
+      (λ h. iff.1 (named A.fields name _ _ (λ f e x. subst (λ z. z <ℤ pos f.lo) (sym (more f e)) x) h)),
+    )
+compared Add A ms os name q i sound more =
+    let iff = bound_iff Add (record A { moves = ms; orders = os }) name i sound in (
+      (λ h. named A.fields name _ _ (λ f e x. subst (λ z. pos f.hi <ℤ z) (more f e) x) (iff.0 h)),
+      (λ h. iff.1 (named A.fields name _ _ (λ f e x. subst (λ z. pos f.hi <ℤ z) (sym (more f e)) x) h)),
+    )
+
+-- ---- a delivery and a write-off
+
+moved_value : (A : Ledger) (name : Name) (z : ℤ) (f : Field)
+    → settled (with_move name z A) f ≡ settled A f +ℤ (if same_name f.name name then z else pos 0)
+moved_value A name z f =
+    let push = total-push (λ (m : Move). if same_name f.name m.field then m.amount else pos 0) A.moves (record { place = places A + 1; field = name; amount = z }) in
+    omega (arith, ints)
+
+pub moved_test : (w : Way) (A : Ledger) (name : Name) (q i : ℕ) → Each Sound A.orders
+    → (bound w (with_move name (signed w q) A) name i).fails ↔ BreaksBound w A name q
+moved_test w A name q i sound = compared w A (with_move name (signed w q) A).moves A.orders name q i sound (more w)
+  where
+    more : (w : Way) (f : Field) → f.name ≡ name → HasMore w A (with_move name (signed w q) A) f q
+    more w f e = by w (moved_value A name (signed w q) f ∙ ap (λ b. settled A f +ℤ (if b then signed w q else pos 0)) (ap (same_name f.name) (sym e) ∙ same_self f.name))
+      where
+        by : (w : Way) → settled (with_move name (signed w q) A) f ≡ settled A f +ℤ signed w q
+            → HasMore w A (with_move name (signed w q) A) f q
+        by Take value = omega (arith, ints)
+        by Add value = omega (arith, ints)
+
+pub room_moved : (w : Way) (A : Ledger) (name : Name) (q i : ℕ) → Each Sound A.orders → InOrder A → Room A
+    → ((bound w (with_move name (signed w q) A) name i).fails → ⊥) → Room (with_move name (signed w q) A)
+room_moved w A name q i sound sorted room pass =
+    room_more w A (with_move name (signed w q) A).moves A.orders name i sound sorted room (stays w) pass
+  where
+    stays : (w : Way) (f : Field)
+        → (same_name f.name name ≡ false → Within w A f → Within w (with_move name (signed w q) A) f)
+        × (Within (across w) A f → Within (across w) (with_move name (signed w q) A) f)
+    stays w f = by w (same_name f.name name) (moved_value A name (signed w q) f)
+      where
+        by : (w : Way) (b : Bool)
+            → settled (with_move name (signed w q) A) f ≡ settled A f +ℤ (if b then signed w q else pos 0)
+            → (b ≡ false → Within w A f → Within w (with_move name (signed w q) A) f)
+            × (Within (across w) A f → Within (across w) (with_move name (signed w q) A) f)
+        by Take true value = ((λ e. absurd (true≢false e)), λ high. omega (arith, ints))
+        by Take false value = ((λ e low. omega (arith, ints)), λ high. omega (arith, ints))
+        by Add true value = ((λ e. absurd (true≢false e)), λ low. omega (arith, ints))
+        by Add false value = ((λ e high. omega (arith, ints)), λ low. omega (arith, ints))
+
+-- ---- so much more held on one field
+
+-- a share of which so much is held
+abbrev pub only_held : ℕ → Share
+only_held q = record { settled = 0; held = q }
+
+-- in each part the orders count for so much more on the field
+abbrev pub AddsOn : Name → Way → ℕ → List Order → List Order → Type 0
+AddsOn f w q os new = (part : Way → Share → ℤ) → IsPart part → total (part_of part f) new ≡ total (part_of part f) os +ℤ part w (only_held q)
+
+-- ..on that of the name alone
+abbrev pub AddsAlone : Name → Way → ℕ → List Order → List Order → Type 0
+AddsAlone name w q os new = (f : Name) → AddsOn f w (if same_name f name then q else 0) os new
+
+-- with so much more held the one way, the sums are those of the other ledger
+abbrev pub HoldsMore : Ledger → Ledger → Field → Way → ℕ → Type 0
+HoldsMore A B f w q = (settled B f ≡ settled A f) × (held_to_take B f.name ≡ held_to_take A f.name +ℤ pos (if_take w q)) × (held_to_add B f.name ≡ held_to_add A f.name +ℤ pos (if_add w q))
+
+pub holds_more : (A : Ledger) (os : List Order) (f : Field) (w : Way) (q : ℕ) → AddsOn f.name w q A.orders os
+    → HoldsMore A (record A { orders = os }) f w q
+holds_more A os f w q more =
+    let value = own settled_part settled_counts (moved_by_order f.name) (moved_is f.name) in
+    let none = no_settled w in (
+      omega (arith, ints),
+      own take_part take_counts (taken_by_order f.name) (taken_is f.name),
+      own add_part add_counts (added_by_order f.name) (added_is f.name),
+    )
+  where
+    own : (part : Way → Share → ℤ) → IsPart part → (g : Order → ℤ) → ((o : Order) → g o ≡ part_of part f.name o)
+        → total g os ≡ total g A.orders +ℤ part w (only_held q)
+    own part is g same = total-eq g _ os (each same os) ∙ more part is ∙ ap (λ z. z +ℤ part w (only_held q)) (sym (total-eq g _ A.orders (each same A.orders)))
+
+has_more : (w : Way) (A B : Ledger) (f : Field) (q : ℕ) → HoldsMore A B f w q → HasMore w A B f q
+has_more Take A B f q more = let value = more.0 in let takes = more.1 in omega (arith, ints)
+has_more Add A B f q more = let value = more.0 in let adds = more.2 in omega (arith, ints)
+
+pub held_test : (w : Way) (A : Ledger) (os : List Order) (name : Name) (q i : ℕ) → Each Sound os
+    → AddsOn name w q A.orders os → (bound w (record A { orders = os }) name i).fails ↔ BreaksBound w A name q
+held_test w A os name q i sound more = compared w A A.moves os name q i sound (λ f e. has_more w A (record A { orders = os }) f q (holds_more A os f w q (subst (λ n. AddsOn n w q A.orders os) (sym e) more)))
+
+pub room_held : (w : Way) (A : Ledger) (os : List Order) (name : Name) (q i : ℕ) → Each Sound os → InOrder A → Room A
+    → AddsAlone name w q A.orders os → ((bound w (record A { orders = os }) name i).fails → ⊥)
+    → Room (record A { orders = os })
+room_held w A os name q i sound sorted room more pass =
+    room_more w A A.moves os name i sound sorted room (λ f. by w f (same_name f.name name) (holds_more A os f w _ (more f.name))) pass
+  where
+    by : (w : Way) (f : Field) (b : Bool) → HoldsMore A (record A { orders = os }) f w (if b then q else 0)
+        → (b ≡ false → Within w A f → Within w (record A { orders = os }) f)
+        × (Within (across w) A f → Within (across w) (record A { orders = os }) f)
+    by Take f true more =
+        let value = more.0 in let adds = more.2 in ((λ e. absurd (true≢false e)), λ high. omega (arith, ints))
+    by Take f false more =
+        let value = more.0 in let takes = more.1 in let adds = more.2 in
+        ((λ e low. omega (arith, ints)), λ high. omega (arith, ints))
+    by Add f true more =
+        let value = more.0 in let takes = more.1 in ((λ e. absurd (true≢false e)), λ low. omega (arith, ints))
+    by Add f false more =
+        let value = more.0 in let takes = more.1 in let adds = more.2 in
+        ((λ e high. omega (arith, ints)), λ low. omega (arith, ints))
+
+-- what a line that holds so much counts for
+if_held : (part : Way → Share → ℤ) → IsPart part → (b : Bool) (w : Way) (q : ℕ)
+    → (if b then part w (only_held q) else pos 0) ≡ part w (only_held (if b then q else 0))
+if_held part is true w q = refl
+if_held part is false w q = sym (is.nothing w)
+
+-- ---- a new order, line by line
+
+pub map-push : (ls : List OpenLine) (l : OpenLine) → map new_line (ls ++ l ∷ []) ≡ map new_line ls ++ new_line l ∷ []
+map-push [] l = refl
+map-push (m ∷ ms) l = λ i. new_line m ∷ map-push ms l i
+
+-- one more line, on a field that no line before is on
+pub fresh-push : (ls : List OpenLine) (l : OpenLine) → ((g : Name) → OneOn g (map new_line ls))
+    → find (on (line_name (new_line l))) (map new_line ls) ≡ None → (g : Name) → OneOn g (map new_line (ls ++ l ∷ []))
+fresh-push ls l one none g =
+    rw (map-push ls l) (one_on-push g (map new_line ls) (new_line l) (one g) (none_found (on (line_name (new_line l))) (map new_line ls) none))
+
+pub fresh-sound : (n : ℕ) (k : Kind) (u : ℕ) (ls : List OpenLine) → ((g : Name) → OneOn g (map new_line ls))
+    → Sound (new_order n k u ls)
+fresh-sound n k u ls one =
+    record { used = each-map (λ l. l.used ≤ l.held) new_line ls (each (λ l. omega arith) ls); one = one }
+
+pub with_sound : (A : Ledger) (o : Order) → Sound o → Each Sound A.orders → Each Sound (with_order o A).orders
+with_sound A o own sound = each-insert Sound (λ a b. nat_lt a.number b.number) o A.orders own sound
+
+module _ (A : Ledger) (n : ℕ) (k : Kind) (u : ℕ) where
+  abbrev with_lines : List OpenLine → Ledger
+  with_lines ls = with_order (new_order n k u ls) A
+
+  -- what the orders count for, with the new one
+  lines_total : (part : Way → Share → ℤ) (f : Name) (ls : List OpenLine)
+      → total (part_of part f) (with_lines ls).orders
+      ≡ part_of part f (new_order n k u ls) +ℤ total (part_of part f) A.orders
+  lines_total part f ls =
+      total-insert (part_of part f) (λ a b. nat_lt a.number b.number) (new_order n k u ls) A.orders
+
+  line_more : (part : Way → Share → ℤ) → IsPart part → (f : Name) (ls : List OpenLine) (l : OpenLine)
+      → part_of part f (new_order n k u (ls ++ l ∷ []))
+      ≡ part_of part f (new_order n k u ls) +ℤ part l.way (only_held (if same_name f (line_name (new_line l)) then l.qty else 0))
+  line_more part is f ls l = ap (total one) (map-push ls l) ∙ total-push one (map new_line ls) (new_line l) ∙ ap (λ z. total one (map new_line ls) +ℤ z) (if_held part is (on f (new_line l)) l.way l.qty)
+    where
+      one : Line → ℤ
+      one m = if on f m then part m.way (share_of Open false m) else pos 0
+
+  line_adds : (ls : List OpenLine) (l : OpenLine)
+      → AddsAlone (line_name (new_line l)) l.way l.qty (with_lines ls).orders (with_lines (ls ++ l ∷ [])).orders
+  line_adds ls l f part is =
+      let now = lines_total part f (ls ++ l ∷ []) in let was = lines_total part f ls in
+      let more = line_more part is f ls l in omega (arith, ints)
+
+  -- beside lines on other fields it adds so much to the ledger without them
+  first_adds : (ls : List OpenLine) (l : OpenLine) → find (on (line_name (new_line l))) (map new_line ls) ≡ None
+      → AddsOn (line_name (new_line l)) l.way l.qty A.orders (with_lines (ls ++ l ∷ [])).orders
+  first_adds ls l none part is =
+      let f : Name = line_name (new_line l) in
+      let now = lines_total part f (ls ++ l ∷ []) in
+      let more = line_more part is f ls l ∙ ap (λ b. part_of part f (new_order n k u ls) +ℤ part l.way (only_held (if b then l.qty else 0))) (same_self f) in
+      let others : part_of part f (new_order n k u ls) ≡ pos 0 = none-total f (λ m. part m.way (share_of Open false m)) (map new_line ls) (none_found (on f) (map new_line ls) none) in
+      omega (arith, ints)
+
+  pub line_test : (ls : List OpenLine) (l : OpenLine) (i : ℕ) → Good A
+      → IsDistinct same_name (map line_name (new_order n k u ls).lines)
+      → IsNone (line_on (new_order n k u ls) (line_name (new_line l)))
+      → (bound l.way (with_order (new_order n k u (ls ++ l ∷ [])) A) (line_name (new_line l)) i).fails
+      ↔ BreaksBound l.way A (line_name (new_line l)) l.qty
+  line_test ls l i good apart none =
+      let alone = none_if_not_some (line_on (new_order n k u ls) (line_name (new_line l))) (λ some. true≢false (sym some ∙ none)) in
+      held_test l.way A (with_lines (ls ++ l ∷ [])).orders (line_name (new_line l)) l.qty i
+      (with_sound A (new_order n k u (ls ++ l ∷ [])) (fresh-sound n k u (ls ++ l ∷ []) (fresh-push ls l (λ g. one_on g (map new_line ls) apart) alone)) (sounds_from_good A good)) (first_adds ls l alone)
+
+  module _ (sound : Each Sound A.orders) (sorted : InOrder A) where
+    -- all lines of a new order, each checked beside those before it
+    room_lines : (before ls : List OpenLine) → ((g : Name) → OneOn g (map new_line before)) → Room (with_lines before)
+        → AllPass (line_checks A (new_order n k u) before ls)
+        → Room (with_lines (before ++ ls)) × ((g : Name) → OneOn g (map new_line (before ++ ls)))
+    room_lines before [] one room pass =
+        subst (λ ls. Room (with_lines ls) × ((g : Name) → OneOn g (map new_line ls))) (sym (append-nil before)) (room, one)
+    room_lines before (l ∷ ls) one room pass =
+        let next = before ++ l ∷ [] in
+        let one' = fresh-push before l one (none_if_not_some (find (on (line_name (new_line l))) (map new_line before)) pass.0) in
+        let sound' = with_sound A (new_order n k u next) (fresh-sound n k u next one') sound in
+        let room' = room_held l.way (with_lines before) (with_lines next).orders (line_name (new_line l)) l.qty (length before + 1) sound' sorted room (line_adds before l) pass.1.1.0 in
+        subst (λ ls. Room (with_lines ls) × ((g : Name) → OneOn g (map new_line ls))) (append_assoc before (l ∷ []) ls) (room_lines next ls one' room' pass.1.1.1)
+
+    -- an order without lines only_held nothing
+    room_empty : Room A → Room (with_lines [])
+    room_empty room = each-imp (λ f r. let more = holds_more A (with_lines []).orders f Take 0 (λ part is. let all = lines_total part f.name [] in let none = is.nothing Take in omega (arith, ints)) in
+        let value = more.0 in let takes = more.1 in let adds = more.2 in let low = r.0 in let high = r.1 in
+        (omega (arith, ints), omega (arith, ints))) A.fields room
+
+    pub room_order : (ls : List OpenLine) → Room A → AllPass (line_checks A (new_order n k u) [] ls)
+        → Room (with_order (new_order n k u ls) A) × ((g : Name) → OneOn g (map new_line ls))
+    room_order ls room pass = room_lines [] ls (λ g. tt) (room_empty room) pass
+
+-- ---- more held on an order that is open
+
+raised : Name → ℕ → Line → Line
+raised name q m = if on name m then raise_held q m else m
+
+raised_name : (name : Name) (q : ℕ) (m : Line) → line_name (raised name q m) ≡ line_name m
+unfolding raised
+raised_name name q m = grind arith
+
+raised_used : (name : Name) (q : ℕ) (m : Line) → m.used ≤ m.held → (raised name q m).used ≤ (raised name q m).held
+unfolding raised
+raised_used name q m within = grind arith
+
+pub hold_sound : (l : OpenLine) (o : Order) → Sound o → Sound (add_hold l o)
+unfolding raised
+hold_sound l o sound = by (line_on o name) refl
+  where
+    name : Name
+    name = line_name (new_line l)
+
+    by : (x : Option Line) → line_on o name ≡ x
+        → Sound (if is_some x then hold_more name l.qty o else record o { lines = o.lines ++ new_line l ∷ [] })
+    by None e = record {
+      used = each-of-push (λ m. m.used ≤ m.held) o.lines (new_line l) sound.used (omega arith);
+      one = λ f. one_on-push f o.lines (new_line l) (sound.one f) (none_found (on name) o.lines e);
+    }
+    by (Some x) e = record {
+      used = each-map (λ m. m.used ≤ m.held) (raised name l.qty) o.lines (each-imp (raised_used name l.qty) o.lines sound.used);
+      one = λ f. one_on-map f (raised name l.qty) o.lines (each (raised_name name l.qty) o.lines) (sound.one f);
+    }
+
+-- what lines count for whose order is open and not firm
+abbrev held_of : (Way → Share → ℤ) → Name → List Line → ℤ
+held_of part f ls = total (λ m. if on f m then part m.way (only_held m.held) else pos 0) ls
+
+pub loose_share : (s : State) (b : Bool) (m : Line) → open_state s ≡ true → b ≡ false
+    → share_of s b m ≡ only_held m.held
+loose_share s b m e d = grind arith
+
+loose_part : (part : Way → Share → ℤ) (f : Name) (o : Order) → is_open o ≡ true → o.firm ≡ false
+    → part_of part f o ≡ held_of part f o.lines
+loose_part part f o e d =
+    total-eq _ _ o.lines (each (λ m. ap (λ s. if on f m then part m.way s else pos 0) (loose_share o.state o.firm m e d)) o.lines)
+
+module _ (part : Way → Share → ℤ) (is : IsPart part) (f name : Name) (w : Way) (q : ℕ) where
+  none_raised : (ms : List Line) → Each (λ m. on name m ≡ false) ms
+      → held_of part f (map (raised name q) ms) ≡ held_of part f ms
+  unfolding raised
+  none_raised [] none = refl
+  none_raised (m ∷ ms) none =
+      let more = none_raised ms none.1 in
+      rw (none.0) (ap (λ z. (if on f m then part m.way (only_held m.held) else pos 0) +ℤ z) more)
+
+  one_raised : (ms : List Line) → OneOn name ms → IsSomeAnd (find (on name) ms) (λ m. m.way ≡ w)
+      → held_of part f (map (raised name q) ms)
+      ≡ held_of part f ms +ℤ part w (only_held (if same_name f name then q else 0))
+  unfolding raised
+  one_raised [] one found = absurd found
+  one_raised (m ∷ ms) one found = by (on name m) refl found (one_raised ms one.1)
+    where
+      lifted : (b : Bool)
+          → (if b then part m.way (only_held (m.held + q)) else pos 0)
+          ≡ (if b then part m.way (only_held m.held) else pos 0) +ℤ part m.way (only_held (if b then q else 0))
+      lifted true = is.more m.way m.held q
+      lifted false = let none = is.nothing m.way in omega (arith, ints)
+
+      by : (b : Bool) → on name m ≡ b → IsSomeAnd (if b then Some m else find (on name) ms) (λ m. m.way ≡ w)
+          → (IsSomeAnd (find (on name) ms) (λ m. m.way ≡ w) → held_of part f (map (raised name q) ms) ≡ held_of part f ms +ℤ part w (only_held (if same_name f name then q else 0)))
+          → (if on f (if b then raise_held q m else m) then part (if b then raise_held q m else m).way (only_held (if b then raise_held q m else m).held) else pos 0) +ℤ held_of part f (map (raised name q) ms)
+          ≡ held_of part f (m ∷ ms) +ℤ part w (only_held (if same_name f name then q else 0))
+      by true e way more =
+          let rest = none_raised ms (one.0 e) in
+          let here = lifted (on f m) ∙ (λ i. (if on f m then part m.way (only_held m.held) else pos 0) +ℤ part (way i) (only_held (if same_name f (sym (name_is name (line_name m) e) i) then q else 0))) in
+          omega (arith, ints)
+      by false e there more = let rest = more there in omega (arith, ints)
+
+hold_part : (part : Way → Share → ℤ) → IsPart part → (f : Name) (l : OpenLine) (o : Order) → Sound o
+    → MayHoldMore (line_name (new_line l)) l.way o
+    → part_of part f (add_hold l o)
+    ≡ part_of part f o +ℤ part l.way (only_held (if same_name f (line_name (new_line l)) then l.qty else 0))
+unfolding raised
+hold_part part is f l o sound may =
+    by (line_on o name) refl may.3 ∙ ap (λ z. z +ℤ part l.way (only_held (if same_name f name then l.qty else 0))) (sym (loose_part part f o may.0 may.1))
+  where
+    name : Name
+    name = line_name (new_line l)
+
+    by : (x : Option Line) → line_on o name ≡ x → MatchOption x (Unit {0}) (λ m. m.way ≡ l.way)
+        → part_of part f (if is_some x then hold_more name l.qty o else record o { lines = o.lines ++ new_line l ∷ [] })
+        ≡ held_of part f o.lines +ℤ part l.way (only_held (if same_name f name then l.qty else 0))
+    by None e way = loose_part part f (record o { lines = o.lines ++ new_line l ∷ [] }) may.0 may.1 ∙ total-push _ o.lines (new_line l) ∙ ap (λ z. held_of part f o.lines +ℤ z) (if_held part is (on f (new_line l)) l.way l.qty)
+    by (Some x) e way = loose_part part f (hold_more name l.qty o) may.0 may.1 ∙ one_raised part is f name l.way l.qty o.lines (sound.one name) (subst (λ x. IsSomeAnd x (λ m. m.way ≡ l.way)) (sym e) way)
+
+-- the one order of that number counts for so much more
+one_changed : (g : Order → ℤ) (change : Order → Order) (n : ℕ) (z : ℤ) (os : List Order)
+    → IsStrictlySortedBy nat_cmp (map (λ o. o.number) os)
+    → IsSomeAnd (find (numbered n) os) (λ o. g (change o) ≡ g o +ℤ z)
+    → total g (orders_after (Changes (numbered n) change) os) ≡ total g os +ℤ z
+one_changed g change n z os sorted found = by (find (numbered n) os) (one_step n change os sorted) found
+  where
+    by : (x : Option Order)
+        → steps (Changes (numbered n) change) os
+        ≡ option_map_or (λ o. record { before = Some o; after = change o } ∷ []) x []
+        → IsSomeAnd x (λ o. g (change o) ≡ g o +ℤ z)
+        → total g (orders_after (Changes (numbered n) change) os) ≡ total g os +ℤ z
+    by None is more = absurd more
+    by (Some o) is more =
+        let add = steps_add g (Changes (numbered n) change) os in
+        let was = ap (total (before g)) is in let now = ap (total (λ s. g s.after)) is in
+        omega (arith, ints)
+
+module _ (A : Ledger) (n : ℕ) (l : OpenLine) (sound : Each Sound A.orders) (sorted : NumbersInOrder A) (may : IsSomeAnd (order_numbered A n) (MayHoldMore (line_name (new_line l)) l.way)) where
+  abbrev with_more : Ledger
+  with_more = change_order n (add_hold l) A
+
+  pub sound_more : Each Sound with_more.orders
+  sound_more = each-map Sound _ A.orders (each-imp (λ o s. by (o.number == n) o s) A.orders sound)
+    where
+      by : (b : Bool) (o : Order) → Sound o → Sound (if b then add_hold l o else o)
+      by true o s = hold_sound l o s
+      by false o s = s
+
+  more_adds : AddsAlone (line_name (new_line l)) l.way l.qty A.orders with_more.orders
+  more_adds f part is = one_changed (part_of part f) (add_hold l) n _ A.orders sorted (found_both (numbered n) A.orders (λ o s m. hold_part part is f l o s m) sound may)
+
+  adds_here : AddsOn (line_name (new_line l)) l.way l.qty A.orders with_more.orders
+  adds_here = subst (λ b. AddsOn (line_name (new_line l)) l.way (if b then l.qty else 0) A.orders with_more.orders) (same_self (line_name (new_line l))) (more_adds (line_name (new_line l)))
+
+  -- with an amount more on a line of it, so much more is held, and its value stays
+  pub more_sums : (f : Field) → f.name ≡ line_name (new_line l) → HoldsMore A with_more f l.way l.qty
+  more_sums f e = holds_more A with_more.orders f l.way l.qty (subst (λ n. AddsOn n l.way l.qty A.orders with_more.orders) (sym e) adds_here)
+
+  pub more_test : (i : ℕ)
+      → (bound l.way with_more (line_name (new_line l)) i).fails ↔ BreaksBound l.way A (line_name (new_line l)) l.qty
+  more_test i = held_test l.way A with_more.orders (line_name (new_line l)) l.qty i sound_more adds_here
+
+  pub room_raised : (i : ℕ) → InOrder A → Room A → ((bound l.way with_more (line_name (new_line l)) i).fails → ⊥)
+      → Room with_more
+  room_raised i named room pass =
+      room_held l.way A with_more.orders (line_name (new_line l)) l.qty i sound_more named room more_adds pass

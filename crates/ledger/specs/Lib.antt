@@ -1,0 +1,12 @@
+pub mod Ledger
+pub mod Outcomes
+pub mod Held
+pub mod Next
+pub mod Answers
+pub mod Good
+pub mod Future
+pub mod Rows
+pub mod Steps
+pub mod Changes
+pub mod Tables
+pub mod inner

@@ -1,0 +1,68 @@
+//! The kinds and states of orders, and their lines.
+
+ghost use Rattle.std.specs.Prelude.{◌≡◌};
+ghost use Rattle.ledger.specs.Ledger.{line_name};
+
+use escrow::{Article, Branch, FieldName, Level, Way};
+
+/// What kind of order it is.
+#[derive(Clone, Copy, PartialEq, Eq)]
+pub enum Kind {
+    /// Of lines of its own.
+    Plain,
+    /// A take at one branch and an add at another.
+    Transfer,
+}
+
+/// Where an order stands.
+#[derive(Clone, Copy, PartialEq, Eq)]
+pub enum State {
+    /// It holds what its lines hold.
+    Open,
+    /// It has ended, and what it used is settled.
+    Committed,
+    /// It has ended, and all that it held went back.
+    Aborted,
+}
+
+/// Where an order stands, as it is shown.
+#[derive(Clone, Copy, PartialEq, Eq)]
+pub enum Standing {
+    /// It holds what its lines hold.
+    Open,
+    /// It is open and may no longer be aborted: what it uses is settled at once.
+    Firm,
+    /// It has ended, and what it used is settled.
+    Committed,
+    /// It has ended, and all that it held went back.
+    Aborted,
+}
+
+/// A line of an order: what it holds on a field, one way, and how much of that it has used.
+#[derive(Clone, Copy)]
+pub struct Line {
+    pub way: Way,
+    pub branch: Branch,
+    pub article: Article,
+    pub held: Level,
+    pub used: Level,
+}
+
+/// What a line counts for in the stock of its field: how much of it is settled, and how much is held beyond that.
+#[derive(Clone, Copy)]
+pub struct Share {
+    pub settled: u64,
+    pub held: u64,
+}
+
+impl Line {
+    /// The name of the field that the line is on.
+    pub fn name(&self) -> FieldName
+        ensures { result ≡ line_name self.now }
+    {
+        FieldName {
+            branch: self.branch,
+            article: self.article,
+        }
+    }
+}

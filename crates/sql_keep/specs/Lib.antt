@@ -1,0 +1,13 @@
+pub mod Schema
+pub mod Description
+pub mod StoreContent
+pub mod Transactions
+pub mod Names
+pub mod Old
+pub mod UpgradeSteps
+pub mod Loads
+pub mod Keeper
+pub mod Statements
+pub mod Stages
+pub mod Starts
+pub mod Laws

@@ -1,0 +1,37 @@
+-- What the statements of a transaction do to the content.
+use Rattle.std.specs.Prelude.{◌≡◌, List, IsTrue}
+use Rattle.sqlite.specs.Effect.{Database}
+use Rattle.sqlite.specs.State.{State}
+use Rattle.sqlite_trees.specs.Tree.{Trees}
+use Rattle.ledger.specs.declared.rows.Change.{Change}
+use Rattle.ledger.specs.Rows.{Content}
+use Rattle.keep.specs.Content.{with_changes}
+use Rattle.sql_keep.specs.StoreContent.{Holds, IsContent}
+
+-- the transaction goes on, and such is made in it
+pub record Makes (Is : Database → Type 0) (old new : State) : Type 0 where
+  pub mode : IsTrue new.in_transaction
+  pub committed : new.committed ≡ old.committed
+  pub is : Is new.now
+
+-- the store is open, and what it shows is committed
+pub record IsSettled (Is : Database → Type 0) (s : State) : Type 0 where
+  pub is_open : IsTrue s.is_open
+  pub settled : s.committed ≡ s.now
+  pub is : Is s.now
+
+-- the rows are put in
+abbrev pub IsPut : List Change → Database → Database → Type 0
+IsPut changes old new = (x : Content) → Holds old x → Holds new (with_changes changes x)
+
+-- the transaction goes on with them
+abbrev pub PutsIn : State → State → List Change → Type 0
+PutsIn old new changes = Makes (IsPut changes old.now) old new
+
+-- they are committed
+abbrev pub Committed : State → State → List Change → Type 0
+Committed old new changes = IsSettled (IsPut changes old.now) new
+
+-- these trees hold the content with all the changes
+abbrev pub AreChanged : Database → List Change → Trees → Type 0
+AreChanged db changes trees = (x : Content) → Holds db x → IsContent trees (with_changes changes x)

@@ -1,0 +1,23 @@
+//! The keeper over SQLite: the seven tables as SQL declares them, in files that are opened, made and upgraded.
+#![tactic(auto)]
+
+mod answers;
+mod commit;
+mod create;
+mod description;
+mod fault;
+mod load;
+mod opening;
+mod schema;
+mod sql;
+mod table;
+mod tables;
+mod trials;
+mod upgrade;
+
+pub use opening::open_path;
+pub use sql::SqlKeep;
+pub use trials::{
+    a_fuse_tells_no_lie, keepers_in_memory_are_honest, keepers_leave_what_stores_leave, reopen,
+    reopen_and_load,
+};

@@ -1,0 +1,10 @@
+//! What keepers are tried by and what is proved of them together: stops and the next open, laws. The program uses none of
+//! it.
+
+mod laws;
+mod recovery;
+
+pub use laws::{
+    a_fuse_tells_no_lie, keepers_in_memory_are_honest, keepers_leave_what_stores_leave,
+};
+pub use recovery::{reopen, reopen_and_load};
