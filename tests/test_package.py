@@ -344,7 +344,7 @@ class Units(ProgramCase):
         path = os.path.join(self.folder, "desk.db")
         done(self.program, ["init", path])
         done(self.program, ["run", path], "F1 field N1 A-1 0 100 40\nO1 open 1 1 take N1 A-1 1\n")
-        service = Service(self.program, path, 3, options=TOGETHER)
+        service = Service(self.program, path, 2, options=TOGETHER)
         place = os.path.join(self.folder, "clock")
         os.mkdir(place)
         for unit, tool, words, told_of in [
