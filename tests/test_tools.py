@@ -8,7 +8,7 @@ import subprocess
 import sys
 from unittest import mock
 
-from support.cases import ProgramCase, needs_strict_tables
+from support.cases import ProgramCase, needs_sqlite, needs_strict_tables
 from support.programs import bytes_of, done, expect, new_desk
 from support.rolled import play_and_kill
 from support.tables import sqlite3
@@ -39,6 +39,7 @@ def number_in(path):
 
 
 class Logs(ProgramCase):
+    @needs_sqlite
     def test_a_log_with_a_page_is_no_shorter(self):
         """With one byte less another SQLite finds nothing in it."""
         copy = a_page_in_its_log(self.folder)
@@ -50,6 +51,7 @@ class Logs(ProgramCase):
             expect(tools.has_pages(cut + tools.LOG) == (number == 2), f"{less} bytes less: pages")
             expect(number_in(cut) == number, f"{less} bytes less: another number")
 
+    @needs_strict_tables
     def test_the_program_leaves_no_page_in_its_log(self):
         """Once it has closed a desk; one that was killed does, and the tools have the program copy it into the file first."""
         path = new_desk(self.program, self.folder)
