@@ -104,7 +104,7 @@ class Restores(ProgramCase):
             database.execute("UPDATE field SET value = value + 1 WHERE article = 'A-1'")
             database.commit()
         expect_refused(restore_words(self.program, spoiled, path), "it is damaged: its rows are those of no good ledger")
-        expect_spoiled(b"this is no database, but some text", "it is no desk")
+        expect_spoiled(b"this is no database, but some text", "it is no database")
         expect_spoiled(b"", "it is no desk")
         expect_spoiled(whole[:-4096], ": ")
         for page in range(len(whole) // 4096):
