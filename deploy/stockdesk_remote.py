@@ -1,6 +1,7 @@
 """A desk that is asked over HTTP: directly, or through its front over TLS. What has no answer is asked again: each command has a
 key, so it is done once."""
 
+import argparse
 import base64
 import http.client
 import json
@@ -11,24 +12,26 @@ from abc import ABC, abstractmethod
 from collections.abc import Iterator
 from typing import Any
 
+from stockdesk_tools import Fault
+
 # statuses that say nothing of whether it was done
 AGAIN = {408, 429, 500, 502, 503, 504}
 
 # statuses of a front that does not let the caller through
 REFUSED = {401: "knows no such user and password", 403: "does not let this user do what deals need"}
 
-# the seconds that an answer may take, and between two askings
-ANSWER_SECONDS = 20
+# the seconds that each step of an answer may take, also of a desk on this machine, and between two askings
+ANSWER_SECONDS, NEAR_SECONDS = 20, 5
 FIRST_PAUSE, LONGEST_PAUSE = 0.02, 1.0
 
 Told = dict[str, Any]
 
 
-class NoAnswer(Exception):
+class NoAnswer(Fault):
     """A desk has not answered in time: call again."""
 
 
-class NotServed(Exception):
+class NotServed(Fault):
     """A desk answers, and not as one that serves this caller: the address, the user or the certificate is another's."""
 
 
@@ -90,7 +93,14 @@ class Desk(ABC):
 class HttpDesk(Desk):
     """A desk at a URL, whose path may begin with a prefix. The user, as NAME:PASSWORD, is told over TLS alone."""
 
-    def __init__(self, url: str, patience: float, user: str = "", certificates: str | None = None):
+    def __init__(
+        self,
+        url: str,
+        patience: float,
+        user: str = "",
+        certificates: str | None = None,
+        seconds: float = ANSWER_SECONDS,
+    ):
         super().__init__(url)
         parts = urllib.parse.urlsplit(url)
         self.prefix, self.patience = parts.path.rstrip("/"), patience
@@ -98,10 +108,10 @@ class HttpDesk(Desk):
         self.connection: http.client.HTTPConnection
         if parts.scheme == "https":
             context = ssl.create_default_context(cafile=certificates)
-            self.connection = http.client.HTTPSConnection(parts.netloc, timeout=ANSWER_SECONDS, context=context)
+            self.connection = http.client.HTTPSConnection(parts.netloc, timeout=seconds, context=context)
             self.headers["Authorization"] = "Basic " + base64.b64encode(user.encode()).decode()
         else:
-            self.connection = http.client.HTTPConnection(parts.netloc, timeout=ANSWER_SECONDS)
+            self.connection = http.client.HTTPConnection(parts.netloc, timeout=seconds)
 
     def close(self) -> None:
         self.connection.close()
@@ -141,3 +151,15 @@ class HttpDesk(Desk):
             if not was_kept or self.connection.sock is not None:
                 time.sleep(pause)
                 pause = min(2 * pause, LONGEST_PAUSE)
+
+
+def port(text: str) -> int:
+    """A port, as a word."""
+    if not text.isascii() or not text.isdigit() or not 1 <= int(text) <= 65_535:
+        raise argparse.ArgumentTypeError(f"{text!r} is no port from 1 to 65535")
+    return int(text)
+
+
+def desk_on(number: int, patience: float) -> HttpDesk:
+    """The desk that is served on a port of 127.0.0.1."""
+    return HttpDesk(f"http://127.0.0.1:{number}", patience, seconds=NEAR_SECONDS)

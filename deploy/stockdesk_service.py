@@ -25,7 +25,7 @@ async def start(options: argparse.Namespace) -> Machine:
     held = stockdesk_desk.lock(path + ".lock")
     with tools.workplace(os.path.dirname(path)) as place:
         copy = os.path.join(place, "desk.db")
-        stockdesk_walk.copy_desk(path, copy)
+        tools.copy_desk(path, copy)
         process = stockdesk_desk.start(program, path, held)
         rows = stockdesk_walk.kept_lines(copy)
     if options.pid:
@@ -53,7 +53,7 @@ async def begin(options: argparse.Namespace) -> None:
     stockdesk_desk.lock(path + ".lock")
     with tools.workplace(os.path.dirname(path)) as place:
         copy = os.path.join(place, "desk.db")
-        stockdesk_walk.copy_desk(path, copy)
+        tools.copy_desk(path, copy)
         digests = stockdesk_walk.digests_of(stockdesk_walk.kept_lines(copy))
     log = Log(options.etcd, options.log)
     if await log.head() != 0 or not await log.put(f"begin {len(digests) - 1} {digests[-1].hex()}".encode()):

@@ -1,32 +1,42 @@
-"""What the tools for a desk have in common: the program and what it says of a file, copies, locks, syncs, names, and how a tool
-ends. A desk is a FILE and its log FILE-wal."""
+"""What the tools for a desk have in common: how they end, the program and what it says of a file, locks, copies, syncs and names.
+A desk is a FILE and its log FILE-wal."""
 
 import argparse
 import contextlib
 import ctypes
+import errno
 import fcntl
+import filecmp
 import os
 import pathlib
 import shutil
 import signal
 import sqlite3
 import stat
+import struct
 import subprocess
 import sys
 import tempfile
 import time
-from typing import Callable, Iterator, NoReturn
+from typing import BinaryIO, Callable, Iterator, NoReturn
 
 LOG = "-wal"
 
 # what may lie beside a database and belong to it
 BESIDE = [LOG, "-shm", "-journal"]
 
-# the head of a log and of a page in it: a log that is no longer holds no page
-EMPTY_LOG = 32 + 24
+# the head of a log is another one behind each time that its pages were copied into the file
+LOG_HEAD = 32
+
+# the least bytes of a log that holds a page: behind its head a page's head, and the smallest page there is
+LOG_WITH_A_PAGE = LOG_HEAD + 24 + 512
 
 # so much is asked of the system at once, in bytes
 CHUNK = 1 << 30
+
+# how often a desk in use is copied anew, and how many seconds lie between
+READINGS = 20
+PAUSE = 0.05
 
 # folders of runs, which hold what has no name yet
 WORKPLACE = ".stockdesk-"
@@ -35,93 +45,164 @@ WORKPLACE = ".stockdesk-"
 LOCK_SECONDS = 60
 LOOK_SECONDS = 0.0002
 
-AT_FDCWD, RENAME_NOREPLACE = -100, 1
+# `struct flock` of Linux
+LOCK = "hhqqi0q"
 
-# what the program says of a file that it does not open
+# of `renameat2`
+THIS_FOLDER, NO_REPLACE = -100, 1
+
+# what the program tells of a file, in other words
 FAULTS = {
-    "stockdesk: store": "the program cannot open it: it is no desk, or in use, or its disk is full or fails",
-    "stockdesk: memory": "the program lacks memory to open it",
-    "stockdesk: io": "the program cannot read its input",
-    "stockdesk: not a desk": "it is no desk",
-    "stockdesk: old version": "it is of version 1: `stockdesk upgrade` makes it one of version 2",
-    "stockdesk: damaged": "it is damaged: its rows are those of no good ledger",
+    "not a desk": "it is no desk",
+    "old version": "it is of version 1: `stockdesk upgrade` makes it one of version 2",
+    "damaged": "it is damaged: its rows are those of no good ledger",
+    "store": "its store fails: it is no database, or in use, or its disk is full or fails",
+    "memory": "the program lacks memory",
+    "io": "the program cannot read or write",
 }
 
 
 class Fault(Exception):
-    """Why a tool gives up, in plain words: one line."""
+    """Why a tool gives up, in plain words."""
 
 
 def say(text: str) -> None:
     """Writes a line to standard error, the name of the tool in front."""
-    print(f"{os.path.basename(sys.argv[0])}: {text}", file=sys.stderr, flush=True)
+    print(f"{os.path.basename(sys.argv[0])}: {' '.join(text.splitlines())}", file=sys.stderr, flush=True)
 
 
-def end(act: Callable[[argparse.Namespace], None], options: argparse.Namespace, failed: str) -> NoReturn:
-    """Runs a tool and ends the process: with status 0, or with 1 and a line that says what failed and names the cause."""
+def end(act: Callable[[argparse.Namespace], int | None], options: argparse.Namespace, failed: str) -> NoReturn:
+    """Runs a tool and ends the process: with the status that it gives, or 0, or with 1 and a line that says what failed and names
+    the cause."""
     # whoever breaks it off finds what a kill leaves
     signal.signal(signal.SIGINT, signal.SIG_DFL)
     try:
-        act(options)
+        sys.exit(act(options))
     except Fault as fault:
         say(f"{failed}: {fault}")
-        sys.exit(1)
     except OSError as fault:
         say(f"{failed}: {fault.strerror or fault}" + (f": {fault.filename}" if fault.filename else ""))
-        sys.exit(1)
-    sys.exit(0)
+    sys.exit(1)
+
+
+# ---- the program
 
 
 def find_program(name: str) -> str:
     """The path of a program that is named by its path, or found on PATH. Fault: there is none."""
     found = shutil.which(name)
     if found is None:
-        raise Fault(f"the program {name} is not there; --program names another")
+        raise Fault(f"the program {name} is not there: --program names another")
     return os.path.abspath(found)
 
 
-def open_desk(program: str, path: str) -> None:
+def fault_of(run: subprocess.Popen | subprocess.CompletedProcess, errors: str) -> str | None:
+    """Why the program did not end well, if so; `errors` is what it wrote to standard error."""
+    if run.returncode == 0 and not errors:
+        return None
+    if run.returncode < 0:
+        return f"the program was stopped: {signal.strsignal(-run.returncode)}"
+    words = errors.strip().removeprefix("stockdesk: ")
+    return FAULTS.get(words, f"the program ended with status {run.returncode}: {words or 'nothing is said'}")
+
+
+def open_desk(program: str, path: str, name: str) -> None:
     """Has the program open the desk in a file and close it again: it judges the rows, and copies the log into the file. Fault: it
-    does not, for the reason that it tells."""
-    run = subprocess.run([program, "run", path], stdin=subprocess.DEVNULL, capture_output=True)
-    if run.returncode:
-        told = run.stderr.decode(errors="replace").strip()
-        raise Fault(FAULTS.get(told, f"the program ends with status {run.returncode} on it: {told or 'nothing is said'}"))
+    does not; `name` is what the file is called then."""
+    words, folder = [program, "run", os.path.basename(path)], os.path.dirname(path)
+    run = subprocess.run(words, cwd=folder, stdin=subprocess.DEVNULL, capture_output=True, check=False)
+    fault = fault_of(run, run.stderr.decode(errors="replace"))
+    if fault is None and has_pages(path + LOG):
+        fault = "the program left pages in its log"
+    if fault is not None:
+        raise Fault(f"{name}: {fault}")
 
 
-def query(path: str, sql: str) -> list[tuple]:
-    """The rows that another SQLite selects from a file that nobody writes, without the log. Fault: it finds no database."""
+def places_in(path: str, name: str) -> int:
+    """How many places the desk has taken in a file that nobody writes, without the log. Fault: another SQLite, which looks at the
+    whole of it, finds something wrong."""
+    # so it neither locks the file nor makes others beside it
+    uri = pathlib.Path(path).absolute().as_uri() + "?immutable=1"
     try:
-        # so it neither locks the file nor makes others beside it
-        name = pathlib.Path(path).absolute().as_uri() + "?immutable=1"
-        with contextlib.closing(sqlite3.connect(name, uri=True)) as database:
-            return database.execute(sql).fetchall()
+        with contextlib.closing(sqlite3.connect(uri, uri=True)) as database:
+            [told], *_ = database.execute("PRAGMA integrity_check").fetchall()
+            if told != "ok":
+                raise Fault(f"{name}: SQLite finds it damaged: {told}".splitlines()[0])
+            [[places]] = database.execute("SELECT places FROM desk").fetchall()
+            return places
     except sqlite3.Error as fault:
-        raise Fault(f"SQLite cannot read it: {fault}") from fault
+        raise Fault(f"{name}: SQLite cannot read it: {fault}") from fault
 
 
-def check_integrity(path: str) -> None:
-    """Has another SQLite look at the whole of a file that nobody writes, without the log. Fault: it finds something wrong."""
-    [told], *_ = query(path, "PRAGMA integrity_check")
-    if told != "ok":
-        raise Fault(f"SQLite finds it damaged: {told}".splitlines()[0])
-
-
-def settle(program: str, path: str) -> int:
+def settle(program: str, path: str, name: str) -> int:
     """Makes the desk in a file that nobody else uses one file without a log, judged by the program and by another SQLite, synced
-    with its folder. How many places it has taken. Fault: it is no good desk."""
-    log = path + LOG
+    with its folder. How many places it has taken. Fault: it is no good desk; `name` is what the file is called then."""
     sync(path)
-    open_desk(program, path)
-    if os.path.exists(log):
-        if os.path.getsize(log) > EMPTY_LOG:
-            raise Fault("the program left pages in its log")
-        os.remove(log)
-    check_integrity(path)
-    [[places]] = query(path, "SELECT places FROM desk")
+    open_desk(program, path, name)
+    with contextlib.suppress(FileNotFoundError):
+        os.remove(path + LOG)
+    places = places_in(path, name)
     sync(path)
     sync(os.path.dirname(path))
     return places
+
+
+# ---- the log
+
+
+def has_pages(log: str) -> bool:
+    """Whether a log is there that holds a page."""
+    return os.path.exists(log) and os.path.getsize(log) >= LOG_WITH_A_PAGE
+
+
+def head_of_log(path: str) -> bytes:
+    """As long as the log of a desk has it, what was written since stands in the log, too."""
+    with contextlib.suppress(FileNotFoundError), open(os.path.realpath(path) + LOG, "rb", 0) as file:
+        return file.read(LOG_HEAD)
+    return b""
+
+
+# ---- the lock that programs have on a desk
+
+
+def opened(path: str) -> BinaryIO:
+    """A file to be read; no waiting for what is none. Fault: it is none."""
+    try:
+        is_file = stat.S_ISREG(os.stat(path).st_mode)
+    except FileNotFoundError:
+        raise Fault(f"{path} is not there") from None
+    if not is_file:
+        raise Fault(f"{path} is no file")
+    return open(path, "rb")
+
+
+def lock_of(kind: int) -> bytes:
+    """A lock on a whole file, as the system wants it told."""
+    return struct.pack(LOCK, kind, os.SEEK_SET, 0, 0, 0)
+
+
+def is_in_use(file: BinaryIO) -> bool:
+    """Whether the program, or another SQLite, has a lock of any kind on the file. To ask takes none."""
+    answer = fcntl.fcntl(file, fcntl.F_OFD_GETLK, lock_of(fcntl.F_WRLCK))
+    return struct.unpack(LOCK, answer)[0] != fcntl.F_UNLCK
+
+
+@contextlib.contextmanager
+def kept_shut(path: str) -> Iterator[None]:
+    """Lets no program open the desk meanwhile, by a lock for reading, which changes nothing and ends with this process. Fault:
+    one has it open. Another SQLite that writes to the log may have no more than such a lock itself, so it is looked for."""
+    with opened(path) as file:
+        try:
+            fcntl.fcntl(file, fcntl.F_OFD_SETLK, lock_of(fcntl.F_RDLCK))
+            is_free = not is_in_use(file)
+        except (BlockingIOError, PermissionError):
+            is_free = False
+        if not is_free:
+            raise Fault(f"{path} is in use: end the program that has it open first")
+        yield
+
+
+# ---- copies
 
 
 def copy(source: str, target: str) -> None:
@@ -138,6 +219,35 @@ def copy(source: str, target: str) -> None:
         os.fchmod(new.fileno(), stat.S_IMODE(os.fstat(old.fileno()).st_mode) | stat.S_IRUSR | stat.S_IWUSR)
 
 
+def copy_desk(path: str, target: str) -> None:
+    """Copies a desk and the log that lies beside it, as beside the file that a link leads to; a log of the target's goes."""
+    source = os.path.realpath(path)
+    copy(source, target)
+    with contextlib.suppress(FileNotFoundError):
+        os.remove(target + LOG)
+    with contextlib.suppress(FileNotFoundError):
+        copy(source + LOG, target + LOG)
+
+
+def is_copy_of_a_moment(path: str, target: str) -> bool:
+    """Whether the file stood still, from before its log was read to behind that, and the log was not begun anew: then the copy is
+    what a stop of the program would have left."""
+    # what was found of files of the same size and time is not asked for
+    filecmp.clear_cache()
+    return filecmp.cmp(os.path.realpath(path), target, shallow=False) and head_of_log(path) == head_of_log(target)
+
+
+def copy_desk_in_use(path: str, target: str) -> None:
+    """Copies a desk that may change meanwhile, without a lock or a signal to anybody. Fault: it changes too fast."""
+    opened(path).close()
+    for _ in range(READINGS):
+        copy_desk(path, target)
+        if is_copy_of_a_moment(path, target):
+            return
+        time.sleep(PAUSE)
+    raise Fault(f"{path} changes faster than it is read: try again")
+
+
 def sync(path: str) -> None:
     """Waits until the bytes of a file, or the names in a folder, are on the disk."""
     handle = os.open(path, os.O_RDONLY)
@@ -147,13 +257,56 @@ def sync(path: str) -> None:
         os.close(handle)
 
 
-def rename_new(source: str, target: str) -> None:
-    """Gives a file another name in one step, never that of a thing that is there. FileExistsError: one is there."""
-    # os.rename replaces; os.link would leave two names to a kill, and the program opens no file that has two
+# ---- names
+
+
+def refuse_what_is_there(path: str) -> None:
+    """Fault: a new desk of that name would take the place of something, or find beside it what would be taken for its part, or
+    has no folder."""
+    there = [name for name in [path, *(path + end for end in BESIDE)] if os.path.lexists(name)]
+    if there:
+        raise Fault(f"{there[0]} is there already")
+    folder = os.path.dirname(os.path.abspath(path))
+    if not os.path.isdir(folder):
+        raise Fault(f"the folder {folder} is not there")
+
+
+def rename_in_one_step(source: str, target: str) -> None:
+    """So the file never has two names, with which the program opens none. FileExistsError: something has that name."""
     library = ctypes.CDLL(None, use_errno=True)
-    if library.renameat2(AT_FDCWD, os.fsencode(source), AT_FDCWD, os.fsencode(target), RENAME_NOREPLACE):
+    if library.renameat2(THIS_FOLDER, os.fsencode(source), THIS_FOLDER, os.fsencode(target), NO_REPLACE):
         number = ctypes.get_errno()
         raise OSError(number, os.strerror(number), target)
+
+
+def rename_new(source: str, target: str) -> None:
+    """Gives a file another name, never that of a thing that is there. On a file system that cannot do so in one step a stop
+    between two leaves both names. FileExistsError: one is there."""
+    try:
+        rename_in_one_step(source, target)
+    except OSError as fault:
+        if fault.errno not in [errno.EINVAL, errno.ENOSYS]:
+            raise
+        os.link(source, target)
+        os.remove(source)
+
+
+def give_name(source: str, target: str) -> None:
+    """Gives a desk in one file, which is whole and on the disk, its name, where nothing is: a stop leaves all of it there, or
+    nothing. Fault: something is there."""
+    refuse_what_is_there(target)
+    try:
+        rename_new(source, target)
+    except FileExistsError:
+        raise Fault(f"{target} is there already") from None
+    try:
+        sync(os.path.dirname(os.path.abspath(target)))
+    except OSError:
+        os.remove(target)
+        raise
+
+
+# ---- other runs
 
 
 def wait_until(fact: Callable[[], bool], seconds: float) -> bool:

@@ -8,21 +8,12 @@ passed over, and what stands behind the line of the last row is carried out. A l
 import contextlib
 import hashlib
 import itertools
-import os
 import sqlite3
 from collections import deque
 from collections.abc import Iterable, Sequence
 
-import stockdesk_tools as tools
 from stockdesk_log import ToldMark
-from stockdesk_tools import LOG, Fault
-
-
-def copy_desk(path: str, target: str) -> None:
-    """Copies a desk that no program has open, with its log, so that nothing but its own program ever writes its file."""
-    for suffix in ["", LOG]:
-        if os.path.exists(path + suffix):
-            tools.copy(path + suffix, target + suffix)
+from stockdesk_tools import Fault
 
 
 def kept_lines(copy: str) -> list[bytes]:

@@ -308,7 +308,7 @@ class Refusals(ProgramCase):
                 ([str(writer.pid), path, copies], f"process {writer.pid} does not serve {path}"),
                 ([str(reader.pid), other, copies], f"process {reader.pid} does not serve {other}"),
                 ([pid, other, copies], f"process {pid} does not serve {other}"),
-                ([str(writer.pid), text, copies], "the program cannot open it: it is no desk"),
+                ([str(writer.pid), text, copies], "it is no database"),
                 ([pid, os.path.join(self.folder, "none.db"), copies], "No such file or directory: "),
                 ([pid, path, os.path.join(self.folder, "none")], "No such file or directory: "),
                 ([pid, path, other], f"Not a directory: {other}"),

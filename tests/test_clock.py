@@ -237,8 +237,8 @@ class Faults(ClockCase):
                 clock.see(MINUTE - 1)
             runs = [clock.start(MINUTE) for clock in clocks]
             for clock, run in zip(clocks, runs):
-                silent = "does not answer" if clock not in clocks[5:7] else "does not tell what is due"
-                expect_fault(end_of(run), f"port {clock.port} {silent}")
+                words = {clocks[5]: "does not tell what is due", clocks[6]: "is no desk"}.get(clock, "no answer")
+                expect_fault(end_of(run), f"http://127.0.0.1:{clock.port}", words)
                 clock.expect_seen(MINUTE)
 
     def test_a_desk_out_of_service_for_two_days_is_no_jump(self):
@@ -254,7 +254,7 @@ class Faults(ClockCase):
                 time.sleep(0.01)
             self.clock.expect_seen(minute)
         for run in runs:
-            expect_fault(end_of(run), f"port {self.clock.port} does not answer")
+            expect_fault(end_of(run), f"no answer of http://127.0.0.1:{self.clock.port}")
         with self.served() as desk:
             expect_ended(self.clock.run(minutes[-1] + 1), minutes[-1] + 1, "2")
             desk.expect(["aborted", "aborted"], 4, minutes[-1] + 1)
@@ -342,7 +342,7 @@ class Jumps(ClockCase):
     def test_a_first_run_that_reaches_no_desk_begins_nothing(self):
         with self.begun():
             os.remove(self.clock.path)
-        expect_fault(self.clock.run(MINUTE), "does not answer")
+        expect_fault(self.clock.run(MINUTE), "no answer")
         expect(self.clock.seen() is None, "something was seen")
 
     def test_a_file_that_says_no_minute_is_refused(self):

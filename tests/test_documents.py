@@ -6,9 +6,9 @@ import re
 import unittest
 
 from support import TOP
+from support.documents import LINK, headings_of, links_of, text_of
 from support.programs import expect
 
-LINK = re.compile(r"\[([^\]]*)\]\(([^)]*)\)")
 NAME = re.compile(r"`([^`]*)`")
 # the documents that do not lie in docs/
 BESIDE = ["README.md", "CHANGELOG.md", "CONTRIBUTING.md", os.path.join("examples", "README.md")]
@@ -16,29 +16,9 @@ BESIDE = ["README.md", "CHANGELOG.md", "CONTRIBUTING.md", os.path.join("examples
 # what is named among definitions and is a crate
 CRATES = ["csv", "clap", "matchit"]
 
-CODE = re.compile(r"```.*?```", re.DOTALL)
-
 
 def documents():
     return [os.path.join(TOP, name) for name in BESIDE] + sorted(glob.glob(os.path.join(TOP, "docs", "*.md")))
-
-
-def text_of(path):
-    with open(path, encoding="utf-8") as file:
-        return file.read()
-
-
-def links_of(document):
-    """Each link outside of blocks of code: its text, and the file and the heading to which it leads."""
-    for text, target in LINK.findall(CODE.sub("", text_of(document))):
-        path, _, heading = target.partition("#")
-        yield text, os.path.normpath(os.path.join(os.path.dirname(document), path)) if path else document, heading
-
-
-def headings_of(document):
-    """As they are linked: in small letters, a hyphen for each space, and without other signs."""
-    titles = re.findall(r"^#+ (.*)$", CODE.sub("", text_of(document)), re.MULTILINE)
-    return [re.sub(r"[^\w\- ]", "", title.lower()).replace(" ", "-") for title in titles]
 
 
 def clauses_of(path):

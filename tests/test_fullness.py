@@ -13,7 +13,7 @@ from support.programs import Session, bytes_of, expect, new_desk, note
 from support.relays import false_desk
 from support.rolled import SCRIPT, desk_of, lying, play_and_kill, tool_ended
 
-import stockdesk_files as files
+import stockdesk_tools as tools
 
 # so many rows on both sides of nine tenths of a limit, others beside them, and the status of a look
 NEARLY = [
@@ -86,14 +86,13 @@ class Changing:
     """Copies a desk, and changes it behind each of the first copies."""
 
     def __init__(self, change, often):
-        self.change, self.often, self.copies, self.copy = change, often, 0, files.copied
+        self.change, self.often, self.copies, self.copy = change, often, 0, tools.copy_desk
 
-    def __call__(self, path, folder, name):
-        copy = self.copy(path, folder, name)
+    def __call__(self, path, target):
+        self.copy(path, target)
         self.copies += 1
         if self.copies <= self.often:
             self.change(self.copies)
-        return copy
 
 
 @needs_strict_tables
@@ -176,16 +175,17 @@ class Fullness(ProgramCase):
         old = new_desk(self.program, self.folder)
         play_and_kill(self.program, old, SCRIPT)
         for name, place in [(old, 68), (f"{old}-wal", 16)]:
-            for often in [0, 3, files.READINGS - 1, files.READINGS]:
+            for often in [0, 3, tools.READINGS - 1, tools.READINGS]:
                 changing = Changing(lambda number: put(name, place, number), often)
-                with mock.patch.multiple(files, copied=changing, PAUSE=0):
+                with mock.patch.multiple(tools, copy_desk=changing, PAUSE=0):
                     expect_copied(old, self.folder, changing)
 
 
 def expect_copied(old, folder, changing):
+    copy = os.path.join(folder, "copy.db")
     try:
-        copy = files.copied_in_use(old, folder, "copy.db")
+        tools.copy_desk_in_use(old, copy)
         expect(changing.copies == changing.often + 1, f"{changing.copies} copies, {changing.often} changes")
         expect(lying(copy) == lying(old), "another copy")
-    except files.NotDone as told:
-        expect(changing.often == files.READINGS and str(told).endswith("try again"), f"{changing.often} changes: {told}")
+    except tools.Fault as told:
+        expect(changing.often == tools.READINGS and str(told).endswith("try again"), f"{changing.often} changes: {told}")

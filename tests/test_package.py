@@ -2,7 +2,6 @@
 its units."""
 
 import asyncio
-import contextlib
 import glob
 import gzip
 import importlib.util
@@ -10,7 +9,6 @@ import os
 import re
 import shlex
 import shutil
-import subprocess
 import unittest
 
 from support import DEPLOY, TOP
@@ -18,14 +16,17 @@ from support.cases import ProgramCase, needs
 from support.copies import BACKUP, RESTORE, alone
 from support.deal_chains import chain
 from support.deal_runs import CARRIER
+from support.documents import headings_of, links_of, text_of
 from support.fronts import PAGE, TOGETHER
-from support.programs import done, expect, note
+from support.packages import Inside, built, fresh_debian, newer, put_sources, run
+from support.programs import bytes_of, done, expect, note
 from support.replica_clients import asked, commanded, wait_until_well
 from support.replica_network import MACHINES
 from support.replicas import PORT, REPLICA, UP_SECONDS, Machines
 from support.service import Service, post
 
-PACKAGE = os.path.join(DEPLOY, "package")
+TOOLS = [os.path.basename(path) for path in glob.glob(os.path.join(DEPLOY, "stockdesk-*")) if "." not in os.path.basename(path)]
+MODULES = [os.path.basename(path) for path in glob.glob(os.path.join(DEPLOY, "stockdesk_*.py"))]
 ROLLOVER = os.path.join(DEPLOY, "stockdesk-rollover")
 CLOCK = os.path.join(DEPLOY, "stockdesk-clock")
 UNITS = sorted(glob.glob(os.path.join(DEPLOY, "*.service")) + glob.glob(os.path.join(DEPLOY, "*.timer")))
@@ -44,64 +45,10 @@ SHARED = [
 SHARED += ["SystemCallFilter=@system-service", "SystemCallFilter=~@privileged @resources"]
 
 
-def run(words: list[str], **options) -> subprocess.CompletedProcess[str]:
-    return subprocess.run(words, capture_output=True, text=True, **options)
+# ---- the package
 
 
-def built(folder: str) -> str:
-    """The package's path."""
-    told = run([PACKAGE, folder])
-    expect(told.returncode == 0, f"no package: {told.stderr}")
-    return told.stdout.strip()
-
-
-# ---- on a fresh Debian
-
-
-def entries_of(folder: str) -> list[tuple[str, int, int, int]]:
-    """Each file below a folder, with its owner, mode and size."""
-    found = []
-    for path in sorted(glob.glob(os.path.join(folder, "**"), recursive=True)):
-        seen = os.lstat(path)
-        found.append((path, seen.st_uid, seen.st_mode, seen.st_size))
-    return found
-
-
-def newer(path: str, folder: str) -> str:
-    """The same package with a later version."""
-    tree = os.path.join(folder, "newer")
-    run(["dpkg-deb", "--raw-extract", path, tree])
-    control = os.path.join(tree, "DEBIAN/control")
-    with open(control, encoding="utf-8") as file:
-        text = re.sub(r"^Version: .*$", "Version: 99.0.0", file.read(), flags=re.MULTILINE)
-    with open(control, "w", encoding="utf-8") as file:
-        file.write(text)
-    later = os.path.join(folder, "later.deb")
-    run(["dpkg-deb", "--root-owner-group", "--build", tree, later], check=True)
-    return later
-
-
-@contextlib.contextmanager
-def fresh_debian(folder: str):
-    """A folder with a fresh Debian, and what runs a line of shell in it and gives its output."""
-    root = os.path.join(folder, "debian")
-    made = run(["mmdebstrap", "--variant=minbase", "--include=python3,adduser", "bookworm", root])
-    if made.returncode != 0:
-        raise unittest.SkipTest(f"no Debian could be fetched: {made.stderr[-200:]}")
-
-    def inside(line: str) -> str:
-        told = run(["chroot", root, "/bin/sh", "-ec", line], env={"PATH": "/usr/sbin:/usr/bin:/sbin:/bin"})
-        expect(told.returncode == 0, f"{line}: {told}")
-        return told.stdout
-
-    run(["mount", "-t", "proc", "proc", os.path.join(root, "proc")], check=True)
-    try:
-        yield root, inside
-    finally:
-        run(["umount", os.path.join(root, "proc")], check=True)
-
-
-@needs("dpkg-deb", "go-md2man")
+@needs("dpkg-buildpackage", "dh", "go-md2man")
 class Package(ProgramCase):
     def test_the_package_is_of_the_proved_program(self):
         """It has these bytes, and the version of the newest change; a program that is older than a source, or none, is
@@ -111,16 +58,13 @@ class Package(ProgramCase):
             version = re.search(r"^## (\S+)", file.read(), re.MULTILINE)[1]
         expect(os.path.basename(path) == f"stockdesk_{version}_amd64.deb", f"another name: {path}")
         expect(run(["dpkg-deb", "--field", path, "Version"]).stdout.strip() == version, "another version")
-        run(["dpkg-deb", "--extract", path, os.path.join(self.folder, "tree")])
-        with open(os.path.join(self.folder, "tree/usr/bin/stockdesk"), "rb") as packed, open(self.program, "rb") as own:
-            expect(packed.read() == own.read(), "another program")
-        packed_page = os.listdir(os.path.join(self.folder, "tree/usr/share/stockdesk/page"))
-        expect(sorted(packed_page) == sorted(os.listdir(PAGE)), f"another page: {packed_page}")
+        tree = unpacked(path, self.folder)
+        expect(bytes_of(os.path.join(tree, "usr/bin/stockdesk")) == bytes_of(self.program), "another program")
+        for folder, names in [("usr/share/stockdesk/page", os.listdir(PAGE)), ("usr/lib/stockdesk", TOOLS + MODULES)]:
+            packed = os.listdir(os.path.join(tree, folder))
+            expect(sorted(packed) == sorted(names), f"{folder} has {packed}")
         copy = os.path.join(self.folder, "copy")
-        for name in ["deploy", "docs"]:
-            shutil.copytree(os.path.join(TOP, name), os.path.join(copy, name))
-        for name in ["README.md", "CHANGELOG.md", "crates.txt"]:
-            shutil.copy(os.path.join(TOP, name), copy)
+        put_sources(copy)
         refused = run([os.path.join(copy, "deploy/package"), self.folder])
         expect(refused.returncode == 1 and "not there" in refused.stderr, f"no program: {refused}")
         os.makedirs(os.path.join(copy, "crates/stockdesk/out"))
@@ -131,53 +75,141 @@ class Package(ProgramCase):
         expect(refused.returncode == 1 and "older" in refused.stderr, f"an older program: {refused}")
 
     @needs("lintian")
-    def test_lintian_finds_no_error(self):
-        told = run(["lintian", "--fail-on", "error", "--tag-display-limit", "0", built(self.folder)])
-        expect(told.returncode == 0, f"lintian: {told.stdout}{told.stderr}")
+    def test_lintian_finds_nothing(self):
+        told = run(["lintian", "--display-info", "--pedantic", "--tag-display-limit", "0", built(self.folder)])
+        expect((told.returncode, told.stdout) == (0, ""), f"lintian: {told.stdout}{told.stderr}")
 
     def test_the_manual_tells_each_command_and_status(self):
         """As `--help` tells of them, and each line of standard error that the rules have."""
-        run(["dpkg-deb", "--extract", built(self.folder), self.folder])
-        with gzip.open(os.path.join(self.folder, "usr/share/man/man1/stockdesk.1.gz"), "rt", encoding="utf-8") as file:
+        pages = os.path.join(unpacked(built(self.folder), self.folder), "usr/share/man/man1")
+        with gzip.open(os.path.join(pages, "stockdesk.1.gz"), "rt", encoding="utf-8") as file:
             page = file.read().replace("\\-", "-")
         for command in "init run orders deliveries bounds sheet article serve upgrade".split():
             told = run([self.program, command, "--help"])
             first = (told.stdout + told.stderr).splitlines()[0]
             expect(first in page, f"nothing is said of {command}: {first}")
-        for tool in ["backup", "between", "clock", "replica", "restore", "rollover"]:
-            expect(f"usage: stockdesk-{tool}" in page, f"nothing is said of {tool}")
-            expect(os.path.exists(os.path.join(self.folder, f"usr/share/man/man1/stockdesk-{tool}.1.gz")), f"no page of {tool}")
+        for tool in TOOLS:
+            expect(f"usage: {tool}" in page, f"nothing is said of {tool}")
+            expect(os.path.exists(os.path.join(pages, f"{tool}.1.gz")), f"no page of {tool}")
         for line in ["not a desk", "old version", "damaged", "store", "memory", "io", "usage", "record N", "csv"]:
             expect(f"stockdesk: {line}" in page, f"nothing is said of {line}")
+
+    def test_the_documents_lead_to_what_is_there(self):
+        """In the package, which has no sources."""
+        tree = unpacked(built(self.folder), self.folder)
+        documents = glob.glob(os.path.join(tree, "usr/share/doc/stockdesk/**/*.md"), recursive=True)
+        links = [(document, *link) for document in documents for link in links_of(document)]
+        expect(len(documents) > 10 and len(links) > 50, f"{len(documents)} documents, {len(links)} links")
+        for document, text, path, heading in links:
+            expect(os.path.exists(path), f"{document}: {text} leads to no file")
+            expect(not heading or heading in headings_of(path), f"{document}: {text} leads to no heading")
+
+    @needs("mmdebstrap", "chroot")
+    @unittest.skipIf(os.geteuid() != 0, "only root can make a Debian")
+    def test_it_is_built_anywhere_to_the_same_bytes(self):
+        """In a fresh Debian with what the package says that it is built by, as another user would have it, and again."""
+        sources = os.path.join(self.folder, "sources")
+        put_sources(sources, self.program)
+        hooks = [f"copy-in {sources} /", 'chroot "$1" sh -c "cd /sources && apt-get build-dep --yes --no-install-recommends ."']
+        with fresh_debian(os.path.join(self.folder, "debian"), *[f"--customize-hook={hook}" for hook in hooks]) as inside:
+            inside("mkdir /one /two && /sources/deploy/package /one")
+            inside("umask 077; cd /two && LANG=C.UTF-8 TZ=Asia/Tokyo /sources/deploy/package")
+            inside("cmp /one/stockdesk_*_amd64.deb /two/stockdesk_*_amd64.deb")
+            [path] = glob.glob(os.path.join(self.folder, "debian/one/*.deb"))
+            note(f"as here: {bytes_of(path) == bytes_of(built(self.folder))}")
 
     @needs("mmdebstrap", "chroot")
     @unittest.skipIf(os.geteuid() != 0, "only root can make a Debian")
     def test_a_package_comes_and_goes(self):
-        """Installed, upgraded, removed, purged: the program runs in between, and the desk is as it was, its owner's alone."""
-        path = built(self.folder)
+        """Installed, upgraded, removed, purged: the program runs in between, systemd is asked for what each step wants, and what
+        is a shop's is as it was: desks and copies, their owner's alone, and settings."""
+        path, root = built(self.folder), os.path.join(self.folder, "debian")
         later = newer(path, self.folder)
-        with fresh_debian(self.folder) as (root, inside):
+        with fresh_debian(root, "--include=python3,systemd") as inside:
             for package, name in [(path, "first.deb"), (later, "later.deb")]:
                 shutil.copy(package, os.path.join(root, name))
+            put_systemctl(root)
             inside("dpkg --install /first.deb")
-            inside("install -d -o stockdesk -g stockdesk -m 0700 /var/lib/stockdesk/shop")
-            desk = "/var/lib/stockdesk/shop/desk.db"
-            inside(f"runuser -u stockdesk -- stockdesk init {desk}")
-            told = inside(f"printf 'F1 field N1 A-1 0 100 40\\n' | runuser -u stockdesk -- stockdesk run {desk}")
-            expect(told == "F1 done 1\n", f"another reply: {told}")
-            kept = entries_of(os.path.join(root, "var/lib/stockdesk"))
-            for line in [
-                "dpkg --install /later.deb",
-                "dpkg --remove stockdesk",
-                "dpkg --purge stockdesk",
-                "dpkg --install /first.deb",
+            expect(inside(OWNED) == OWNERS, f"other owners or modes: {inside(OWNED)}")
+            expect(inside("getent passwd stockdesk").endswith(":/var/lib/stockdesk:/usr/sbin/nologin\n"), "another user")
+            expect_asked(root, [RELOAD])
+            fill(inside)
+            kept = kept_in(root)
+            for line, calls in [
+                ("dpkg --install /later.deb", [RELOAD, "try-restart stockdesk-between.timer", RESTART]),
+                ("dpkg --remove stockdesk", [STOP, RELOAD]),
+                ("dpkg --purge stockdesk", []),
+                ("dpkg --install /first.deb", [RELOAD]),
             ]:
                 inside(line)
-                expect(entries_of(os.path.join(root, "var/lib/stockdesk")) == kept, f"{line}: the desk was touched")
+                expect_asked(root, calls)
+                expect(kept_in(root) == kept, f"{line}: what is a shop's was touched")
                 expect(os.path.exists(os.path.join(root, "usr/bin/stockdesk")) == ("install" in line), f"{line}: the program")
-            told = inside(f"printf '? field N1 A-1\\n' | runuser -u stockdesk -- stockdesk run {desk}")
+            told = inside(f"printf '? field N1 A-1\n' | runuser -u stockdesk -- stockdesk run {DESK}")
             expect(told == "? field N1 A-1 lo 0 hi 100 value 40 inf 40 sup 40\n", f"another desk: {told}")
             expect("usage: stockdesk-backup" in inside("stockdesk-backup --help"), "no tool")
+
+
+def unpacked(path: str, folder: str) -> str:
+    """Where the files of a package lie."""
+    tree = os.path.join(folder, "tree")
+    run(["dpkg-deb", "--extract", path, tree], check=True)
+    return tree
+
+
+# ---- on a fresh Debian
+
+
+DESK = "/var/lib/stockdesk/shop/desk.db"
+
+OWNED = "stat -c '%n %U %G %a' /etc/stockdesk /var/backups/stockdesk /var/lib/stockdesk"
+OWNERS = """/etc/stockdesk root root 755
+/var/backups/stockdesk stockdesk stockdesk 700
+/var/lib/stockdesk stockdesk stockdesk 700
+"""
+
+# what is asked of systemd
+RELOAD = "--system daemon-reload"
+RESTART = "try-restart stockdesk@*.service stockdesk-replica@*.service"
+STOP = "stop stockdesk*.timer stockdesk@*.service stockdesk-replica@*.service"
+
+
+def put_systemctl(root: str) -> None:
+    """In a Debian that has not been started: one that tells what it is asked."""
+    os.makedirs(os.path.join(root, "run/systemd/system"))
+    path = os.path.join(root, "usr/local/bin/systemctl")
+    with open(path, "w", encoding="ascii") as file:
+        file.write('#!/bin/sh\necho "$*" >>/asked\n')
+    os.chmod(path, 0o755)
+
+
+def expect_asked(root: str, want: list[str]) -> None:
+    """That was asked of systemd since the last such look."""
+    path = os.path.join(root, "asked")
+    asked = text_of(path).splitlines() if os.path.exists(path) else []
+    expect(asked == want, f"{asked} was asked, and not {want}")
+    with open(path, "w", encoding="ascii"):
+        pass
+
+
+def fill(inside: Inside) -> None:
+    """A desk with a field, a copy and the settings, as the guide makes them."""
+    inside("install -d -o stockdesk -g stockdesk -m 0700 /var/lib/stockdesk/shop /var/backups/stockdesk/shop")
+    inside(f"runuser -u stockdesk -- stockdesk init {DESK}")
+    inside("echo PORT=8080 >/etc/stockdesk/shop.conf")
+    told = inside(f"printf 'F1 field N1 A-1 0 100 40\n' | runuser -u stockdesk -- stockdesk run {DESK}")
+    expect(told == "F1 done 1\n", f"another reply: {told}")
+    inside(f"runuser -u stockdesk -- stockdesk-restore {DESK} /var/backups/stockdesk/shop/copy.db")
+
+
+def kept_in(root: str) -> list[tuple[str, int, int, int]]:
+    """Each file of the shop's, with its owner, mode and size."""
+    found = []
+    for folder in ["etc/stockdesk", "var/backups/stockdesk", "var/lib/stockdesk"]:
+        for path in sorted(glob.glob(os.path.join(root, folder, "**"), recursive=True)):
+            seen = os.lstat(path)
+            found.append((path, seen.st_uid, seen.st_mode, seen.st_size))
+    return found
 
 
 # ---- the units
@@ -344,7 +376,7 @@ class Units(ProgramCase):
         path = os.path.join(self.folder, "desk.db")
         done(self.program, ["init", path])
         done(self.program, ["run", path], "F1 field N1 A-1 0 100 40\nO1 open 1 1 take N1 A-1 1\n")
-        service = Service(self.program, path, 3, options=TOGETHER)
+        service = Service(self.program, path, 2, options=TOGETHER)
         place = os.path.join(self.folder, "clock")
         os.mkdir(place)
         for unit, tool, words, told_of in [

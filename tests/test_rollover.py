@@ -2,7 +2,6 @@
 desks that came out otherwise, and desks that are refused."""
 
 import contextlib
-import errno
 import glob
 import os
 import random
@@ -11,7 +10,6 @@ import signal
 import stat
 import subprocess
 import time
-from unittest import mock
 
 from support.cases import ProgramCase, needs_strict_tables
 from support.desks import OPEN_ORDER, Desks, changed
@@ -41,7 +39,6 @@ from support.rolled import (
 from support.sums import expect_sums
 from support.tables import sqlite3
 
-import stockdesk_files as files
 from stockdesk_deals import LEAST
 from stockdesk_rows import DEALS
 
@@ -258,8 +255,6 @@ class Stops(ProgramCase):
                 os.remove(f"{new}-wal")
                 whole += 1
             end_group(process)
-            for name in glob.glob(os.path.join(self.folder, "stockdesk-rollover-*")):
-                shutil.rmtree(name, ignore_errors=True)
         expect(lying(old) == found, "the old desk was changed")
         expect(0 < whole < KILLS, f"{whole} of {KILLS} came to an end")
         note(f"{KILLS} killed: {whole} left a new desk, {KILLS - whole} none")
@@ -270,7 +265,7 @@ class Stops(ProgramCase):
         old, new, _, took = longer(self.program, self.folder)
         for number in range(STOPS):
             process = started(self.program, [old, new])
-            wait_for(os.path.join(self.folder, "stockdesk-rollover-*", "new.db"))
+            wait_for(os.path.join(self.folder, ".stockdesk-*", "new.db"))
             time.sleep(number * took / STOPS / 2)
             process.send_signal([signal.SIGTERM, signal.SIGINT, signal.SIGHUP][number % 3])
             _, errors = process.communicate()
@@ -373,20 +368,6 @@ class Refusals(ProgramCase):
             expect_only(self.folder, ["old.db", "old.db-wal", "instead", name])
             os.remove(path)
 
-    def test_a_name_is_given_to_what_is_new(self):
-        """In one step, or in two where the file system has not that one; never over what is there."""
-        path, name = os.path.join(self.folder, "made"), os.path.join(self.folder, "named")
-        refused = OSError(errno.EINVAL, "Invalid argument")
-        for step in [files.rename_where_nothing_is, mock.Mock(side_effect=refused)]:
-            with mock.patch.object(files, "rename_where_nothing_is", step):
-                for text in [b"first", b"second"]:
-                    with open(path, "wb") as file:
-                        file.write(text)
-                    with contextlib.suppress(FileExistsError):
-                        files.rename(path, name)
-                    expect(bytes_of(name) == b"first" and os.path.exists(path) == (text == b"second"), f"{text}")
-            os.remove(name)
-
     def test_what_is_no_desk_is_refused(self):
         """Also by a look, but that one does not judge the rows."""
         old, new = desk_of(self.program, self.folder)
@@ -401,14 +382,14 @@ class Refusals(ProgramCase):
         ]
         for number, (text, end) in enumerate(NO_DESK):
             path = os.path.join(self.folder, f"{number}.db")
-            files.append((path, "no desk is there" if end == NOT_A_DESK else "it is no database"))
+            files.append((path, "it is no desk" if end == NOT_A_DESK else "it is no database"))
             with open(path, "wb") as file:
                 file.write(text)
         for path, cause in files:
             expect_refused(self.program, [path, new], cause)
             if not path.endswith("1.db"):
                 expect_refused(self.program, ["--check", path], cause)
-        expect_refused(os.path.join(self.folder, "none"), [old, new], "there is no program")
+        expect_refused(os.path.join(self.folder, "none"), [old, new], "none is not there: --program names another")
         expect(not os.path.exists(new), "a new desk is there")
 
     def test_want_of_room_is_told(self):
@@ -423,7 +404,7 @@ class Refusals(ProgramCase):
             size = max(4_096, size * 3 // 2)
         expect(status == 0 and len(told) > 5, f"{status}, {told}")
         for errors in told:
-            words = [b"File too large", b"File size limit exceeded", b"the disk is full", b"was answered to"]
+            words = [b"File too large", b"File size limit exceeded", b"its disk is full", b"was answered to"]
             expect(errors.count(b"\n") == 1 and any(word in errors for word in words), f"{errors}")
         expect_whole(read, new)
 
