@@ -100,6 +100,21 @@ class Going(Direct):
         return super().ask(method, target, body)
 
 
+class Coming(Direct):
+    """One that is away when it is asked first, and behind whose next asking something is done."""
+
+    def __init__(self, name: str, desk: Places, act: Callable[[], object]):
+        super().__init__(name, desk)
+        self.act, self.count = act, 0
+
+    def ask(self, method, target, body=None):
+        self.count += 1
+        self.is_away = self.count == 1
+        if self.count == 2:
+            self.act()
+        return super().ask(method, target, body)
+
+
 def begun(desks: list[Places], *sides: tuple[int, Line], holds: bool = False, module: ModuleType = deals) -> deals.End:
     """A deal of that number at some of the desks, carried as far as it goes."""
     lines = [(module.Line(*astuple(line)),) for _, line in sides]
@@ -248,6 +263,11 @@ class Away(unittest.TestCase):
         self.there[1] = Going("desk 1", self.there[1].desk)
         self.assertRaisesRegex(NoAnswer, "of desk 1", self.carry, True)
         expect(self.states() == "committed open committed", f"{self.states()}")
+
+    def test_a_deal_that_is_begun_while_it_is_looked_for(self):
+        """Another desk's order alone is nobody's fault where that desk was away when the first one had none."""
+        self.there[1] = Coming("desk 1", self.there[1].desk, lambda: self.begin("opened"))
+        self.assertRaisesRegex(NoAnswer, "of desk 1", deals.found_deal, NUMBER, self.there)
 
     def test_nothing_is_begun_while_a_desk_is_away(self):
         for number in range(3):
