@@ -27,8 +27,8 @@ class Machine(http.server.ThreadingHTTPServer):
         self.desk, self.has_log = port, has_log
         self.lock = threading.Lock()
         self.revision, self.refuses = FIRST, ""
-        # what each command was sent with, and the greatest revision that was told before
-        self.known: list[tuple[str | None, str]] = []
+        # the revision that each command was sent with, and that of its answer
+        self.known: list[tuple[int, int]] = []
 
 
 class Handler(http.server.BaseHTTPRequestHandler):
@@ -39,7 +39,7 @@ class Handler(http.server.BaseHTTPRequestHandler):
         with self.server.lock:
             body = self.rfile.read(int(self.headers["content-length"]))
             if self.command == "POST":
-                self.server.known.append((self.headers["asked-after"], str(self.server.revision)))
+                self.server.known.append((int(self.headers["asked-after"] or -1), self.server.revision + 1))
             refuses = self.command == "POST" and self.server.refuses
             status, told = (503, refuses.encode()) if refuses else self.of_the_desk(body)
             self.server.revision += 1
@@ -94,29 +94,28 @@ class PageMachines(PageCase):
         with self.machine() as (machine, front), Page(front, "w1") as page:
             for _ in range(3):
                 self.deliver(page, machine)
-            page.wait(lambda: is_still(machine), "it looks on")
             machine.refuses = '{"error":"late"}'
             page.send("#deliver", branch="N1", article="A-1", quantity=1)
             page.wait(lambda: len(machine.known) >= 5, "it is not asked again")
             page.browser.refresh()
             before = len(machine.known)
             page.wait(lambda: len(machine.known) > before, "it is not asked again behind a reload")
-            for known, told in machine.known[:before]:
-                expect(known == told, f"{known} where {told} was told")
             machine.refuses = ""
             page.wait_said("Done")
-            for known, _ in machine.known[before:]:
-                # what is shown is asked for at the same time
-                expect(int(known or 0) > int(machine.known[before - 1][1]), f"{known} behind a reload: {machine.known}")
             page.wait(lambda: is_still(machine), "it looks on")
+            told = FIRST + 1
+            for known, answered in machine.known:
+                # what is shown is asked for at the same time
+                expect(told <= known < answered, f"{known}, not from {told} to before {answered}: {machine.known}")
+                told = answered
             with machine.lock:
                 greatest, machine.revision = machine.revision, 9
             page.send("#deliver", branch="N1", article="A-1", quantity=1)
             page.wait_said("Done")
-            expect(machine.known[-1][0] == str(greatest), f"{machine.known[-1]} where {greatest} was told")
+            expect(machine.known[-1][0] == greatest, f"{machine.known[-1]} where {greatest} was told")
 
     def test_a_desk_without_a_log_is_told_nothing(self):
         with self.machine(has_log=False) as (machine, front), Page(front, "w1") as page:
             for _ in range(2):
                 self.deliver(page, machine)
-            expect([known for known, _ in machine.known] == [None, None], f"{machine.known}")
+            expect([known for known, _ in machine.known] == [-1, -1], f"{machine.known}")
