@@ -1,6 +1,8 @@
-"""The program behind its front, HAProxy, as a server of requests over TLS; and one beside which a client reads slowly."""
+"""The program behind its front, HAProxy, as a server of requests over TLS; one beside which a client reads slowly; and several
+desks behind one front."""
 
 import os
+import shutil
 import socket
 import sys
 import threading
@@ -10,6 +12,7 @@ from contextlib import contextmanager
 
 from loads import PATIENCE, Load, Work, by_wrk
 from services import Pace, Service
+from support.chains import lines_of
 from support.fronts import CONFIGURATION, OFFICE, PAGE, Haproxy, credentials, head_of
 
 SHEET = "/v1/sheets/N0"
@@ -61,6 +64,26 @@ class Slowly(Fronted):
                 sys.exit("bench: no sheet was answered")
             time.sleep(0.1)
         return found
+
+
+@contextmanager
+def behind_one_front(folder: str, ports: Sequence[int]) -> Iterator[list[str]]:
+    """The addresses of the desks of these ports behind one front."""
+    names = [f"desk{number}" for number in range(len(ports))]
+    os.mkdir(folder)
+    front = Haproxy(folder, 0, more="".join(map(lines_of, names, ports)))
+    for name in MALLOC:
+        front.environment.pop(name, None)
+    del front.environment["DESK"]
+    front.environment["DESKS"] = os.path.join(folder, "desks.map")
+    with open(front.environment["DESKS"], "w", encoding="ascii") as file:
+        file.write(f"{OFFICE} {' '.join(names)}\n")
+    front.start()
+    try:
+        yield [f"https://127.0.0.1:{front.port}/{name}" for name in names]
+    finally:
+        front.stop()
+        shutil.rmtree(folder)
 
 
 @contextmanager

@@ -11,6 +11,8 @@ end
 function init(arguments)
     branches, articles, keys = tonumber(arguments[1]), tonumber(arguments[2]), arguments[3]
     sent = 0
+    -- where one front has several desks, the address has the desk's name
+    prefix = wrk.path:gsub("/$", "")
     wrk.headers["Authorization"] = arguments[4]
     math.randomseed(os.time() + 1000000000 * number)
 end
@@ -26,10 +28,10 @@ end
 function request()
     local branch, article = math.random(branches) - 1, math.random(articles) - 1
     if keys == "none" then
-        return wrk.format("GET", string.format("/v1/fields/N%d/A-%d", branch, article))
+        return wrk.format("GET", string.format("%s/v1/fields/N%d/A-%d", prefix, branch, article))
     end
     local body = string.format('{"key":"K-%d","command":"deliver N%d A-%d 1"}', key(), branch, article)
-    return wrk.format("POST", "/v1/commands", nil, body)
+    return wrk.format("POST", prefix .. "/v1/commands", nil, body)
 end
 
 function done(summary, latency)

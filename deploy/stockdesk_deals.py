@@ -15,7 +15,7 @@ import hashlib
 from collections.abc import Sequence
 from dataclasses import dataclass, replace
 
-from stockdesk_remote import Desk, Told
+from stockdesk_remote import Desk, NoAnswer, Told
 
 # the numbers of deals, which no other order has
 LEAST, MOST = 900_000_000, 999_999_999
@@ -148,12 +148,13 @@ def key_of_opening(number: int, *sides: Lines) -> str:
 @dataclass
 class Side:
     """A desk of a deal, what the deal does there if that is known, and its order as it was seen last. `is_ours` once it is known
-    to be this deal's."""
+    to be this deal's; `away` says why nothing is known of a desk that does not answer."""
 
     desk: Desk
     lines: Lines | None = None
     order: Order | None = None
     is_ours: bool = False
+    away: NoAnswer | None = None
 
 
 @dataclass(frozen=True)
@@ -187,18 +188,31 @@ class Deal:
         except Foreign as fault:
             raise self.foreign(side, str(fault)) from fault
 
+    def seen_if_there(self, side: Side) -> Order | None:
+        """The same, or None where its desk does not answer."""
+        side.away = None
+        try:
+            return self.seen(side)
+        except NoAnswer as fault:
+            side.away = fault
+            return None
+
     def foreign(self, side: Side, why: str) -> Foreign:
         return Foreign(f"order {self.number} at {side.desk.name} {why}")
 
     def look(self) -> None:
         """Sees all orders: the others before the first desk's, since they are opened behind it, and behind it, since what it has
-        used, and its end, rest on them."""
+        used, and its end, rest on them. NoAnswer: the first desk does not answer."""
         first, *others = self.sides
-        early = [self.seen(side) for side in others]
+        early = [self.seen_if_there(side) for side in others]
         first.order = self.seen(first)
         self.expect_ours(first)
         for side, before in zip(others, early):
-            side.order = self.seen(side) if first.order else before
+            if not side.away:
+                side.order = self.seen_if_there(side) if first.order else before
+            if side.away:
+                self.leave_out(side, side.away)
+                continue
             if why := fault_of(before, first.order, side.order):
                 raise self.foreign(side, why)
             self.expect_ours(side)
@@ -220,6 +234,18 @@ class Deal:
             return key_of_opening(self.number, *self.terms) if self.goes_on else None
         lines = first.order.lines if first.order else first.lines
         return key_of_opening(self.number, lines) if lines else None
+
+    def leave_out(self, side: Side, fault: NoAnswer) -> None:
+        """Goes on without knowing of a desk that does not answer. NoAnswer: it is the first."""
+        if side is self.sides[0]:
+            raise fault
+        side.away, side.order = fault, None
+
+    def expect_all(self) -> None:
+        """NoAnswer: not all desks have answered."""
+        for side in self.sides:
+            if side.away:
+                raise side.away
 
     # ---- what is done there
 
@@ -266,15 +292,22 @@ class Deal:
             side.order = replace(side.order, state=COMMITTED if step.verb == "commit" else ABORTED)
 
     def carry(self) -> End:
-        """Carries the deal to its end, or, where it is to be held, until all its orders are open."""
+        """Carries the deal to its end, or, where it is to be held, until all its orders are open. NoAnswer: a desk has not
+        answered; at the others the deal is carried to its end where it is decided, or given up."""
         why = ""
         self.look()
         looks = 1
         while looks <= MOST_LOOKS:
             step = next_step([side.order for side in self.sides], self.goes_on, self.holds)
+            if step is None or self.wants_all(step):
+                self.expect_all()
             if step is None:
                 return self.end(why)
-            refusal = self.send(step)
+            try:
+                refusal = self.send(step)
+            except NoAnswer as fault:
+                self.leave_out(self.sides[step.side], fault)
+                continue
             if refusal is None:
                 self.note(step)
                 if step == Step(0, "abort"):
@@ -289,6 +322,12 @@ class Deal:
             self.look()
             looks += 1
         raise Foreign(f"order {self.number} comes to no end")
+
+    def wants_all(self, step: Step) -> bool:
+        """Whether a step waits for desks that do not answer: it does not where the first desk's order has ended, or ends by it
+        without a decision."""
+        first = self.sides[0].order
+        return step.verb != "abort" and (first is None or first.state == OPEN)
 
     def told(self, step: Step, refusal: Told) -> str:
         line = f", line {refusal['line']}" if refusal["line"] else ""
@@ -305,19 +344,21 @@ class Deal:
 
 
 def found_deal(number: int, desks: Sequence[Desk]) -> Deal | None:
-    """The deal that some of these desks have orders of, or None where none has. Foreign: none of them is its first, or two."""
+    """The deal that some of these desks have orders of, or None where none has. Desks that do not answer may be its, too.
+    Foreign: none of them is its first, or two. NoAnswer: its first may be one that does not answer."""
     sides: list[Side] = []
     # again where the first was not there yet when it was asked
     for _ in range(2):
         whole = Deal(number, [Side(desk) for desk in desks])
         for side in whole.sides:
-            side.order = whole.seen(side)
-        sides = [side for side in whole.sides if side.order]
+            side.order = whole.seen_if_there(side)
+        sides = [side for side in whole.sides if side.order or side.away]
         firsts = [side for side in sides if side.order and side.order.is_first]
-        if not sides or firsts:
+        if firsts:
             break
-    if not sides:
-        return None
+        whole.expect_all()
+        if not sides:
+            return None
     names = ", ".join(side.desk.name for side in (firsts or sides))
     if not firsts:
         raise Foreign(f"order {number} is at {names}, whose first desk is none of those named, or was rolled over")

@@ -5,6 +5,7 @@ import argparse
 import base64
 import http.client
 import json
+import socket
 import ssl
 import time
 import urllib.parse
@@ -19,6 +20,9 @@ AGAIN = {408, 429, 500, 502, 503, 504}
 
 # statuses of a front that does not let the caller through
 REFUSED = {401: "knows no such user and password", 403: "does not let this user do what deals need"}
+
+# what a resolver says that knows no such name, and not that it was not reached
+UNKNOWN = {socket.EAI_NONAME, socket.EAI_NODATA}
 
 # the seconds that each step of an answer may take, also of a desk on this machine, and between two askings
 ANSWER_SECONDS, NEAR_SECONDS = 20, 5
@@ -68,11 +72,6 @@ class Desk(ABC):
         """Whether a command was done under this key."""
         return self.shown(f"/v1/keys/{key}") is not None
 
-    def expect_there(self) -> None:
-        """NotServed: it is no desk. A view of what a desk lacks is answered alike by whatever else is there."""
-        if self.shown("/v1/desk") is None:
-            raise NotServed(f"{self.name} is no desk")
-
     def open_orders(self, above: int) -> Iterator[Told]:
         """All open orders with greater numbers, by their numbers."""
         while found := self.shown(f"/v1/open/{above}"):
@@ -116,6 +115,16 @@ class HttpDesk(Desk):
     def close(self) -> None:
         self.connection.close()
 
+    def expect_there(self) -> None:
+        """Asks once. NotServed: no desk is there, since a view of what a desk lacks is answered alike by whatever else is. One
+        that does not answer may be a desk."""
+        try:
+            status, told = self.ask_once("GET", "/v1/desk", None)
+        except Unanswered:
+            return
+        if status != 200:
+            raise NotServed(f"{self.name} is no desk: /v1/desk is answered {status} {told}")
+
     def ask_once(self, method: str, target: str, body: str | None) -> tuple[int, Told]:
         try:
             self.connection.request(method, self.prefix + target, body, self.headers)
@@ -125,6 +134,8 @@ class HttpDesk(Desk):
             raise NotServed(f"{self.name}: its certificate is not known: {fault.verify_message}") from fault
         except (OSError, http.client.HTTPException) as fault:
             self.connection.close()
+            if isinstance(fault, socket.gaierror) and fault.errno in UNKNOWN:
+                raise NotServed(f"{self.name}: its name is not known: {fault.strerror}") from fault
             raise Unanswered(str(fault) or type(fault).__name__) from fault
         if answer.status in AGAIN:
             raise Unanswered(f"status {answer.status}")
@@ -139,6 +150,7 @@ class HttpDesk(Desk):
         return answer.status, told
 
     def ask(self, method: str, target: str, body: str | None = None) -> tuple[int, Told]:
+        """As above. A desk that has not answered in time is not waited for again."""
         latest, pause = time.monotonic() + self.patience, FIRST_PAUSE
         while True:
             # one that was kept may have been closed meanwhile, which says nothing of the desk
@@ -147,7 +159,9 @@ class HttpDesk(Desk):
                 return self.ask_once(method, target, body)
             except Unanswered as fault:
                 if time.monotonic() > latest:
-                    raise NoAnswer(f"no answer of {self.name} in {self.patience:g} seconds ({fault})") from fault
+                    within = f" in {self.patience:g} seconds" if self.patience else ""
+                    self.patience, self.connection.timeout = 0.0, LONGEST_PAUSE
+                    raise NoAnswer(f"no answer of {self.name}{within} ({fault})") from fault
             if not was_kept or self.connection.sock is not None:
                 time.sleep(pause)
                 pause = min(2 * pause, LONGEST_PAUSE)

@@ -13,7 +13,7 @@ from support.programs import expect, note
 RUNS = 40
 SEED = os.environ.get("BETWEEN_SEED", "1")
 # at these steps a desk is filled up
-FILLED = range(2, 8)
+FILLED = range(4, 10)
 
 
 class Deals(ProgramCase):
@@ -30,11 +30,11 @@ class Deals(ProgramCase):
 
     def test_a_deal_that_nobody_disturbs(self):
         """It has as many messages as the other runs count on."""
-        for desks, messages in [(2, 8), (3, 12)]:
+        for desks, messages in [(2, 10), (3, 15)]:
             counts = Counts()
             play(self.templates, self.folder, Case("whole", desks=desks), SEED, counts)
             # the last carrier asks too, who finds that it has ended
-            asked = counts.found["messages"] - (3 * desks - 1) - (desks - 1)
+            asked = counts.found["messages"] - (4 * desks - 1) - (desks - 1)
             expect(asked == messages, f"{asked} messages between {desks} desks")
             expect(counts.found["runs moved"] == 1, "not moved")
 

@@ -4,10 +4,12 @@ through the front."""
 import json
 import os
 import random
+import socket
 import subprocess
 import sys
 import time
 import unittest
+from unittest import mock
 
 from support.cases import ProgramCase
 from support.deal_runs import CARRIER, KILLED
@@ -16,7 +18,7 @@ from support.fronts import Front, FrontCase
 from support.programs import SECONDS, expect, note
 
 from stockdesk_deals import LATEST, Deal, Line, Side
-from stockdesk_remote import HttpDesk
+from stockdesk_remote import HttpDesk, NoAnswer, NotServed
 
 NUMBER = 900_000_001
 NEVER = 4_000_000_000
@@ -39,6 +41,12 @@ NO_WORDS: list[tuple[list[str], str]] = [
     ([str(NUMBER), URLS[0], "ftp://127.0.0.1", *MOVE], "no URL of a desk"),
     ([str(NUMBER), URLS[0], "http://ho:ho@127.0.0.1:2", *MOVE], "no URL of a desk"),
     ([str(NUMBER), URLS[0], "http://127.0.0.1:2/?x", *MOVE], "no URL of a desk"),
+    ([str(NUMBER), URLS[0], "http://127.0.0.1:2/b d", *MOVE], "no URL of a desk"),
+    ([str(NUMBER), URLS[0], "http://127.0.0.1:2/\u00e9", *MOVE], "no URL of a desk"),
+    ([str(NUMBER), URLS[0], "http://127.0.0.1:65536", *MOVE], "no URL of a desk"),
+    ([str(NUMBER), URLS[0], "http://127.0.0.1:x", *MOVE], "no URL of a desk"),
+    ([str(NUMBER), URLS[0], "http://a..b", *MOVE], "no URL of a desk"),
+    ([str(NUMBER), URLS[0], "http://[::1", *MOVE], "no URL of a desk"),
     ([str(NUMBER), *URLS, "http://127.0.0.1:3", *MOVE], "3 desks, and lines of 2"),
     ([str(NUMBER), *URLS, "--lines", "take", "N0", "A-1", "7"], "2 desks, and lines of 1"),
     ([str(NUMBER), *URLS, "--lines", "take", "N0", "A-1"], "a line is WAY BRANCH ARTICLE QUANTITY"),
@@ -97,6 +105,17 @@ class Words(unittest.TestCase):
         for words, cause in NO_WORDS:
             status, told = called(*words)
             expect(status == 2 and cause in told, f"{words}: {status} {told}")
+
+    def test_a_name_that_nobody_has(self):
+        """It is told at once; a name that cannot be asked for now is that of a desk that does not answer."""
+        for number in (socket.EAI_NONAME, socket.EAI_NODATA, socket.EAI_AGAIN):
+            desk = HttpDesk("http://desk.example:8080", 0)
+            with mock.patch("socket.getaddrinfo", side_effect=socket.gaierror(number, "as told")):
+                if number == socket.EAI_AGAIN:
+                    desk.expect_there()
+                    self.assertRaises(NoAnswer, desk.order, NUMBER)
+                else:
+                    self.assertRaisesRegex(NotServed, "its name is not known: as told", desk.expect_there)
 
 
 class Ends(ProgramCase):
@@ -162,14 +181,24 @@ class Ends(ProgramCase):
             expect((waits.returncode, out) == (0, f"{NUMBER} moved\n"), f"{waits.returncode} {out}")
 
     def test_what_was_never_begun(self):
-        """And what is no desk."""
         with chain(self.program, self.folder) as desks:
             expect(called(str(NUMBER), *desks.urls()) == (1, f"{NUMBER} not moved: no desk has begun it\n"), "another end")
-            wrong = [f"{url}/north" for url in desks.urls()]
-            for words in ([], MOVE, ["--resume-all"]):
-                number = [] if words == ["--resume-all"] else [str(NUMBER)]
-                status, told = called(*number, *wrong, *words)
-                expect(status == 2 and wrong[0] in told, f"{words}: {status} {told}")
+
+    def test_a_desk_that_is_misspelt(self):
+        """It is told at once which, and nothing is begun; also where the other desk is away."""
+        with chain(self.program, self.folder) as desks:
+            first, other = desks.urls()
+            for pair in ([f"{first}/north", other], [first, f"{other}/north"]):
+                wrong = next(url for url in pair if url.endswith("north"))
+                for words in ([str(NUMBER), *pair], [str(NUMBER), *pair, *MOVE], ["--resume-all", *pair]):
+                    status, told = called(*words)
+                    expect(status == 2 and f"{wrong} is no desk" in told, f"{words}: {status} {told}")
+            expect([desks.shown(each, "/v1/desk")["orders"] for each in (0, 1)] == [0, 0], "something is begun")
+            desks.stop(0)
+            began = time.monotonic()
+            status, told = called(str(NUMBER), first, f"{other}/north", *MOVE)
+            expect(status == 2 and f"{other}/north is no desk" in told, f"{status} {told}")
+            expect(time.monotonic() - began < SECONDS / 2, "another one was waited for")
 
     def test_desks_in_any_order_are_taken_up(self):
         """But not begun anew: with words the first is the one that decides."""
@@ -250,6 +279,27 @@ class All(ProgramCase):
             expect(status == 1 and f"{NUMBER + 1} not moved" in text and "held" in text, f"{status} {text}")
             status, text = called(*words, "--idle", "0.1", "--held")
             expect(status == 0 and f"{NUMBER} not moved" in text and desks.free(), f"{status} {text}")
+
+    def test_a_desk_that_is_away_keeps_nobody(self):
+        """What is open between the others is taken up; of its own deals the others are left with nothing that they may end."""
+        with chain(self.program, self.folder, 3) as desks:
+            for number, stage in enumerate(STAGES, NUMBER):
+                left(desks, number, stage)
+            words = [word for number in range(3) for word in ("--lines", "take", f"N{number}", "A-1", "1")]
+            called(str(NUMBER + 9), *desks.urls(), *words, "--until", "500", "--hold")
+            port = desks.services[2].port
+            desks.stop(2)
+            status, told = called("--resume-all", *desks.urls()[::-1], "--idle", "0", "--patience", "0.2", "--held")
+            expect(status == 3 and f"no answer of {desks.urls()[2]} in 0.2 seconds" in told, f"{status} {told}")
+            expect(f"order {NUMBER + 9}: no answer" in told, told)
+            for number, stage in [*enumerate(STAGES, NUMBER), (NUMBER + 9, "opened")]:
+                states = [desks.shown(each, f"/v1/orders/{number}")["state"] for each in (0, 1)]
+                want = "open" if stage == "used" else STAGES[stage]
+                expect(states == 2 * [want], f"{number}, {stage}: {states}")
+            desks.services[2] = desks.serve(2, port)
+            status, told = called("--resume-all", *desks.urls(), "--idle", "0")
+            expect(status == 0 and f"{NUMBER + 1} moved" in told, f"{status} {told}")
+            expect([desks.shown(each, "/v1/desk")["open"] for each in range(3)] == [0, 0, 0], "something is open")
 
     def test_other_hands_stop_their_deals_alone(self):
         """One is committed by hand at its other desk, one made firm there, and an order of such a number opened by hand."""

@@ -14,12 +14,32 @@ from support.wrong_carriers import WRONG, edited
 
 import stockdesk_deals as deals
 from stockdesk_deals import Foreign, Line
+from stockdesk_remote import NoAnswer
 
 RUNS = 300
 # within so many runs each wrong carrier is found out, but for one that rare turns find out, and one that another deal does
 MOST = 3_000
 RARE = "aborts at another desk before the first's is aborted"
 MIXED = "takes another deal's order for its own"
+
+# how far a deal of three desks has come: commands behind its opening, each with its desk
+USED = [(desk, f"use {NUMBER} N{desk} A-1 7") for desk in (1, 2, 0)]
+STAGES: dict[str, list[tuple[int, str]]] = {
+    "opened": [],
+    "in part used": USED[:1],
+    "ready": USED,
+    "decided": [*USED, (0, f"commit {NUMBER}")],
+    "given up": [(0, f"abort {NUMBER}")],
+}
+# its states while the last desk is away, behind a carrier that knows the deal and behind one that takes it up, and how it then
+# ends by each
+AWAY: dict[str, tuple[str, str, str, str]] = {
+    "opened": ("open open open", "aborted aborted open", "committed", "aborted"),
+    "in part used": ("open open open", "aborted aborted open", "committed", "aborted"),
+    "ready": ("open open open", "open open open", "committed", "committed"),
+    "decided": ("committed committed open", "committed committed open", "committed", "committed"),
+    "given up": ("aborted aborted open", "aborted aborted open", "aborted", "aborted"),
+}
 
 
 def until(run: Run, carrier: Carrier, fact: Callable[[Message], bool]) -> None:
@@ -61,13 +81,38 @@ def play_rare_turns(module: ModuleType) -> Run:
 
 
 class Direct(Wire):
-    """A desk that answers at once."""
+    """A desk that answers at once, but while it is away."""
 
     def __init__(self, name: str, desk: Places):
-        self.name, self.desk = name, desk
+        self.name, self.desk, self.is_away = name, desk, False
 
     def ask(self, method, target, body=None):
+        if self.is_away:
+            raise NoAnswer(f"no answer of {self.name}")
         return self.desk.answers(method, target, body)
+
+
+class Going(Direct):
+    """One that is away from the first commit on."""
+
+    def ask(self, method, target, body=None):
+        self.is_away = self.is_away or '"commit ' in (body or "")
+        return super().ask(method, target, body)
+
+
+class Coming(Direct):
+    """One that is away when it is asked first, and behind whose next asking something is done."""
+
+    def __init__(self, name: str, desk: Places, act: Callable[[], object]):
+        super().__init__(name, desk)
+        self.act, self.count = act, 0
+
+    def ask(self, method, target, body=None):
+        self.count += 1
+        self.is_away = self.count == 1
+        if self.count == 2:
+            self.act()
+        return super().ask(method, target, body)
 
 
 def begun(desks: list[Places], *sides: tuple[int, Line], holds: bool = False, module: ModuleType = deals) -> deals.End:
@@ -165,3 +210,69 @@ class Numbers(unittest.TestCase):
         for again in ([sides[0], sides[2], sides[1]], sides):
             expect(begun(desks, *again) == deals.End("moved"), "another end")
         expect([desk.numbers((f"N{number}", "A-1"))[0] for number, desk in enumerate(desks)] == [39, 38, 37], "other values")
+
+
+class Away(unittest.TestCase):
+    """A desk that is away leaves the others what is theirs: the end of a deal that is decided, and to give one up that is not."""
+
+    def setUp(self) -> None:
+        self.there = [Direct(f"desk {number}", desk) for number, desk in enumerate(three_desks())]
+
+    def begin(self, stage: str) -> None:
+        sides = [(number, Line("take", f"N{number}", "A-1", 7)) for number in range(3)]
+        begun([each.desk for each in self.there], *sides, holds=True)
+        for count, (number, command) in enumerate(STAGES[stage]):
+            expect(self.there[number].desk.does(f"K{count}", command)[0] == 200, f"{command} is refused")
+
+    def states(self) -> str:
+        return " ".join(each.desk.orders[NUMBER].state for each in self.there)
+
+    def carry(self, knows: bool) -> None:
+        sides = [deals.Side(each, (Line("take", f"N{number}", "A-1", 7),)) for number, each in enumerate(self.there)]
+        deal = deals.Deal(NUMBER, sides, 500) if knows else deals.found_deal(NUMBER, self.there[::-1])
+        assert deal
+        deal.carry()
+
+    def test_another_desk_is_away(self):
+        for stage, (known, taken, *ends) in AWAY.items():
+            for knows, states, end in zip((True, False), (known, taken), ends):
+                self.setUp()
+                self.begin(stage)
+                self.there[2].is_away = True
+                for _ in range(2):
+                    self.assertRaisesRegex(NoAnswer, "of desk 2", self.carry, knows)
+                    expect(self.states() == states, f"{stage}, {knows}: {self.states()}")
+                self.there[2].is_away = False
+                self.carry(knows)
+                expect(self.states() == f"{end} {end} {end}", f"{stage}, {knows}: {self.states()}")
+
+    def test_the_first_desk_is_away(self):
+        """Then nothing is known, and nothing done."""
+        for stage in AWAY:
+            for knows in (True, False):
+                self.setUp()
+                self.begin(stage)
+                before = self.states()
+                self.there[0].is_away = True
+                self.assertRaisesRegex(NoAnswer, "of desk 0", self.carry, knows)
+                expect(self.states() == before, f"{self.states()}")
+
+    def test_a_desk_goes_away_behind_the_decision(self):
+        """The third desk's end does not wait for the second's."""
+        self.begin("ready")
+        self.there[1] = Going("desk 1", self.there[1].desk)
+        self.assertRaisesRegex(NoAnswer, "of desk 1", self.carry, True)
+        expect(self.states() == "committed open committed", f"{self.states()}")
+
+    def test_a_deal_that_is_begun_while_it_is_looked_for(self):
+        """Another desk's order alone is nobody's fault where that desk was away when the first one had none."""
+        self.there[1] = Coming("desk 1", self.there[1].desk, lambda: self.begin("opened"))
+        self.assertRaisesRegex(NoAnswer, "of desk 1", deals.found_deal, NUMBER, self.there)
+
+    def test_nothing_is_begun_while_a_desk_is_away(self):
+        for number in range(3):
+            self.setUp()
+            self.there[number].is_away = True
+            self.assertRaisesRegex(NoAnswer, f"of desk {number}", self.carry, True)
+            self.assertRaisesRegex(NoAnswer, f"of desk {number}", self.carry, False)
+            expect(not any(each.desk.orders for each in self.there), "something was begun")

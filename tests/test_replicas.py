@@ -1,12 +1,17 @@
 """Tests of a desk on three machines: processes of each are killed and stand still, ways are cut, disks are full or lost, while
-clients ask; then all machines have the same rows, and each answer is one that the rules give, in an order that time allows."""
+clients ask; then all machines have the same rows, and each answer is one that the rules give, in an order that time allows.
+REPLICAS_FAULTS in the environment says how many faults there are at the least, in as many lives of new machines as that takes,
+REPLICAS_SEED which: `REPLICAS_FAULTS=1000 ./check tests replicas.Replicas` has 1,000. REPLICAS_KEEP names a folder for what the
+processes of a life wrote in which a fault was found."""
 
 import asyncio
+import itertools
 import os
 import random
 import shutil
 import time
 import unittest
+from collections import Counter
 from importlib.util import find_spec
 
 from support.cases import ProgramCase, needs, needs_sqlite
@@ -18,7 +23,7 @@ from support.replica_faults import Faults
 from support.replica_network import MACHINES
 from support.replicas import FRONT_PORT, PORT, UP_SECONDS, Machines
 
-SEED = 1986
+SEED = int(os.environ.get("REPLICAS_SEED", "1986"))
 CLIENTS, PAUSE = 12, 0.12
 # a mark stands behind so many lines, so there are many
 MARK_LINES = 300
@@ -26,6 +31,8 @@ MARK_LINES = 300
 DISK = 256 << 20
 # faults at the least, and behind how many seconds all clients have their answers
 FAULTS, LAST_SECONDS = 60, 120
+# each life has all kinds of faults once, twice or three times
+MOST_TURNS = 3
 
 LACKING = [name for name in ["aiohttp", "etcd3", "grpc", "uvloop"] if find_spec(name) is None]
 
@@ -44,18 +51,19 @@ async def until_first(*works: asyncio.Task) -> None:
         work.result()
 
 
-async def lived(machines: Machines, history: History, small: str | None) -> Faults:
+async def lived(machines: Machines, history: History, small: str | None, life: int) -> Faults:
     """All faults, while clients ask."""
+    seed = SEED + life
     keeper = asyncio.create_task(machines.keep_up())
     places = [(machines.address(each), PORT) for each in MACHINES]
     await wait_until_well(places, UP_SECONDS)
-    stock = Stock(random.Random(SEED))
+    stock = Stock(random.Random(seed))
     clients = [Client(each, stock, history, wires_of(machines, each % 2 == 0), PAUSE) for each in range(CLIENTS)]
     for number, field in enumerate(f"{branch} {article}" for branch in BRANCHES for article in ARTICLES[:2]):
         await clients[0].ask(f"F{number}", f"field {field} 0 40 20", 1_000)
     lives = [asyncio.create_task(client.live()) for client in clients]
-    faults = Faults(machines, SEED, small)
-    await until_first(asyncio.create_task(faults.live()), keeper, *lives)
+    faults = Faults(machines, seed, small)
+    await until_first(asyncio.create_task(faults.live(1 + life % MOST_TURNS)), keeper, *lives)
     for client in clients:
         client.is_over = True
     await asyncio.wait_for(asyncio.gather(*lives), LAST_SECONDS)
@@ -74,36 +82,49 @@ async def lived(machines: Machines, history: History, small: str | None) -> Faul
 @unittest.skipIf(LACKING, f"{', '.join(LACKING)} of Python not here")
 class Replicas(ProgramCase):
     def test_nothing_answered_is_lost_on_three_machines(self):
-        history, began = History(), time.monotonic()
-        with small_disk(self.folder, DISK) as small:
-            machines = Machines(self.program, self.folder, MARK_LINES)
+        wanted, found = int(os.environ.get("REPLICAS_FAULTS", "1")), Counter[str]()
+        for life in itertools.count():
+            found += self.live(life)
+            if found.total() >= wanted:
+                break
+        if life:
+            note(f"{found.total():,} in all: {', '.join(f'{count} {what}' for what, count in sorted(found.items()))}")
+
+    def live(self, life: int) -> Counter[str]:
+        """New machines, and what befalls them: how many faults of each kind."""
+        history, began, folder = History(), time.monotonic(), os.path.join(self.folder, str(life))
+        os.mkdir(folder)
+        with small_disk(folder, DISK) as small:
+            machines = Machines(self.program, folder, MARK_LINES)
             try:
                 if small:
                     os.symlink(small, machines.folder(MACHINES[-1]))
                 machines.make()
                 machines.start_all()
-                faults = asyncio.run(lived(machines, history, small))
+                faults = asyncio.run(lived(machines, history, small, life))
             except BaseException:
                 keep_logs(machines)
                 raise
             finally:
                 machines.down()
             tables = machines.tables()
-            if os.environ.get("REPLICA_KEEP"):
-                keep_logs(machines)
         wrong, counts = judged(history, tables)
         count = faults.count()
         note(f"{count} faults in {time.monotonic() - began:.0f} s, {counts}")
         if not machines.network.can_cut:
             note("no namespaces here, so no way is cut")
-        expect(not wrong, "\n".join([*wrong[:10], *faults.told]))
+        if wrong:
+            keep_logs(machines)
+        expect(not wrong, "\n".join([f"seed {SEED}, life {life}", *wrong[:10], *faults.told]))
         expect(count >= FAULTS or not machines.network.can_cut, f"only {count} faults: {faults.counts}")
         expect(counts["places"] > 300 and counts["refused"] > 300, f"little was asked: {counts}")
+        shutil.rmtree(folder)
+        return faults.faults()
 
 
 def keep_logs(machines: Machines) -> None:
     """What the processes wrote, for whoever looks for a fault."""
-    if folder := os.environ.get("REPLICA_KEEP"):
+    if folder := os.environ.get("REPLICAS_KEEP"):
         for name in os.listdir(machines.root):
             if name.endswith(".log"):
                 shutil.copy(os.path.join(machines.root, name), folder)

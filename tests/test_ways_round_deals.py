@@ -1,6 +1,7 @@
 """Tests of ways round whose the deals are: orders from 900,000,000 on and keys that begin with `between-`, which are the group
-between's alone, in commands of the other groups; all else in commands of that group; and the last moment, to which nobody moves
-the clock. Each is refused by the front, and nothing of it reaches the desk; what the group may do is done."""
+between's alone, in commands of the other groups; all else in commands of that group; the last moment, to which nobody moves the
+clock; and the clock's keys, each of which is that of one expiry. Each is refused by the front, and nothing of it reaches the
+desk; what the group may do is done."""
 
 import json
 
@@ -54,6 +55,10 @@ DONE = [
     (OFFICE, "commit 7", "7"),
     (OFFICE, "expire 59", "K1"),
     (OFFICE, "expire 900000007", "K2"),
+    (OFFICE, "expire 900000008", "clock-900000008"),
+    (OFFICE, "deliver N1 A-1 1", "clock-"),
+    (OFFICE, "deliver N1 A-1 1", "clock-1-1"),
+    (OFFICE, "deliver N1 A-1 1", "Clock-1"),
     (OFFICE, "expire 3999999999", "K3"),
 ]
 
@@ -95,6 +100,13 @@ def rows_of_moments() -> list[Row]:
     return [(user, command, keys.get(user, "WAY"), 403, error) for user, error in groups.items() for command in LAST]
 
 
+def rows_of_clock() -> list[Row]:
+    """Keys of the clock, under which there is nothing but its own expiry."""
+    mays = [(SHOP, "commit 7"), (WAREHOUSE, "deliver N1 A-1 7"), (OFFICE, "deliver N1 A-1 7"), (BETWEEN, "commit 900000007")]
+    mays += [(OFFICE, f"expire {moment}") for moment in ["5", "56", "7", "75", "057", "57 ", "57 1"]] + [(OFFICE, " expire 57")]
+    return [(user, command, "clock-57", 403, "key") for user, command in mays] + [(OFFICE, "expire 57", "clock-057", 403, "key")]
+
+
 def state_of(front: Front) -> list[str]:
     targets = ["/v1/orders/7", "/v1/orders/900000007", "/v1/sheets/N1", "/v1/sheets/N2", "/v1/desk", "/v1/open/0"]
     return [front.ask(OFFICE, "GET", target)[1] for target in targets]
@@ -103,7 +115,7 @@ def state_of(front: Front) -> list[str]:
 class WaysRoundDeals(FrontCase):
     def test_nobody_goes_round(self):
         """One row after the other is refused, and its key is free behind it."""
-        rows = rows_of_others() + rows_of_between() + rows_of_moments()
+        rows = rows_of_others() + rows_of_between() + rows_of_moments() + rows_of_clock()
         with Front(self.program, self.folder, script=SCRIPT) as front:
             before = state_of(front)
             for user, command, key, status, error in rows:

@@ -1,7 +1,7 @@
 // How the page begins, and the way of a command to the desk: it is asked for under its key until there is an answer.
 import { BARRED, NOT_YOURS, REFUSALS } from "./words.js";
-import { RANGE, at, count, fetched, isOwn, laterWait, look, meaningOf, parsed, pause, recall, restore, save, state,
-  user, zone } from "./tools.js";
+import { RANGE, afterOf, at, count, fetched, isOwn, laterWait, look, meaningOf, parsed, pause, recall, restore, save,
+  state, user, zone } from "./tools.js";
 import { drawOrder, drawStock, dueName, nextOrders, seen, show, showAgain, showBranches } from "./views.js";
 import { listDesks } from "./desks.js";
 import { empty, listenToForms, noteOpened, offer, partOf, propose, putUser, sending, wordOf } from "./forms.js";
@@ -44,13 +44,14 @@ function outcomeOf(status, text, command) {
 
 async function ask() {
   const { key, command } = state.pending, stopper = asking = new AbortController();
-  const headers = { "content-type": "application/json" }, body = JSON.stringify({ key, command });
+  const body = JSON.stringify({ key, command });
   const told = { line: command, key, meaning: meaningOf(command) };
   for (const [id, text] of Object.entries(told)) at(id).textContent = text;
   at("sent").hidden = false;
   say("waiting", "Asking the desk …");
   for (let turn = 1, wait = laterWait(0); !stopper.signal.aborted; turn += 1, wait = laterWait(wait)) {
     const signal = AbortSignal.any([stopper.signal, AbortSignal.timeout(LONGEST_ANSWER)]);
+    const headers = { "content-type": "application/json", ...afterOf() };
     const { status, text } = await fetched("/v1/commands", { method: "POST", headers, body, signal });
     const { kind, words, refused } = outcomeOf(status, text, command);
     if (kind === "done" || kind === "refused") return settle(kind, words, refused);

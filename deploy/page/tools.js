@@ -8,7 +8,8 @@ const FIRST_WAIT = 500, LAST_WAIT = 16000, MOST_LOOKS = 6;
 export const desk = location.pathname.split("/")[1];
 const placeOf = name => name && `/${name}`;
 // What is shown, and the command that has no answer yet: it is kept with its key, so that a reload asks for it again.
-export const state = { stock: "", article: "", order: "", orders: "open/0", pending: null };
+// Where machines hold the desk, `revision` is the greatest of their log that an answer told.
+export const state = { stock: "", article: "", order: "", orders: "open/0", pending: null, revision: "" };
 // Who asks: the orders from `first` to `last` are the user's own; where there are `branches`, the user is held to them.
 export const user = { name: "", group: "none", first: 1, last: 0, branches: [], desks: [] };
 export const isOwn = number => user.first <= number && number <= user.last;
@@ -64,11 +65,20 @@ export const isPassing = status => status === 0 || status === 408 || status === 
 export const laterWait = wait => wait === 0 ? FIRST_WAIT : Math.min(LAST_WAIT, 2 * wait);
 export const pause = (wait, signal) =>
   new Promise(done => { setTimeout(done, wait); signal?.addEventListener("abort", done); });
+function learn(revision) {
+  if (!/^[0-9]{1,19}$/.test(revision) || BigInt(revision) <= BigInt(state.revision)) return;
+  state.revision = revision;
+  save();
+}
+// With it the machines know a copy of a command that comes late.
+export const afterOf = () => state.revision ? { "asked-after": state.revision } : {};
 // An answer counts with its whole body: one that broke off, or never came, has the status 0.
 export async function fetched(path, options, name = desk) {
   try {
     const answer = await fetch(location.origin + placeOf(name) + path, { cache: "no-store", ...options });
-    return { status: answer.status, text: await answer.text() };
+    const text = await answer.text();
+    if (name === desk) learn(answer.headers.get("log-revision"));
+    return { status: answer.status, text };
   } catch { return { status: 0, text: "" }; }
 }
 export async function look(path, say = () => {}, most = MOST_LOOKS, name = desk) {

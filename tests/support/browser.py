@@ -63,7 +63,7 @@ const look = async (address, options, path) => {
   looks += 1;
   try {
     const answer = path in views ? new Response(views[path]) : await real(address, options);
-    return new Response(await answer.text(), { status: answer.status });
+    return new Response(await answer.text(), answer);
   } finally {
     setTimeout(() => { looks -= 1; }, 50);
   }

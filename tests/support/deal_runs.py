@@ -248,7 +248,7 @@ POINTS = ["before", "behind"]
 SIDES: list[str | int] = [CARRIERS, 0, 1]
 VICTIMS: list[Victims] = [frozenset(who) for count in (1, 2, 3) for who in combinations(SIDES, count)]
 # an undisturbed deal of one line has so many messages between two desks, and between three
-STEPS, STEPS_OF_THREE = 8, 12
+STEPS, STEPS_OF_THREE = 10, 15
 
 
 def each_step(points: Sequence[str] = POINTS, victims: Sequence[Victims] = VICTIMS) -> Iterator[Case]:
@@ -273,7 +273,7 @@ def each_step_of_three() -> Iterator[Case]:
 def few_places(steps: Iterable[int]) -> Iterator[Case]:
     """A desk with few places left, and one that is filled up behind a step."""
     for number, left in [(number, left) for left in (3, 4, 5, 6) for number in (0, 1)]:
-        yield Case(f"{left} places", (Stop(4, "behind", frozenset([CARRIERS])),), left=((number, left),))
+        yield Case(f"{left} places", (Stop(6, "behind", frozenset([CARRIERS])),), left=((number, left),))
     for at in steps:
         stops = (Stop(at, POINTS[at % 2], VICTIMS[at % 7]),)
         yield Case(f"fill {at}", stops, left=((at % 2, 12),), meanwhile=frozenset(["fill"]))

@@ -1,6 +1,7 @@
 """Carriers of deals in threads, before desks by the rules: at each message chance says who goes on, and whether the message is
-lost, late, or comes twice, the carrier is killed before it or behind it, or others are at work. Behind each message what the deal
-has moved is all, nothing or under way, and at the end it is all or nothing. One thread runs at a time, so a seed tells all."""
+lost, late, or comes twice, the carrier is killed before it or behind it, or waits in vain, or others are at work. Behind each
+message what the deal has moved is all, nothing or under way, and at the end it is all or nothing. One thread runs at a time, so
+a seed tells all."""
 
 import queue
 import random
@@ -29,10 +30,13 @@ from support.programs import expect
 from support.rules import ABORTED, COMMITTED
 
 import stockdesk_deals
-from stockdesk_remote import Desk
+from stockdesk_remote import Desk, NoAnswer
 
 # a run that goes on for so many messages has no end
 MOST_MESSAGES = 3_000
+# what becomes of a message and its carrier; who has no answer asks again, or has waited in vain
+TROUBLES = ["lost", "answer lost", "late", "twice", "killed before", "killed behind", "killed, late"]
+TROUBLES += ["in vain, before", "in vain, behind", "in vain, late"]
 SECONDS = 60
 
 
@@ -65,7 +69,7 @@ class Carrier(threading.Thread):
     def __init__(self, act: Callable[["Carrier"], Any], told: "queue.Queue[Carrier]"):
         super().__init__(daemon=True)
         self.act, self.told = act, told
-        self.answers: "queue.Queue[Told | None]" = queue.Queue()
+        self.answers: "queue.Queue[Told | NoAnswer | None]" = queue.Queue()
         self.message: Message | None = None
         self.end: Any = None
         self.fault: Exception | None = None
@@ -73,7 +77,7 @@ class Carrier(threading.Thread):
     def run(self) -> None:
         try:
             self.end = self.act(self)
-        except Stopped:
+        except (Stopped, NoAnswer):
             pass
         except Exception as fault:
             self.fault = fault
@@ -86,6 +90,8 @@ class Carrier(threading.Thread):
         answer = self.answers.get()
         if answer is None:
             raise Stopped
+        if isinstance(answer, NoAnswer):
+            raise answer
         return answer
 
 
@@ -169,22 +175,21 @@ class Run:
         """A carrier's message, and what becomes of the carrier."""
         message = carrier.message
         assert message
-        what = self.chance.choice(["lost", "answer lost", "late", "twice", "killed before", "killed behind", "killed, late"])
+        what = self.chance.choice(TROUBLES)
         if self.chance.random() >= self.trouble:
             carrier.answers.put(self.deliver(message))
             self.next_one()
             return
         self.counts.found[what] += 1
-        if what in ("answer lost", "twice", "killed behind"):
+        if what in ("answer lost", "twice", "killed behind", "in vain, behind"):
             answer = self.deliver(message)
-        if what in ("late", "twice", "killed, late"):
+        if what in ("late", "twice", "killed, late", "in vain, late"):
             self.late.append(message)
-        # who has no answer asks again
         if what == "twice":
             carrier.answers.put(answer)
             self.next_one()
-        elif what.startswith("killed"):
-            carrier.answers.put(None)
+        elif what.startswith(("killed", "in vain")):
+            carrier.answers.put(None if what.startswith("killed") else NoAnswer("no answer"))
             self.next_one()
 
     def next_one(self) -> None:

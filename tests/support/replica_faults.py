@@ -134,9 +134,12 @@ class Faults:
 
     # ---- all of it
 
+    def faults(self) -> Counter[str]:
+        """How many there were of each kind, without copies and compactions."""
+        return Counter({kind: count for kind, count in self.counts.items() if not kind.startswith(("copy", "compaction"))})
+
     def count(self) -> int:
-        """How many faults there were, without copies and compactions."""
-        return sum(count for kind, count in self.counts.items() if not kind.startswith(("copy", "compaction")))
+        return self.faults().total()
 
     def planned(self) -> list[Fault]:
         """The faults, in any order, but that the log is compacted behind the machine that needs all of it."""
@@ -144,7 +147,7 @@ class Faults:
         early += self.cuts() if self.machines.network.can_cut else []
         self.random.shuffle(early)
         half = len(early) // 2
-        return [*early[:half], partial(self.wipe, False), self.compact, partial(self.wipe, True), *early[half:]]
+        return [*early[:half], partial(self.wipe, self.compacted), self.compact, partial(self.wipe, True), *early[half:]]
 
     def kills(self) -> list[Fault]:
         found: list[Fault] = [partial(self.kill, part, who) for part in PARTS for who in ["any", "any", "any", "any", "leader"]]
@@ -163,8 +166,10 @@ class Faults:
         found += [partial(self.cut, kind, "any", both) for kind in ["peers", "all", "pair"] for _ in range(2)]
         return [*found, *[partial(self.cut, "all", who, both, 40) for who in ["leader", "follower", "any"]]]
 
-    async def live(self) -> None:
-        for fault in self.planned():
-            await fault()
-            await asyncio.sleep(self.random.choice([0.1, 0.5, 1.2]))
+    async def live(self, turns: int) -> None:
+        """All of them, so many times."""
+        for _ in range(turns):
+            for fault in self.planned():
+                await fault()
+                await asyncio.sleep(self.random.choice([0.1, 0.5, 1.2]))
         await self.settle()

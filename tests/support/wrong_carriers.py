@@ -7,7 +7,7 @@ import types
 from support import DEPLOY
 
 SOURCE = os.path.join(DEPLOY, "stockdesk_deals.py")
-FIRST_LOOK = """        early = [self.seen(side) for side in others]
+FIRST_LOOK = """        early = [self.seen_if_there(side) for side in others]
         first.order = self.seen(first)
 """
 
@@ -48,10 +48,10 @@ WRONG: dict[str, list[tuple[str, str]]] = {
         ),
     ],
     "sees the others only before the first desk": [
-        ("side.order = self.seen(side) if first.order else before", "side.order = before"),
+        ("side.order = self.seen_if_there(side) if first.order else before", "side.order = before"),
     ],
     "sees the others only behind the first desk": [
-        (FIRST_LOOK, "        first.order = self.seen(first)\n        early = [self.seen(side) for side in others]\n"),
+        (FIRST_LOOK, "        first.order = self.seen(first)\n        early = [self.seen_if_there(side) for side in others]\n"),
     ],
     "takes another deal's order for its own": [("if is_other or (key and not side.desk.has_kept(key)):", "if is_other:")],
     "leaves the orders of a deal that is given up": [
