@@ -29,7 +29,8 @@ stepped A names change (o ∷ os) self goes = by (names o) goes.0 (stepped A nam
         → map (step_to A) (map (λ s. s.after) (turns names change os)) ≡ turns names change os
         → map (step_to A) (map (λ s. s.after) (step_if b o (change o) ++ turns names change os))
         ≡ step_if b o (change o) ++ turns names change os
-    by true go more = λ i. record { before = (ap (order_numbered A) (go refl).number ∙ self.0) i; after = change o } ∷ more i
+    by true go more = λ i. record { before = (ap (order_numbered A) (go refl).number ∙ self.0) i; after = change o }
+        ∷ more i
     by false go more = more
 
 pub steps_seen : (A : Ledger) (c : Command) → Good A → FirstFailure (checks A c) None
@@ -52,14 +53,23 @@ pub record IsStepAt (nr : ℕ) (bs ls : List Line) (i : ℕ) (x : LineStep) : Ty
   pub next : line_steps nr bs (take (i + 1) ls) ≡ line_steps nr bs (take i ls) ++ x ∷ []
 
 step_suc : (nr : ℕ) (bs ls : List Line) (i : ℕ) (l : Line) → i < length ls → l ≡ get_or ls i l
-    → (rest : List LineStep) × (line_steps nr bs ls ≡ line_steps nr bs (take i ls) ++ record { nr = nr + i; before = slice_get bs i; after = l } ∷ rest)
+    → (rest : List LineStep) × (line_steps nr bs ls ≡ line_steps nr bs (take i ls)
+    ++ record { nr = nr + i; before = slice_get bs i; after = l } ∷ rest)
     × (line_steps nr bs (take (suc i) ls) ≡ line_steps nr bs (take i ls) ++ record { nr = nr + i; before = slice_get bs i; after = l } ∷ [])
 step_suc nr bs [] i l h e = absurd (omega arith)
-step_suc nr [] (m ∷ ms) zero l h e = (line_steps (nr + 1) [] ms, (λ i. record { nr = zero_more nr i; before = None; after = sym e i } ∷ line_steps (nr + 1) [] ms), (λ i. record { nr = zero_more nr i; before = None; after = sym e i } ∷ []))
+step_suc nr [] (m ∷ ms) zero l h e = (
+  line_steps (nr + 1) [] ms,
+  (λ i. record { nr = zero_more nr i; before = None; after = sym e i } ∷ line_steps (nr + 1) [] ms),
+  (λ i. record { nr = zero_more nr i; before = None; after = sym e i } ∷ []),
+)
   where
     zero_more : (n : ℕ) → n ≡ n + 0
     zero_more n = omega arith
-step_suc nr (b ∷ bs) (m ∷ ms) zero l h e = (line_steps (nr + 1) bs ms, (λ i. record { nr = zero_more nr i; before = Some b; after = sym e i } ∷ line_steps (nr + 1) bs ms), (λ i. record { nr = zero_more nr i; before = Some b; after = sym e i } ∷ []))
+step_suc nr (b ∷ bs) (m ∷ ms) zero l h e = (
+  line_steps (nr + 1) bs ms,
+  (λ i. record { nr = zero_more nr i; before = Some b; after = sym e i } ∷ line_steps (nr + 1) bs ms),
+  (λ i. record { nr = zero_more nr i; before = Some b; after = sym e i } ∷ []),
+)
   where
     zero_more : (n : ℕ) → n ≡ n + 0
     zero_more n = omega arith
@@ -67,15 +77,19 @@ step_suc nr [] (m ∷ ms) (suc k) l h e =
     let more = step_suc (nr + 1) [] ms k l (omega arith) e in
     let same : (nr + 1) + k ≡ nr + suc k = omega arith in (
       more.0,
-      ap (λ (xs : List LineStep). record { nr = nr; before = None; after = m } ∷ xs) (more.1 ∙ (λ i. line_steps (nr + 1) [] (take k ms) ++ record { nr = same i; before = None; after = l } ∷ more.0)),
-      ap (λ (xs : List LineStep). record { nr = nr; before = None; after = m } ∷ xs) (more.2 ∙ (λ i. line_steps (nr + 1) [] (take k ms) ++ record { nr = same i; before = None; after = l } ∷ [])),
+      ap (λ (xs : List LineStep). record { nr = nr; before = None; after = m } ∷ xs)
+          (more.1 ∙ (λ i. line_steps (nr + 1) [] (take k ms) ++ record { nr = same i; before = None; after = l } ∷ more.0)),
+      ap (λ (xs : List LineStep). record { nr = nr; before = None; after = m } ∷ xs)
+          (more.2 ∙ (λ i. line_steps (nr + 1) [] (take k ms) ++ record { nr = same i; before = None; after = l } ∷ [])),
     )
 step_suc nr (b ∷ bs) (m ∷ ms) (suc k) l h e =
     let more = step_suc (nr + 1) bs ms k l (omega arith) e in
     let same : (nr + 1) + k ≡ nr + suc k = omega arith in (
       more.0,
-      ap (λ (xs : List LineStep). record { nr = nr; before = Some b; after = m } ∷ xs) (more.1 ∙ (λ i. line_steps (nr + 1) bs (take k ms) ++ record { nr = same i; before = slice_get bs k; after = l } ∷ more.0)),
-      ap (λ (xs : List LineStep). record { nr = nr; before = Some b; after = m } ∷ xs) (more.2 ∙ (λ i. line_steps (nr + 1) bs (take k ms) ++ record { nr = same i; before = slice_get bs k; after = l } ∷ [])),
+      ap (λ (xs : List LineStep). record { nr = nr; before = Some b; after = m } ∷ xs)
+          (more.1 ∙ (λ i. line_steps (nr + 1) bs (take k ms) ++ record { nr = same i; before = slice_get bs k; after = l } ∷ more.0)),
+      ap (λ (xs : List LineStep). record { nr = nr; before = Some b; after = m } ∷ xs)
+          (more.2 ∙ (λ i. line_steps (nr + 1) bs (take k ms) ++ record { nr = same i; before = slice_get bs k; after = l } ∷ [])),
     )
 
 pub step_at : (nr : ℕ) (bs ls : List Line) (i : ℕ) (l : Line) → i < length ls → l ≡ get_or ls i l

@@ -1,4 +1,4 @@
-//! The ledger: all fields, orders and keys of the desk, and what it answers.
+//! A book: the fields, orders and keys of a ledger as code keeps them, and what it answers.
 #![tactic(auto)]
 
 mod book;

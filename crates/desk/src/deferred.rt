@@ -141,7 +141,7 @@ impl<K: Keep> Keep for Deferred<K> {
     ghost use Rattle.std.specs.Prelude.{◌≡◌, ⊤};
     ghost use Rattle.desk.specs.Deferred.{HasTablesOff, PutsOff, PutsOffOneOf};
     ghost use Rattle.ledger.specs.Rows.{Content};
-    ghost use Rattle.std.proofs.Common.{◌∙◌, subst, sym};
+    ghost use Rattle.std.proofs.Common.{◌∙◌, sym};
     ghost use Rattle.keep.specs.Content.{newest};
 
     ghost is_honest = { λ d. K.is_honest d.keep };
@@ -223,7 +223,12 @@ impl<K: Keep> Keep for Deferred<K> {
 
     ghost one_content = { λ remains x y one other. sym other ∙ one };
 
-    ghost of_remains = { λ d remains x may is. subst (PutsOff K.Keep d.keep d.changes) is may };
+    ghost of_remains = { λ d remains x may is. record {
+      base = may.base;
+      held = may.held;
+      alone = may.alone;
+      with_them = sym is ∙ may.with_them;
+    } };
 
     ghost one_layout = { λ d v w old also is other. is ∙ sym other };
 

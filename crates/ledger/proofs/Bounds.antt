@@ -6,7 +6,8 @@ use Rattle.ledger.proofs.FieldNames.{OneOn}
 
 -- the field is within its bounds where all takes are used and where all adds are
 abbrev pub HasRoom : Ledger → Field → Type 0
-HasRoom A f = (pos f.lo ≤ℤ (settled A f -ℤ held_to_take A f.name)) × ((settled A f +ℤ held_to_add A f.name) ≤ℤ pos f.hi)
+HasRoom A f = (pos f.lo ≤ℤ (settled A f -ℤ held_to_take A f.name))
+    × ((settled A f +ℤ held_to_add A f.name) ≤ℤ pos f.hi)
 
 -- what the bounds need of an order
 pub record Sound (o : Order) : Type 0 where
@@ -159,7 +160,12 @@ in_full : (w : Way) (f : Name) (ls : List Line) → OneOn f ls → has (is_way w
 unfolding has
 in_full w f [] one e = absurd (true≢false (sym e))
 in_full w f (l ∷ ls) one e = full_step w (on f l) l.way l.used l.held _ _ (has (is_way w) f ls)
-    (λ b. (none-total f (λ l. signed l.way (reaching w l)) ls (one.0 b), none-total f (λ l. pos (if_way w l.way l.held)) ls (one.0 b), none-has (is_way w) f ls (one.0 b)))
+    (λ b. (
+      none-total f (λ l. signed l.way (reaching w l)) ls (one.0 b),
+      none-total f
+          (λ l. pos (if_way w l.way l.held)) ls (one.0 b),
+      none-has (is_way w) f ls (one.0 b),
+    ))
     (λ h. in_full w f ls one.1 h) e
 
 none_step : (w : Way) (b : Bool) (v : Way) (h : ℕ) (s : ℤ) (any : Bool) → (any ≡ false → s ≡ pos 0)

@@ -146,7 +146,11 @@ use_closes : (q : ℕ) → Closes q (raise_used q)
 use_closes q = record { same = λ l. (refl, refl); falls = λ l h. (omega arith, omega arith, h); pair = λ l m a b. (a, ap (λ n. n + q) b) }
 
 release_closes : (q : ℕ) → Closes q (lower_held q)
-release_closes q = record { same = λ l. (refl, refl); falls = λ l h. (omega arith, omega arith, omega arith); pair = λ l m a b. (ap (λ n. n - q) a, b) }
+release_closes q = record {
+  same = λ l. (refl, refl);
+  falls = λ l h. (omega arith, omega arith, omega arith);
+  pair = λ l m a b. (ap (λ n. n - q) a, b);
+}
 
 pub left_on : (f : Name) (q : ℕ) (o : Order) → Fine o → Usable f q o
     → Each (λ l. (is_transfer o || on f l) ≡ true → l.used + q ≤ l.held) o.lines
@@ -163,7 +167,10 @@ changed_falls f q change o closes fine u = record {
   loose = λ s. absurd (not_aborted o.state u.0 s);
   lines = lines_fall new o.lines all;
   fine = record {
-    sound = record { used = each-map (λ l. l.used ≤ l.held) new o.lines (each-imp (λ l x. x.2) o.lines all); one = λ g. one_on-map g new o.lines (each name o.lines) (fine.sound.one g) };
+    sound = record {
+      used = each-map (λ l. l.used ≤ l.held) new o.lines (each-imp (λ l x. x.2) o.lines all);
+      one = λ g. one_on-map g new o.lines (each name o.lines) (fine.sound.one g);
+    };
     pair = λ t. pair t (is_transfer o) t o.lines (fine.pair t);
   };
 }
@@ -184,7 +191,8 @@ changed_falls f q change o closes fine u = record {
     one false l within left = (omega arith, omega arith, within)
 
     all : Each (λ l. LineFalls l (new l)) o.lines
-    all = each-both (λ l within left. one (is_transfer o || on f l) l within left) o.lines fine.sound.used (left_on f q o fine u)
+    all = each-both (λ l within left. one (is_transfer o || on f l) l within left) o.lines fine.sound.used
+        (left_on f q o fine u)
 
     pair : IsTrue (is_transfer o) → (t : Bool) → IsTrue t → (ls : List Line) → IsTransferPair ls
         → IsTransferPair (map (λ l. if t || on f l then change l else l) ls)
@@ -195,7 +203,8 @@ changed_falls f q change o closes fine u = record {
 numbered_fall : (A : Ledger) (n : ℕ) (change : Order → Order) (P : Order → Type 0) → Fit A
     → ((o : Order) → Fine o → P o → OrderFalls o (change o)) → IsSomeAnd (order_numbered A n) P
     → Each StepFalls (steps (Changes (numbered n) change) A.orders)
-numbered_fall A n change P fit falls there = changes_each StepFalls (numbered n) change A.orders (each-both (λ o fine x e. falls o fine (x e)) A.orders fit.orders (at_number P n A.orders fit.numbers there))
+numbered_fall A n change P fit falls there = changes_each StepFalls (numbered n) change A.orders
+    (each-both (λ o fine x e. falls o fine (x e)) A.orders fit.orders (at_number P n A.orders fit.numbers there))
 
 expired : (b m c : Bool) → (b && not m && c) ≡ true → (b ≡ true) × (m ≡ false)
 expired b m c e = grind arith
@@ -208,16 +217,26 @@ pub steps_fall : (A : Ledger) (c : Command) → Fit A → FirstFailure (checks A
 steps_fall A c fit passed asks = by c asks (all_pass (checks A c) passed)
   where
     by : (c : Command) → AsksNoStock c → AllPass (checks A c) → Each StepFalls (steps_of A c)
-    by (command.Use n b a q) asks p = numbered_fall A n (change_lines (name_of b a) (raise_used q)) (Usable (name_of b a) q) fit (λ o fine u. changed_falls (name_of b a) q (raise_used q) o (use_closes q) fine u)
+    by (command.Use n b a q) asks p = numbered_fall A n (change_lines (name_of b a) (raise_used q))
+        (Usable (name_of b a) q) fit
+        (λ o fine u. changed_falls (name_of b a) q (raise_used q) o (use_closes q) fine u)
         (usable_there (name_of b a) q (order_numbered A n) p.1.0 p.1.1.0 p.1.1.1.0 p.1.1.1.1.0)
-    by (command.Release n b a q) asks p = numbered_fall A n (change_lines (name_of b a) (lower_held q)) (Usable (name_of b a) q) fit (λ o fine u. changed_falls (name_of b a) q (lower_held q) o (release_closes q) fine u)
+    by (command.Release n b a q) asks p = numbered_fall A n (change_lines (name_of b a) (lower_held q))
+        (Usable (name_of b a) q) fit
+        (λ o fine u. changed_falls (name_of b a) q (lower_held q) o (release_closes q) fine u)
         (usable_there (name_of b a) q (order_numbered A n) p.1.0 p.1.1.0 p.1.1.1.0 p.1.1.1.1.0)
-    by (command.Commit n) asks p = numbered_fall A n (set_state Committed) (λ o. is_open o ≡ true) fit (λ o fine e. ended_falls Committed o (λ s. absurd (committed s)) fine e) (open_there (order_numbered A n) p.0 p.1.0)
-    by (command.Abort n) asks p = numbered_fall A n (set_state Aborted) (λ o. (is_open o ≡ true) × (o.firm ≡ false)) fit (λ o fine x. ended_falls Aborted o (λ s. x.1) fine x.0) (loose_there (order_numbered A n) p.0 p.1.0 p.1.1.0)
+    by (command.Commit n) asks p = numbered_fall A n (set_state Committed) (λ o. is_open o ≡ true) fit
+        (λ o fine e. ended_falls Committed o (λ s. absurd (committed s)) fine e)
+        (open_there (order_numbered A n) p.0 p.1.0)
+    by (command.Abort n) asks p = numbered_fall A n (set_state Aborted)
+        (λ o. (is_open o ≡ true) × (o.firm ≡ false)) fit (λ o fine x. ended_falls Aborted o (λ s. x.1) fine x.0)
+        (loose_there (order_numbered A n) p.0 p.1.0 p.1.1.0)
     by (command.Firm n) asks p =
-        numbered_fall A n set_firm (λ o. is_open o ≡ true) fit firm_falls (open_there (order_numbered A n) p.1.0 p.1.1.0)
+        numbered_fall A n set_firm (λ o. is_open o ≡ true) fit firm_falls
+        (open_there (order_numbered A n) p.1.0 p.1.1.0)
     by (command.Expire now) asks p = changes_each StepFalls (expires now) (set_state Aborted) A.orders
-        (each-imp (λ o fine e. let x = expired (is_open o) o.firm (nat_le o.until now) e in ended_falls Aborted o (λ s. x.1) fine x.0) A.orders fit.orders)
+        (each-imp (λ o fine e. let x = expired (is_open o) o.firm (nat_le o.until now) e in ended_falls Aborted o
+        (λ s. x.1) fine x.0) A.orders fit.orders)
     by c asks p = absurd asks
 
 pub step_goes : (s : Step) → StepFalls s → StepGoes s
@@ -268,7 +287,8 @@ shares_fall A c falls = each-flat _ shares_of_step (steps_of A c) (each-imp step
 pub all_fall : (A : Ledger) (r : Request) → Accepts A r → AsksNoStock r.command → Each Falls (share_steps A r.command)
 all_fall A r accepts asks =
     let falls = steps_fall A r.command (fit_from_good A accepts.before) accepts.accepted.1 asks in
-    each-both (λ x own same. record { settled = own.settled; used = own.used; same = same }) (share_steps A r.command) (shares_fall A r.command falls) (alike A r.command (each-imp step_goes (steps_of A r.command) falls))
+    each-both (λ x own same. record { settled = own.settled; used = own.used; same = same }) (share_steps A r.command)
+    (shares_fall A r.command falls) (alike A r.command (each-imp step_goes (steps_of A r.command) falls))
 
 -- ---- the room of each field
 
@@ -277,7 +297,8 @@ abbrev Sinks : (settled takes adds : ℤ) → Type 0
 Sinks settled takes adds = (takes ≤ℤ settled) × ((settled +ℤ adds) ≤ℤ pos 0)
 
 share_sinks : (b : Bool) (w : Way) (x y : Share) → ShareFalls x y
-    → Sinks (if b then settled_part w y -ℤ settled_part w x else pos 0) (if b then take_part w y -ℤ take_part w x else pos 0) (if b then add_part w y -ℤ add_part w x else pos 0)
+    → Sinks (if b then settled_part w y -ℤ settled_part w x else pos 0)
+    (if b then take_part w y -ℤ take_part w x else pos 0) (if b then add_part w y -ℤ add_part w x else pos 0)
 share_sinks true Take x y falls =
     let s = falls.settled in let u = falls.used in (omega (arith, ints), omega (arith, ints))
 share_sinks true Add x y falls =
@@ -355,7 +376,9 @@ counted_held : (part : Way → Share → ℤ) → IsPart part → ((w : Way) (s 
     → before_on part f (share_steps A c) ≤ℤ total own A.orders
 counted_held part is least own f same A c goes =
     let was = before_is part is f (steps_of A c) goes in
-    let part_least = λ (o : Order). total-not_negative (λ l. if on f l then part l.way (share_of o.state o.firm l) else pos 0) (λ l. least_if (on f l) _ (least l.way (share_of o.state o.firm l))) o.lines in
+    let part_least = λ (o : Order). total-not_negative
+    (λ l. if on f l then part l.way (share_of o.state o.firm l) else pos 0)
+    (λ l. least_if (on f l) _ (least l.way (share_of o.state o.firm l))) o.lines in
     let there = before_least (part_of part f) part_least (effect c) A.orders in
     let all = total-eq own (part_of part f) A.orders (each same A.orders) in
     omega (arith, ints)
@@ -363,14 +386,19 @@ counted_held part is least own f same A c goes =
 pub all_held : (A : Ledger) (r : Request) → Accepts A r → AreHeld A (share_steps A r.command)
 all_held A r accepts n =
     let goes = steps_go A r.command accepts.before.orders_in_order accepts.accepted.1 in (
-      counted_held take_part take_counts (λ w s. omega (arith, ints)) (taken_by_order n) n (taken_is n) A r.command goes,
-      counted_held add_part add_counts (λ w s. omega (arith, ints)) (added_by_order n) n (added_is n) A r.command goes,
+      counted_held take_part take_counts (λ w s. omega (arith, ints)) (taken_by_order n) n
+          (taken_is n) A r.command goes,
+      counted_held add_part add_counts (λ w s. omega (arith, ints)) (added_by_order n) n
+          (added_is n) A r.command goes,
     )
 
 -- ---- the fields of the lines are there
 
 pub fields_there : (A : Ledger) (r : Request) → Accepts A r → (next A r.command).fields ≡ A.fields
-    → Each (λ o. Each (λ l. IsSome (field_named A (line_name l))) o.lines) (map (λ s. s.after) (steps (effect r.command) A.orders))
+    → Each (λ o. Each (λ l. IsSome (field_named A (line_name l))) o.lines)
+    (map (λ s. s.after) (steps (effect r.command) A.orders))
 fields_there A r accepts same =
     made_each (λ o. Each (λ l. IsSome (field_named A (line_name l))) o.lines) (effect r.command) A.orders
-    (each-imp (λ o x. each-imp (λ l y. subst (λ fs. IsSome (find (λ e. same_name (line_name l) e.name) fs)) same y.field) o.lines x.lines) (next A r.command).orders accepts.after.orders)
+    (each-imp (λ o x. each-imp
+    (λ l y. subst (λ fs. IsSome (find (λ e. same_name (line_name l) e.name) fs)) same y.field) o.lines x.lines)
+    (next A r.command).orders accepts.after.orders)

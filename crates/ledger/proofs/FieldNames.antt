@@ -1,5 +1,5 @@
 -- Names of fields: which are equal, and the one line or field under a name.
-use Rattle.ledger.proofs.Prelude.{Bool, Each, Equal, Field, IsDistinct, IsSomeAnd, IsStrictlySortedBy, Ledger, Less, Line, List, Name, Some, [], ap, arith, bytes_decides, false, find, if◌then◌else◌, is_lt, line_name, map, name_cmp, nat_cmp, on, refl, same_name, slice_cmp, subst, sym, true, true≢false, ℕ, ◌&&◌, ◌++◌, ◌∙◌, ◌∷◌, ◌≡◌}
+use Rattle.ledger.proofs.Prelude.{Bool, Each, Equal, Field, IsDistinct, IsSomeAnd, IsStrictlySortedBy, Ledger, Less, Line, List, Name, OpenLine, Some, [], ap, arith, bytes_decides, false, find, if◌then◌else◌, is_lt, line_name, map, name_cmp, nat_cmp, new_line, on, refl, same_name, slice_cmp, subst, sym, true, true≢false, ℕ, ◌&&◌, ◌++◌, ◌∙◌, ◌∷◌, ◌≡◌}
 use Rattle.ledger.proofs.Sums.{each-imp, each-of-push}
 
 pub same_parts : (a b : Bool) → (a && b) ≡ true → (a ≡ true) × (b ≡ true)
@@ -35,7 +35,11 @@ none_bad P name (f ∷ fs) sorted h = step (same_name name f.name) refl h (λ k.
         → Each (λ y. name_cmp f.name y ≡ Less) (map (λ f. f.name) ms)
         → Each (λ m. same_name name m.name ≡ true → P m → ⊥) ms
     rest e [] k = tt
-    rest e (m ∷ ms) k = ((λ d _. not_before_itself f.name (subst (λ g. name_cmp f.name g ≡ Less) (sym (name_is name m.name d) ∙ name_is name f.name e) k.0)), rest e ms k.1)
+    rest e (m ∷ ms) k = (
+      (λ d _. not_before_itself f.name
+          (subst (λ g. name_cmp f.name g ≡ Less) (sym (name_is name m.name d) ∙ name_is name f.name e) k.0)),
+      rest e ms k.1,
+    )
 
     step : (b : Bool) → same_name name f.name ≡ b
         → (IsSomeAnd (if b then Some f else find (λ e. same_name name e.name) fs) P → ⊥)
@@ -59,7 +63,11 @@ OneOn f (l ∷ ls) = (on f l ≡ true → Each (λ m. on f m ≡ false) ls) × O
 pub one_on : (f : Name) (ls : List Line) → IsDistinct same_name (map line_name ls) → OneOn f ls
 unfolding IsDistinct
 one_on f [] d = tt
-one_on f (l ∷ ls) d = (λ e. subst (λ g. Each (λ m. same_name g (line_name m) ≡ false) ls) (sym (name_is f (line_name l) e)) (unmap ls d.0), one_on f ls d.1)
+one_on f (l ∷ ls) d = (
+  λ e. subst (λ g. Each (λ m. same_name g (line_name m) ≡ false) ls)
+      (sym (name_is f (line_name l) e)) (unmap ls d.0),
+  one_on f ls d.1,
+)
   where
     unmap : (ms : List Line) → Each (λ y. same_name (line_name l) y ≡ false) (map line_name ms)
         → Each (λ m. same_name (line_name l) (line_name m) ≡ false) ms
@@ -109,3 +117,7 @@ named (f ∷ fs) name P Q h k = step (same_name name f.name) refl k (λ x. named
         → IsSomeAnd (if b then Some f else find (λ e. same_name name e.name) fs) Q
     step true e k x = h f (sym (name_is name f.name e)) k
     step false e k x = x k
+
+-- the field that the line is on
+abbrev pub line_field : OpenLine → Name
+line_field l = line_name (new_line l)

@@ -12,13 +12,15 @@ pub fit-answer : (A : Ledger) (r : Request) (reply : Reply) (B : Ledger) → Ask
 fit-answer A r reply B w fit h = by_key (kept_under A r.key) h
   where
     by_found : (found : Option (Refusal × ℕ)) → FirstFailure (checks A r.command) found
-        → MatchOption found ((reply ≡ Done (places A + 1)) × (B ≡ accept A r)) (λ e. (reply ≡ Refused e.0 e.1) × (B ≡ A))
+        → MatchOption found ((reply ≡ Done (places A + 1)) × (B ≡ accept A r))
+        (λ e. (reply ≡ Refused e.0 e.1) × (B ≡ A))
         → Fit B
     by_found None f m = subst Fit (sym m.1) (fit-accept A r.key r.command w fit f)
     by_found (Some e) f m = subst Fit (sym m.1) fit
 
     by_key : (k : Option Kept)
-        → MatchOption k (AnswersNew A r reply B) (λ k. (reply ≡ (if same_command k.command r.command then Done k.place else Refused KeyReused 0)) × (B ≡ A))
+        → MatchOption k (AnswersNew A r reply B)
+        (λ k. (reply ≡ (if same_command k.command r.command then Done k.place else Refused KeyReused 0)) × (B ≡ A))
         → Fit B
     by_key b m = grind (arith, by_found)
 
@@ -47,8 +49,11 @@ commits A fit = each-imp (λ o e. commit o e) A.orders (find_self A.orders fit.n
         (accept A (record { key = key; command = command.Commit o.number }), answer (kept_under A key) none)
       where
         answer : (k : Option Kept) → IsNone k
-            → MatchOption k (AnswersNew A (record { key = key; command = command.Commit o.number }) (Done (places A + 1)) (accept A (record { key = key; command = command.Commit o.number })))
-            (λ k. (Done (places A + 1) ≡ (if same_command k.command (command.Commit o.number) then Done k.place else Refused KeyReused 0)) × (accept A (record { key = key; command = command.Commit o.number }) ≡ A))
+            → MatchOption k (AnswersNew A (record { key = key; command = command.Commit o.number })
+            (Done (places A + 1)) (accept A (record { key = key; command = command.Commit o.number })))
+            (λ k. (Done (places A + 1)
+            ≡ (if same_command k.command (command.Commit o.number) then Done k.place else Refused KeyReused 0))
+            × (accept A (record { key = key; command = command.Commit o.number }) ≡ A))
         answer b none = grind arith
 
 pub stands_if_fit : (A : Ledger) → Fit A → IsHonoured A

@@ -10,7 +10,8 @@ use Rattle.ledger.proofs.Steps.{Grows, StepGoes, after_turns, step_if, turns}
 -- orders of names, keys and numbers
 
 pub name_cmp_total : IsTotalOrder name_cmp
-name_cmp_total = then_total (on_total (λ f. f.branch) nat_list_cmp_total) (on_total (λ f. f.article) nat_list_cmp_total)
+name_cmp_total = then_total (on_total (λ f. f.branch) nat_list_cmp_total)
+    (on_total (λ f. f.article) nat_list_cmp_total)
 
 both_equal : (a b : Ordering) → ordering_then a b ≡ Equal → (a ≡ Equal) × (b ≡ Equal)
 both_equal x b e = grind arith
@@ -48,7 +49,17 @@ pub line_kept : (A B : Ledger) → StillThere A B → (l : Line) → IsGoodLine 
 line_kept A B still l x = record { field = still (line_name l) x.field; held = x.held; used = x.used }
 
 pub order_kept : (A B : Ledger) → StillThere A B → (o : Order) → IsGoodOrder A o → IsGoodOrder B o
-order_kept A B still o x = record { number = x.number; until = x.until; some = x.some; few = x.few; lines = each-imp (line_kept A B still) o.lines x.lines; apart = x.apart; transfer = x.transfer; firm = x.firm }
+order_kept A B still o x = record {
+  number = x.number;
+  until = x.until;
+  some = x.some;
+  few = x.few;
+  lines = each-imp
+      (line_kept A B still) o.lines x.lines;
+  apart = x.apart;
+  transfer = x.transfer;
+  firm = x.firm;
+}
 
 pub move_kept : (A B : Ledger) → StillThere A B → places A ≤ places B → (m : Move) → IsGoodMove A m → IsGoodMove B m
 move_kept A B still more m x =
@@ -58,8 +69,10 @@ move_kept A B still more m x =
 pub apart_lines : (ls : List Line) → ((g : Name) → OneOn g ls) → IsDistinct same_name (map line_name ls)
 unfolding IsDistinct
 apart_lines [] one = tt
-apart_lines (l ∷ ls) one =
-    (each-map (λ n. same_name (line_name l) n ≡ false) line_name ls ((one (line_name l)).0 (same_self (line_name l))), apart_lines ls (λ g. (one g).1))
+apart_lines (l ∷ ls) one = (
+  each-map (λ n. same_name (line_name l) n ≡ false) line_name ls ((one (line_name l)).0 (same_self (line_name l))),
+  apart_lines ls (λ g. (one g).1),
+)
 
 -- all of a good ledger but its kept keys and its safety
 pub record Parts (B : Ledger) : Type 0 where
@@ -84,7 +97,8 @@ changed h clock kept A =
 
 pub changing : (A : Ledger) (names : Order → Bool) (change : Order → Order) (clock : ℕ) (kept : List Kept) → Good A
     → IsMoment clock → length kept ≡ places A + 1 → Each StepGoes (turns names change A.orders)
-    → Each (IsGoodOrder (changed (λ o. if names o then change o else o) clock kept A)) (after_turns names change A.orders)
+    → Each (IsGoodOrder (changed (λ o. if names o then change o else o) clock kept A))
+    (after_turns names change A.orders)
     → places A + count_by is_open (after_turns names change A.orders) + 1 ≤ 200000
     → Parts (changed (λ o. if names o then change o else o) clock kept A)
 changing A names change clock kept g moment more goes orders room =
@@ -98,8 +112,14 @@ lines_good A B still [] [] grows falls good = tt
 lines_good A B still [] (l ∷ ls) grows falls good = absurd falls
 lines_good A B still (b ∷ bs) [] grows falls good = absurd falls
 lines_good A B still (b ∷ bs) (l ∷ ls) grows falls good =
-    let less = falls.0.0 in let most = good.0.held in
-    (record { field = subst (λ n. IsSome (field_named B n)) (sym grows.0.1) (still (line_name b) good.0.field); held = omega arith; used = falls.0.2 }, lines_good A B still bs ls grows.1 falls.1 good.1)
+    let less = falls.0.0 in let most = good.0.held in (
+      record {
+        field = subst (λ n. IsSome (field_named B n)) (sym grows.0.1) (still (line_name b) good.0.field);
+        held = omega arith;
+        used = falls.0.2;
+      },
+      lines_good A B still bs ls grows.1 falls.1 good.1,
+    )
 
 same_length : (bs ls : List Line) → LinesFall bs ls → length ls ≡ length bs
 same_length [] [] falls = refl

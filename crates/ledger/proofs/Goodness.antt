@@ -36,8 +36,12 @@ find_named P name (f ∷ fs) h e = step (same_name name f.name) refl e (λ k. fi
 -- what a line of an order counts for is part of what all orders count for on its field
 in_all : (part : Way → Share → ℤ) → ((w : Way) (s : Share) → pos 0 ≤ℤ part w s) → (os : List Order)
     → Each (λ o. Each (λ l. part l.way (share_of o.state o.firm l) ≤ℤ total (part_of part (line_name l)) os) o.lines) os
-in_all part least os = each-imp (λ o h. each-imp (λ l k. own o l (total (part_of part (line_name l)) os) (h (line_name l)) (k (line_name l))) o.lines (each-all (λ f l. one o f l ≤ℤ part_of part f o) o.lines (λ f. total-has (one o f) (one_least o f) o.lines))) os
-    (each-all (λ f o. part_of part f o ≤ℤ total (part_of part f) os) os (λ f. total-has (part_of part f) (λ o. total-not_negative (one o f) (one_least o f) o.lines) os))
+in_all part least os = each-imp
+    (λ o h. each-imp (λ l k. own o l (total (part_of part (line_name l)) os) (h (line_name l))
+    (k (line_name l))) o.lines
+    (each-all (λ f l. one o f l ≤ℤ part_of part f o) o.lines (λ f. total-has (one o f) (one_least o f) o.lines))) os
+    (each-all (λ f o. part_of part f o ≤ℤ total (part_of part f) os) os
+    (λ f. total-has (part_of part f) (λ o. total-not_negative (one o f) (one_least o f) o.lines) os))
   where
     one : Order → Name → Line → ℤ
     one o f l = if on f l then part l.way (share_of o.state o.firm l) else pos 0
@@ -48,7 +52,8 @@ in_all part least os = each-imp (λ o h. each-imp (λ l k. own o l (total (part_
     own : (o : Order) (l : Line) (all : ℤ) → part_of part (line_name l) o ≤ℤ all
         → one o (line_name l) l ≤ℤ part_of part (line_name l) o → part l.way (share_of o.state o.firm l) ≤ℤ all
     own o l all h k =
-        let itself = ap (λ b. if b then part l.way (share_of o.state o.firm l) else pos 0) (same_self (line_name l)) in
+        let itself = ap (λ b. if b then part l.way (share_of o.state o.firm l) else pos 0)
+        (same_self (line_name l)) in
         omega (arith, ints)
 
 pub held_levels : (B : Ledger) → Each IsGoodField B.fields → Room B
@@ -62,15 +67,20 @@ held_levels B good room =
         → add_part l.way (share_of o.state o.firm l) ≤ℤ total (part_of add_part (line_name l)) B.orders
         → IsSome (field_named B (line_name l)) → IsLevel l.held
     of_line o l share u v some =
-        let f = find_named (λ f. IsGoodField f × HasRoom B f) (line_name l) B.fields (each-two IsGoodField (HasRoom B) B.fields good room) some in
+        let f = find_named (λ f. IsGoodField f × HasRoom B f) (line_name l) B.fields
+        (each-two IsGoodField (HasRoom B) B.fields good room) some in
         let name : f.0.name ≡ line_name l = f.1 in
         level l.way l.held f.0.lo f.0.hi (settled B f.0) (held_to_take B f.0.name) (held_to_add B f.0.name)
-        (here take_part (taken_by_order f.0.name) (taken_is f.0.name) (line_name l) (sym name) u) (here add_part (added_by_order f.0.name) (added_is f.0.name) (line_name l) (sym name) v) f.2.1.0 f.2.1.1 f.2.0.hi
+        (here take_part (taken_by_order f.0.name) (taken_is f.0.name) (line_name l) (sym name) u)
+        (here add_part (added_by_order f.0.name) (added_is f.0.name) (line_name l) (sym name) v) f.2.1.0 f.2.1.1 f.2.0.hi
       where
         here : (part : Way → Share → ℤ) (own : Order → ℤ) {n : Name} → ((o : Order) → own o ≡ part_of part n o)
             → (m : Name) → m ≡ n → part l.way (share_of o.state o.firm l) ≤ℤ total (part_of part m) B.orders
             → part l.way (only_held l.held) ≤ℤ total own B.orders
-        here part own {n} same m e h = subst (λ z. part l.way (only_held l.held) ≤ℤ z) (sym (total-eq own (part_of part n) B.orders (each same B.orders))) (subst (λ k. part l.way (only_held l.held) ≤ℤ total (part_of part k) B.orders) e (subst (λ s. part l.way s ≤ℤ total (part_of part m) B.orders) share h))
+        here part own {n} same m e h = subst (λ z. part l.way (only_held l.held) ≤ℤ z)
+            (sym (total-eq own (part_of part n) B.orders (each same B.orders)))
+            (subst (λ k. part l.way (only_held l.held) ≤ℤ total (part_of part k) B.orders) e
+            (subst (λ s. part l.way s ≤ℤ total (part_of part m) B.orders) share h))
 
 -- a delivery and a write-off
 moving : (A : Ledger) (f : Name) (z : ℤ) (kept : List Kept) → Good A → length kept ≡ places A + 1
@@ -90,7 +100,9 @@ fielding A f kept g good more new few room =
       clock = g.clock;
       fields = each-insert IsGoodField precedes f A.fields good g.fields;
       fields_in_order = sorted-insert name_cmp name_cmp_total (λ f. f.name) precedes (λ a b. refl) f A.fields
-          (each-imp (λ e x y. true≢false (sym (equal_name f.name e.name y) ∙ x)) A.fields (none_found (λ e. same_name f.name e.name) A.fields (none_if_not_some (find (λ e. same_name f.name e.name) A.fields) new))) g.fields_in_order;
+          (each-imp (λ e x y. true≢false (sym (equal_name f.name e.name y) ∙ x)) A.fields
+          (none_found (λ e. same_name f.name e.name) A.fields
+          (none_if_not_some (find (λ e. same_name f.name e.name) A.fields) new))) g.fields_in_order;
       few_fields = (let e = length-insert precedes f A.fields in let d = not_many 10000 (length A.fields) few in omega arith);
       moves = each-imp (move_kept A B still (omega arith)) A.moves g.moves;
       moves_in_order = g.moves_in_order;
@@ -109,7 +121,8 @@ rebounding A n lo hi kept g low high more room =
     let still : StillThere A B = still_bounded A B n lo hi refl in
     record {
       clock = g.clock;
-      fields = each-map IsGoodField (bounding n lo hi) A.fields (each-imp (λ f x. by (same_name n f.name) f x) A.fields g.fields);
+      fields = each-map IsGoodField (bounding n lo hi) A.fields
+          (each-imp (λ f x. by (same_name n f.name) f x) A.fields g.fields);
       fields_in_order = subst (IsStrictlySortedBy name_cmp) (sym (bounding_names n lo hi A.fields)) g.fields_in_order;
       few_fields = (let e = length-of-map (bounding n lo hi) A.fields in let d = g.few_fields in omega arith);
       moves = each-imp (move_kept A B still (omega arith)) A.moves g.moves;
@@ -156,10 +169,22 @@ opening A n k u ls kept g more number until some few quantities pair pass new ma
       moves = each-imp (move_kept A B (λ f x. x) (omega arith)) A.moves g.moves;
       moves_in_order = g.moves_in_order;
       orders = each-insert (IsGoodOrder B) precedes o A.orders
-          (record { number = number; until = until; some = omega arith; few = omega arith; lines = new_lines B ls (fields_there A (new_order n k u) [] ls pass) quantities; apart = apart_lines (map new_line ls) one; transfer = pair; firm = λ e. absurd (true≢false (sym e)) })
+          (record {
+            number = number;
+            until = until;
+            some = omega arith;
+            few = omega arith;
+            lines = new_lines B ls
+                (fields_there A (new_order n k u) [] ls pass) quantities;
+            apart = apart_lines (map new_line ls) one;
+            transfer = pair;
+            firm = λ e. absurd (true≢false (sym e));
+          })
           (each-imp (order_kept A B (λ f x. x)) A.orders g.orders);
-      orders_in_order = sorted-insert nat_cmp nat_cmp_total (λ o. o.number) precedes (λ a b. lt_is a.number b.number) o A.orders
-          (each-imp (λ e x y. other_number n e.number x y) A.orders (none_found (λ o. o.number == n) A.orders (none_if_not_some (find (λ o. o.number == n) A.orders) new))) g.orders_in_order;
+      orders_in_order = sorted-insert nat_cmp nat_cmp_total (λ o. o.number) precedes
+          (λ a b. lt_is a.number b.number) o A.orders
+          (each-imp (λ e x y. other_number n e.number x y) A.orders
+          (none_found (λ o. o.number == n) A.orders (none_if_not_some (find (λ o. o.number == n) A.orders) new))) g.orders_in_order;
       few_orders = (let d = length-insert precedes o A.orders in let c = not_many 100000 (length A.orders) many in omega arith);
       room = (let c = count-insert is_open precedes o A.orders in omega arith);
     }
@@ -175,9 +200,13 @@ adding : (A : Ledger) (n : ℕ) (l : OpenLine) (kept : List Kept) → Good A
 adding A n l kept g goes more full there qty takes_it fits sound room =
     let h : Order → Order = λ o. if o.number == n then add_hold l o else o in
     let B : Ledger = changed h A.clock kept A in
-    let levels = each-unmap (λ o. is_open o ≡ true → o.firm ≡ false → Each (λ m. IsSome (field_named B (line_name m)) → IsLevel m.held) o.lines) h A.orders (held_levels B g.fields room) in
+    let levels = each-unmap (λ o. is_open o ≡ true → o.firm ≡ false
+    → Each (λ m. IsSome (field_named B (line_name m)) → IsLevel m.held) o.lines) h A.orders
+    (held_levels B g.fields room) in
     changing A (numbered n) (add_hold l) A.clock kept g g.clock more goes
-    (each-map (IsGoodOrder B) h A.orders (each-both (λ o x y. by B o (o.number == n) (λ f z. z) x y.0.0 y.0.1 y.1.0 y.1.1) A.orders g.orders (each-two _ _ A.orders (each-two _ _ A.orders takes_it fits) (each-two _ _ A.orders (each-unmap Sound h A.orders sound) levels))))
+    (each-map (IsGoodOrder B) h A.orders
+    (each-both (λ o x y. by B o (o.number == n) (λ f z. z) x y.0.0 y.0.1 y.1.0 y.1.1) A.orders g.orders
+    (each-two _ _ A.orders (each-two _ _ A.orders takes_it fits) (each-two _ _ A.orders (each-unmap Sound h A.orders sound) levels))))
     (let c = fewer_open (numbered n) (add_hold l) A.orders goes in omega arith)
   where
     name : Name
@@ -192,7 +221,10 @@ adding A n l kept g goes more full there qty takes_it fits sound room =
     held_more : (B : Ledger) (o : Order) → StillThere A B → IsGoodOrder A o → MayHoldMore name l.way o → (c : Bool)
         → ((c ≡ false) → length o.lines ≤ 63)
         → Sound (if c then hold_more name l.qty o else record o { lines = o.lines ++ new_line l ∷ [] })
-        → (is_open (if c then hold_more name l.qty o else record o { lines = o.lines ++ new_line l ∷ [] }) ≡ true → (if c then hold_more name l.qty o else record o { lines = o.lines ++ new_line l ∷ [] }).firm ≡ false → Each (λ m. IsSome (field_named B (line_name m)) → IsLevel m.held) (if c then hold_more name l.qty o else record o { lines = o.lines ++ new_line l ∷ [] }).lines)
+        → (is_open (if c then hold_more name l.qty o else record o { lines = o.lines ++ new_line l ∷ [] }) ≡ true
+        → (if c then hold_more name l.qty o else record o { lines = o.lines ++ new_line l ∷ [] }).firm ≡ false
+        → Each (λ m. IsSome (field_named B (line_name m)) → IsLevel m.held)
+        (if c then hold_more name l.qty o else record o { lines = o.lines ++ new_line l ∷ [] }).lines)
         → IsGoodOrder B (if c then hold_more name l.qty o else record o { lines = o.lines ++ new_line l ∷ [] })
     held_more B o still x t true fit s v =
         let c : Line → Line = λ m. if on name m then raise_held l.qty m else m in
@@ -202,19 +234,30 @@ adding A n l kept g goes more full there qty takes_it fits sound room =
           until = x.until;
           some = omega arith;
           few = omega arith;
-          lines = each-map (IsGoodLine B) c o.lines (each-both (λ m p u. raised_good B still (on name m) m p u.0 u.1) o.lines x.lines
-              (each-two _ _ o.lines (each-unmap (λ m. m.used ≤ m.held) c o.lines s.used) (each-unmap (λ m. IsSome (field_named B (line_name m)) → IsLevel m.held) c o.lines (v t.0 t.1))));
+          lines = each-map (IsGoodLine B) c o.lines
+              (each-both (λ m p u. raised_good B still (on name m) m p u.0 u.1) o.lines x.lines
+              (each-two _ _ o.lines (each-unmap (λ m. m.used ≤ m.held) c o.lines s.used)
+              (each-unmap (λ m. IsSome (field_named B (line_name m)) → IsLevel m.held) c o.lines (v t.0 t.1))));
           apart = apart_lines (map c o.lines) s.one;
           transfer = λ e. absurd (true≢false (sym e ∙ t.2));
           firm = λ e. absurd (true≢false (sym e ∙ t.1));
         }
     held_more B o still x t false fit s v =
-        grind (arith, (each-imp (line_kept A B still) o.lines x.lines), (length-of-push o.lines (new_line l)), apart_lines, each-of-push, line_kept, name)
+        grind (
+          arith,
+          (each-imp (line_kept A B still) o.lines x.lines),
+          (length-of-push o.lines (new_line l)),
+          apart_lines,
+          each-of-push,
+          line_kept,
+          name,
+        )
 
     by : (B : Ledger) (o : Order) (b : Bool) → StillThere A B → IsGoodOrder A o
         → (b ≡ true → MayHoldMore name l.way o) → (b ≡ true → IsNone (line_on o name) → length o.lines ≤ 63)
         → Sound (if b then add_hold l o else o)
-        → (is_open (if b then add_hold l o else o) ≡ true → (if b then add_hold l o else o).firm ≡ false → Each (λ m. IsSome (field_named B (line_name m)) → IsLevel m.held) (if b then add_hold l o else o).lines)
+        → (is_open (if b then add_hold l o else o) ≡ true → (if b then add_hold l o else o).firm ≡ false
+        → Each (λ m. IsSome (field_named B (line_name m)) → IsLevel m.held) (if b then add_hold l o else o).lines)
         → IsGoodOrder B (if b then add_hold l o else o)
     by B o true still x t fit s v = held_more B o still x (t refl) (is_some (line_on o name)) (fit refl) s v
     by B o false still x t fit s v = order_kept A B still o x
@@ -236,7 +279,8 @@ closed : (A : Ledger) (names : Order → Bool) (change : Order → Order) (clock
     → IsMoment clock → length kept ≡ places A + 1 → Each StepFalls (steps (Changes names change) A.orders)
     → places A + open_orders A + 1 ≤ 200000 → Parts (changed (λ o. if names o then change o else o) clock kept A)
 closed A names change clock kept g moment more falls room =
-    closing A names change clock kept g moment more falls (let fewer = fewer_open names change A.orders (each-imp step_goes _ falls) in omega arith)
+    closing A names change clock kept g moment more falls
+    (let fewer = fewer_open names change A.orders (each-imp step_goes _ falls) in omega arith)
 
 -- the end of an order takes the place set aside for it
 ended : (A : Ledger) (n : ℕ) (s : State) (kept : List Kept) → open_state s ≡ false → Good A
@@ -244,47 +288,66 @@ ended : (A : Ledger) (n : ℕ) (s : State) (kept : List Kept) → open_state s �
     → IsSomeAnd (order_numbered A n) (λ o. is_open o ≡ true)
     → Parts (changed (λ o. if o.number == n then set_state s o else o) A.clock kept A)
 ended A n s kept closed g more falls there =
-    closing A (numbered n) (set_state s) A.clock kept g g.clock more falls (let fewer = count-fewer is_open (numbered n) (set_state s) A.orders (λ _. closed) there in let room = g.places_fit in omega arith)
+    closing A (numbered n) (set_state s) A.clock kept g g.clock more falls
+    (let fewer = count-fewer is_open (numbered n) (set_state s) A.orders (λ _. closed) there in let room = g.places_fit in omega arith)
 
 parts_accept : (A : Ledger) (key : List ℕ) (c : Command) → Good A → IsInRange c → FirstFailure (checks A c) None
     → Parts (accept A (record { key = key; command = c }))
 parts_accept A key (command.Field b a lo hi start) g i h =
     let p = all_pass (checks A (command.Field b a lo hi start)) h in
-    fielding A (record { name = record { branch = b; article = a }; lo = lo; hi = hi; start = start }) _ g (record { branch = i.0; article = i.1; lo = i.2; hi = i.3; start = i.4 }) (kept_more A _) p.1.1.0 p.1.0 (omega arith)
+    fielding A (record { name = record { branch = b; article = a }; lo = lo; hi = hi; start = start }) _ g
+    (record { branch = i.0; article = i.1; lo = i.2; hi = i.3; start = i.4 }) (kept_more A _) p.1.1.0 p.1.0
+    (omega arith)
 parts_accept A key (command.Deliver b a q) g i h = let p = all_pass (checks A (command.Deliver b a q)) h in
     moving A (record { branch = b; article = a }) (pos q) _ g (kept_more A _) (not_false _ p.1.0) i.2 (omega arith)
 parts_accept A key (command.Writeoff b a q) g i h = let p = all_pass (checks A (command.Writeoff b a q)) h in
-    moving A (record { branch = b; article = a }) (neg_ℤ (pos q)) _ g (kept_more A _) (not_false _ p.1.0) (subst IsQty (sym (grind arith)) i.2) (omega arith)
+    moving A (record { branch = b; article = a }) (neg_ℤ (pos q)) _ g (kept_more A _) (not_false _ p.1.0)
+    (subst IsQty (sym (grind arith)) i.2) (omega arith)
 parts_accept A key (command.Rebound b a lo hi) g i h =
     let p = all_pass (checks A (command.Rebound b a lo hi)) h in
     rebounding A (record { branch = b; article = a }) lo hi _ g i.2 i.3 (kept_more A _) (omega arith)
 parts_accept A key (command.Open n until lines) g i h = let p = all_pass (checks A (command.Open n until lines)) h in
-    let r = room_order A n Plain until (sounds_from_good A g) g.fields_in_order lines (fit_from_good A g).room p.1.1.1.1 in
-    opening A n Plain until lines _ g (kept_more A _) i.0 i.1 i.2.some i.2.fits (quantities lines i.2) (λ e. absurd (true≢false (sym e))) p.1.1.1.1 p.1.1.0 p.1.0 (omega arith) r.1
+    let r = room_order A n Plain until (sounds_from_good A g) g.fields_in_order lines
+    (fit_from_good A g).room p.1.1.1.1 in
+    opening A n Plain until lines _ g (kept_more A _) i.0 i.1 i.2.some i.2.fits (quantities lines i.2)
+    (λ e. absurd (true≢false (sym e))) p.1.1.1.1 p.1.1.0 p.1.0 (omega arith) r.1
 parts_accept A key (command.Transfer n until a from to q) g i h =
     let p = all_pass (checks A (command.Transfer n until a from to q)) h in
     let ls : List OpenLine = transfer_lines a from to q in
-    let r = room_order A n Transfer until (sounds_from_good A g) g.fields_in_order ls (fit_from_good A g).room p.1.1.1.1 in
-    opening A n Transfer until ls _ g (kept_more A _) i.0 i.1 (omega arith) (omega arith) (i.5, (i.5, tt)) (λ _. (refl, refl, refl, refl, refl)) p.1.1.1.1 p.1.1.0 p.1.0 (omega arith) r.1
+    let r = room_order A n Transfer until (sounds_from_good A g) g.fields_in_order ls
+    (fit_from_good A g).room p.1.1.1.1 in
+    opening A n Transfer until ls _ g (kept_more A _) i.0 i.1 (omega arith) (omega arith) (i.5, (i.5, tt))
+    (λ _. (refl, refl, refl, refl, refl)) p.1.1.1.1 p.1.1.0 p.1.0 (omega arith) r.1
 parts_accept A key (command.More n way b a q) g i h = let p = all_pass (checks A (command.More n way b a q)) h in
     let f : Name = record { branch = b; article = a } in
     let l : OpenLine = record { way = way; branch = b; article = a; qty = q } in
     let may = takes_more f way (order_numbered A n) p.1.0 p.1.1.0 p.1.1.1.0 p.1.1.1.1.0 p.1.1.1.1.1.1.0 in
     let t = at_number (MayHoldMore f way) n A.orders g.orders_in_order may in
-    let few = at_number (λ o. IsNone (line_on o f) → length o.lines ≤ 63) n A.orders g.orders_in_order (grind arith) in
+    let few = at_number (λ o. IsNone (line_on o f) → length o.lines ≤ 63) n A.orders g.orders_in_order
+    (grind arith) in
     let sound = sound_more A n l (sounds_from_good A g) g.orders_in_order may in
-    adding A n l _ g (steps_go A (command.More n way b a q) g.orders_in_order h) (kept_more A _) (omega arith) (not_false _ p.1.1.1.1.1.0) i.3 t few sound
-    (room_from_safe (accept A (record { key = key; command = command.More n way b a q })) sound (safe_after A (record { key = key; command = command.More n way b a q }) g h))
-parts_accept A key (command.Use n b a q) g i h = closed A (numbered n) (change_lines (name_of b a) (raise_used q)) A.clock _ g g.clock (kept_more A _) (falls A (command.Use n b a q) g h tt) (omega (arith, (all_pass (checks A (command.Use n b a q)) h).0))
-parts_accept A key (command.Release n b a q) g i h = closed A (numbered n) (change_lines (name_of b a) (lower_held q)) A.clock _ g g.clock (kept_more A _) (falls A (command.Release n b a q) g h tt) (omega (arith, (all_pass (checks A (command.Release n b a q)) h).0))
+    adding A n l _ g (steps_go A (command.More n way b a q) g.orders_in_order h) (kept_more A _) (omega arith)
+    (not_false _ p.1.1.1.1.1.0) i.3 t few sound
+    (room_from_safe (accept A (record { key = key; command = command.More n way b a q })) sound
+    (safe_after A (record { key = key; command = command.More n way b a q }) g h))
+parts_accept A key (command.Use n b a q) g i h = closed A (numbered n)
+    (change_lines (name_of b a) (raise_used q)) A.clock _ g g.clock (kept_more A _)
+    (falls A (command.Use n b a q) g h tt) (omega (arith, (all_pass (checks A (command.Use n b a q)) h).0))
+parts_accept A key (command.Release n b a q) g i h = closed A (numbered n)
+    (change_lines (name_of b a) (lower_held q)) A.clock _ g g.clock (kept_more A _)
+    (falls A (command.Release n b a q) g h tt) (omega (arith, (all_pass (checks A (command.Release n b a q)) h).0))
 parts_accept A key (command.Commit n) g i h =
     let p = all_pass (checks A (command.Commit n)) h in
-    ended A n Committed _ refl g (kept_more A _) (falls A (command.Commit n) g h tt) (open_there (order_numbered A n) p.0 p.1.0)
+    ended A n Committed _ refl g (kept_more A _) (falls A (command.Commit n) g h tt)
+    (open_there (order_numbered A n) p.0 p.1.0)
 parts_accept A key (command.Abort n) g i h =
     let p = all_pass (checks A (command.Abort n)) h in
-    ended A n Aborted _ refl g (kept_more A _) (falls A (command.Abort n) g h tt) (open_there (order_numbered A n) p.0 p.1.0)
-parts_accept A key (command.Firm n) g i h = closed A (numbered n) set_firm A.clock _ g g.clock (kept_more A _) (falls A (command.Firm n) g h tt) (omega (arith, (all_pass (checks A (command.Firm n)) h).0))
-parts_accept A key (command.Expire now) g i h = closed A (expires now) (set_state Aborted) now _ g i (kept_more A _) (falls A (command.Expire now) g h tt) (omega (arith, (all_pass (checks A (command.Expire now)) h).0))
+    ended A n Aborted _ refl g (kept_more A _) (falls A (command.Abort n) g h tt)
+    (open_there (order_numbered A n) p.0 p.1.0)
+parts_accept A key (command.Firm n) g i h = closed A (numbered n) set_firm A.clock _ g g.clock (kept_more A _)
+    (falls A (command.Firm n) g h tt) (omega (arith, (all_pass (checks A (command.Firm n)) h).0))
+parts_accept A key (command.Expire now) g i h = closed A (expires now) (set_state Aborted) now _ g i (kept_more A _)
+    (falls A (command.Expire now) g h tt) (omega (arith, (all_pass (checks A (command.Expire now)) h).0))
 
 keeping : (A : Ledger) (r : Request) → Good A → IsKey r.key → IsInRange r.command → kept_under A r.key ≡ None
     → Parts (accept A r) → IsSafe (accept A r) → Good (accept A r)
@@ -303,9 +366,13 @@ keeping A r g key range none p safe =
       orders_in_order = p.orders_in_order;
       few_orders = p.few_orders;
       kept = each-insert IsGoodKept precedes k A.kept (record { key = key; command = range }) g.kept;
-      kept_in_order = sorted-insert (slice_cmp nat_cmp) nat_list_cmp_total (λ k. k.key) precedes (λ a b. refl) k A.kept (each-imp (λ e x y. other_key e.key r.key x y) A.kept (none_found (λ k. bytes_eq k.key r.key) A.kept none)) g.kept_in_order;
-      places_in_range = each-insert (λ k. (1 ≤ k.place) × (k.place ≤ places (accept A r))) precedes k A.kept (omega arith, omega arith) (each-imp (λ e x. (x.0, up e x.1 more)) A.kept g.places_in_range);
-      places_apart = distinct-insert (λ k. k.place) precedes k A.kept (each-imp (λ e x. below e x.1) A.kept g.places_in_range) g.places_apart;
+      kept_in_order = sorted-insert (slice_cmp nat_cmp) nat_list_cmp_total (λ k. k.key) precedes
+          (λ a b. refl) k A.kept (each-imp (λ e x y. other_key e.key r.key x y) A.kept
+          (none_found (λ k. bytes_eq k.key r.key) A.kept none)) g.kept_in_order;
+      places_in_range = each-insert (λ k. (1 ≤ k.place) × (k.place ≤ places (accept A r))) precedes k A.kept
+          (omega arith, omega arith) (each-imp (λ e x. (x.0, up e x.1 more)) A.kept g.places_in_range);
+      places_apart = distinct-insert (λ k. k.place) precedes k A.kept
+          (each-imp (λ e x. below e x.1) A.kept g.places_in_range) g.places_apart;
       places_fit = p.room;
       safe = safe;
     }

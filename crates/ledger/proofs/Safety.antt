@@ -91,8 +91,10 @@ room_bounds A n lo hi sound sorted room low high =
     other Add f false e r d = r
 
     side : (w : Way) → ((bound w B n 0).fails → ⊥) → Each (Within w B) B.fields
-    side w pass = within_tested w B n 0 sound (subst (IsStrictlySortedBy name_cmp) (sym (bounding_names n lo hi A.fields)) sorted) pass
-        (each-map (λ f. same_name n f.name ≡ false → Within w B f) (bounding n lo hi) A.fields (each-imp (λ f r. other w f (same_name n f.name) refl (room_side w A f r)) A.fields room))
+    side w pass = within_tested w B n 0 sound
+        (subst (IsStrictlySortedBy name_cmp) (sym (bounding_names n lo hi A.fields)) sorted) pass
+        (each-map (λ f. same_name n f.name ≡ false → Within w B f) (bounding n lo hi) A.fields
+        (each-imp (λ f r. other w f (same_name n f.name) refl (room_side w A f r)) A.fields room))
 
 -- ---- every accepted command leaves a good ledger safe
 
@@ -107,22 +109,31 @@ not_false b h = grind arith
 pub not_there : (A : Ledger) (name other : Name) → (IsSome (field_named A name) → ⊥) → IsSome (field_named A other)
     → same_name name other ≡ false
 not_there A name other none some =
-    not_true (same_name name other) (λ e. none (subst (λ g. IsSome (field_named A g)) (sym (name_is name other e)) some))
+    not_true (same_name name other)
+    (λ e. none (subst (λ g. IsSome (field_named A g)) (sym (name_is name other e)) some))
 
 -- its value is its start, and nothing is held on it
 pub nothing_on : (A : Ledger) (f : Field) → Good A → (IsSome (field_named A f.name) → ⊥)
     → (settled A f ≡ pos f.start) × (held_to_take A f.name ≡ pos 0) × (held_to_add A f.name ≡ pos 0)
-nothing_on A f good none = (let used = no_orders settled_part _ (moved_is f.name) in omega (arith, ints, moves), no_orders take_part _ (taken_is f.name), no_orders add_part _ (added_is f.name))
+nothing_on A f good none = (
+  let used = no_orders settled_part _ (moved_is f.name) in omega (arith, ints, moves),
+  no_orders take_part _
+      (taken_is f.name),
+  no_orders add_part _ (added_is f.name),
+)
   where
     off : (b : Bool) (z : ℤ) → b ≡ false → (if b then z else pos 0) ≡ pos 0
     off b z e = cc
 
     moves : total (λ m. if same_name f.name m.field then m.amount else pos 0) A.moves ≡ pos 0
-    moves = total-zero _ A.moves (each-imp (λ m x. off _ m.amount (not_there A f.name m.field none x.field)) A.moves good.moves)
+    moves = total-zero _ A.moves
+        (each-imp (λ m x. off _ m.amount (not_there A f.name m.field none x.field)) A.moves good.moves)
 
     no_orders : (part : Way → Share → ℤ) (own : Order → ℤ) → ((o : Order) → own o ≡ part_of part f.name o)
         → total own A.orders ≡ pos 0
-    no_orders part own same = total-zero own A.orders (each-imp (λ o x. same o ∙ total-zero _ o.lines (each-imp (λ l y. off _ _ (not_there A f.name (line_name l) none y.field)) o.lines x.lines)) A.orders good.orders)
+    no_orders part own same = total-zero own A.orders
+        (each-imp (λ o x. same o ∙ total-zero _ o.lines
+        (each-imp (λ l y. off _ _ (not_there A f.name (line_name l) none y.field)) o.lines x.lines)) A.orders good.orders)
 
 room_field : (A : Ledger) (f : Field) → Good A → (IsSome (field_named A f.name) → ⊥)
     → (((f.lo ≤ f.start) × (f.start ≤ f.hi) → ⊥) → ⊥) → HasRoom A f
@@ -150,9 +161,10 @@ room_accept A key c good passed = by c passed (all_pass (checks A c) passed)
         → Room (accept A (record { key = key; command = c }))
     by (command.Field b a lo hi start) h p =
         let f : Field = record { name = name_of b a; lo = lo; hi = hi; start = start } in
-        each-insert (HasRoom A) (λ f g. is_lt (name_cmp f.name g.name)) f A.fields (room_field A f good p.1.1.0 p.1.1.1.0) fit.room
-    by (command.Deliver b a q) h p = room_moved Add A (name_of b a) q 0 sound good.fields_in_order fit.room p.1.1.0
-    by (command.Writeoff b a q) h p = room_moved Take A (name_of b a) q 0 sound good.fields_in_order fit.room p.1.1.0
+        each-insert (HasRoom A) (λ f g. is_lt (name_cmp f.name g.name)) f A.fields
+        (room_field A f good p.1.1.0 p.1.1.1.0) fit.room
+    by (command.Deliver b a q) h p = room_moved A (name_of b a) q 0 sound Add good.fields_in_order fit.room p.1.1.0
+    by (command.Writeoff b a q) h p = room_moved A (name_of b a) q 0 sound Take good.fields_in_order fit.room p.1.1.0
     by (command.Rebound b a lo hi) h p =
         room_bounds A (name_of b a) lo hi sound good.fields_in_order fit.room p.1.1.1.0 p.1.1.1.1.0
     by (command.Open n until lines) h p =
@@ -161,7 +173,8 @@ room_accept A key c good passed = by c passed (all_pass (checks A c) passed)
         (room_order A n Transfer until sound good.fields_in_order (transfer_lines a from to q) fit.room p.1.1.1.1).0
     by (command.More n way b a q) h p =
         room_raised A n (record { way = way; branch = b; article = a; qty = q }) sound good.orders_in_order
-        (takes_more (name_of b a) way (order_numbered A n) p.1.0 p.1.1.0 p.1.1.1.0 p.1.1.1.1.0 p.1.1.1.1.1.1.0) 0 good.fields_in_order fit.room p.1.1.1.1.1.1.1.1.0
+        (takes_more (name_of b a) way
+        (order_numbered A n) p.1.0 p.1.1.0 p.1.1.1.0 p.1.1.1.1.0 p.1.1.1.1.1.1.0) 0 good.fields_in_order fit.room p.1.1.1.1.1.1.1.1.0
     by c h p = (fit-accept A key c tt fit h).room
 
 -- whatever is accepted, the ledger stays safe

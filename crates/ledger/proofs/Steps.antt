@@ -55,7 +55,15 @@ hold_goes l o unended = by (is_some (line_on o (name_of l.branch l.article)))
   where
     by : (b : Bool)
         → Goes o (if b then hold_more (name_of l.branch l.article) l.qty o else record o { lines = o.lines ++ new_line l ∷ [] })
-    by true = record { number = refl; kind = refl; until = refl; unended = unended; firm = λ e. e; lines = grows-map (λ m. if on (name_of l.branch l.article) m then raise_held l.qty m else m) (λ m. same_if (on (name_of l.branch l.article) m) (raise_held l.qty) m (refl, refl)) o.lines }
+    by true = record {
+      number = refl;
+      kind = refl;
+      until = refl;
+      unended = unended;
+      firm = λ e. e;
+      lines = grows-map (λ m. if on (name_of l.branch l.article) m then raise_held l.qty m else m)
+          (λ m. same_if (on (name_of l.branch l.article) m) (raise_held l.qty) m (refl, refl)) o.lines;
+    }
     by false = record { number = refl; kind = refl; until = refl; unended = unended; firm = λ e. e; lines = grows-push (new_line l) o.lines }
 
 pub lines_go : (f : Name) (g : Line → Line) (o : Order)
@@ -220,10 +228,12 @@ pub moved_is : (f : Name) (o : Order) → moved_by_order f o ≡ part_of settled
 moved_is f o = all_or_none (is_settled o) f (λ l. signed l.way) (λ l. no_settled l.way) (λ l. l.used) o.lines
 
 pub taken_is : (f : Name) (o : Order) → taken_by_order f o ≡ part_of take_part f o
-taken_is f o = all_or_none (is_open o) f (λ l n. pos (if_take l.way n)) (λ l. no_take l.way) (λ l. unsettled o.firm l l.held) o.lines
+taken_is f o = all_or_none (is_open o) f (λ l n. pos (if_take l.way n)) (λ l. no_take l.way)
+    (λ l. unsettled o.firm l l.held) o.lines
 
 pub added_is : (f : Name) (o : Order) → added_by_order f o ≡ part_of add_part f o
-added_is f o = all_or_none (is_open o) f (λ l n. pos (if_add l.way n)) (λ l. no_add l.way) (λ l. unsettled o.firm l l.held) o.lines
+added_is f o = all_or_none (is_open o) f (λ l n. pos (if_add l.way n)) (λ l. no_add l.way)
+    (λ l. unsettled o.firm l l.held) o.lines
 
 -- ---- sums over steps
 
@@ -247,7 +257,8 @@ steps_add g (Changes names change) os = go os
         by : (b : Bool)
             → total g (after_turns names change os) +ℤ total (before g) (turns names change os)
             ≡ total g os +ℤ total (λ s. g s.after) (turns names change os)
-            → (g (if b then change o else o) +ℤ total g (after_turns names change os)) +ℤ total (before g) (step_if b o (change o) ++ turns names change os)
+            → (g (if b then change o else o) +ℤ total g (after_turns names change os)) +ℤ total (before g)
+            (step_if b o (change o) ++ turns names change os)
             ≡ (g o +ℤ total g os) +ℤ total (λ s. g s.after) (step_if b o (change o) ++ turns names change os)
         by true more = omega (arith, ints)
         by false more = omega (arith, ints)
@@ -280,7 +291,8 @@ module _ (part : Way → Share → ℤ) (is : IsPart part) (f : Name) where
   difference (x ∷ xs) = by (same_name f x.name) (difference xs)
     where
       by : (b : Bool) → added_on part f xs +ℤ before_on part f xs ≡ after_on xs
-          → ((if b then part x.way x.after -ℤ part x.way x.before else pos 0) +ℤ added_on part f xs) +ℤ ((if b then part x.way x.before else pos 0) +ℤ before_on part f xs)
+          → ((if b then part x.way x.after -ℤ part x.way x.before else pos 0) +ℤ added_on part f xs)
+          +ℤ ((if b then part x.way x.before else pos 0) +ℤ before_on part f xs)
           ≡ (if b then part x.way x.after else pos 0) +ℤ after_on xs
       by true more = omega (arith, ints)
       by false more = omega (arith, ints)
@@ -290,9 +302,11 @@ module _ (part : Way → Share → ℤ) (is : IsPart part) (f : Name) where
       ≡ total (λ l. if on f l then part l.way (share_of a.state a.firm l) else pos 0) ls
   lines_after b a nr bs [] = refl
   lines_after b a nr [] (l ∷ ls) =
-      ap (λ z. (if on f l then part l.way (share_of a.state a.firm l) else pos 0) +ℤ z) (lines_after b a (nr + 1) [] ls)
+      ap (λ z. (if on f l then part l.way (share_of a.state a.firm l) else pos 0) +ℤ z)
+      (lines_after b a (nr + 1) [] ls)
   lines_after b a nr (m ∷ bs) (l ∷ ls) =
-      ap (λ z. (if on f l then part l.way (share_of a.state a.firm l) else pos 0) +ℤ z) (lines_after b a (nr + 1) bs ls)
+      ap (λ z. (if on f l then part l.way (share_of a.state a.firm l) else pos 0) +ℤ z)
+      (lines_after b a (nr + 1) bs ls)
 
   -- a new line counted for nothing
   new_before : (b : Option Order) (a : Order) (nr : ℕ) (ls : List Line)
@@ -313,7 +327,8 @@ module _ (part : Way → Share → ℤ) (is : IsPart part) (f : Name) where
   lines_before o a nr [] ls grows = new_before (Some o) a nr ls
   lines_before o a nr (m ∷ ms) [] grows = absurd grows
   lines_before o a nr (m ∷ ms) (l ∷ ls) grows =
-      λ i. (if same_name f (grows.0.1 i) then part (grows.0.0 i) (share_of o.state o.firm m) else pos 0) +ℤ lines_before o a (nr + 1) ms ls grows.1 i
+      λ i. (if same_name f (grows.0.1 i) then part (grows.0.0 i) (share_of o.state o.firm m) else pos 0)
+      +ℤ lines_before o a (nr + 1) ms ls grows.1 i
 
   step_before : (s : Step) → StepGoes s → before_on part f (shares_of_step s) ≡ before (part_of part f) s
   step_before s goes = by s.before goes
@@ -330,7 +345,8 @@ module _ (part : Way → Share → ℤ) (is : IsPart part) (f : Name) where
   before_is ss goes = total-flat _ shares_of_step ss ∙ total-eq _ _ ss (each-imp step_before ss goes)
 
   after_is : (ss : List Step) → after_on (flat_map shares_of_step ss) ≡ total (λ s. part_of part f s.after) ss
-  after_is ss = total-flat _ shares_of_step ss ∙ total-eq _ _ ss (each (λ s. lines_after s.before s.after 1 _ s.after.lines) ss)
+  after_is ss = total-flat _ shares_of_step ss ∙ total-eq _ _ ss
+      (each (λ s. lines_after s.before s.after 1 _ s.after.lines) ss)
 
   pub orders_add : (e : Effect) (os : List Order) → Each StepGoes (steps e os)
       → total (part_of part f) (orders_after e os)
@@ -371,8 +387,10 @@ module _ (A : Ledger) (c : Command) (goes : Each StepGoes (steps_of A c)) where
   moves_next f = by (moved_at_once c)
     where
       by : (x : Option (Name × Way × ℕ))
-          → total (λ m. if same_name f m.field then m.amount else pos 0) (moves_after (option_map (λ m. record { place = places A + 1; field = m.0; amount = signed m.1 m.2 }) x) A.moves)
-          ≡ total (λ m. if same_name f m.field then m.amount else pos 0) A.moves +ℤ option_map_or (λ m. if same_name f m.0 then signed m.1 m.2 else pos 0) x (pos 0)
+          → total (λ m. if same_name f m.field then m.amount else pos 0)
+          (moves_after (option_map (λ m. record { place = places A + 1; field = m.0; amount = signed m.1 m.2 }) x) A.moves)
+          ≡ total (λ m. if same_name f m.field then m.amount else pos 0) A.moves +ℤ option_map_or
+          (λ m. if same_name f m.0 then signed m.1 m.2 else pos 0) x (pos 0)
       by None = omega (arith, ints)
       by (Some m) = total-push (λ m. if same_name f m.field then m.amount else pos 0) A.moves _
 
@@ -461,10 +479,13 @@ any-flat t f (x ∷ xs) = list_any-append t (f x) (flat_map f xs) ∙ ap (λ b. 
 -- a field is touched where it is the command's own, or some line on it changes its stock
 pub touched : (A : Ledger) (c : Command) (f : Name)
     → changes_field A c f
-    ≡ (option_map_or (same_name f) (own_field c) false || list_any (λ s. list_any (λ l. on f l.after && changes_stock s l) (lines_of s)) (steps_of A c))
+    ≡ (option_map_or (same_name f) (own_field c) false || list_any
+    (λ s. list_any (λ l. on f l.after && changes_stock s l) (lines_of s)) (steps_of A c))
 touched A c f =
     own (own_field c) (map line_name (flat_map stock_lines (steps_of A c)))
-    ∙ ap (λ b. option_map_or (same_name f) (own_field c) false || b) (any-map (same_name f) line_name (flat_map stock_lines (steps_of A c)) ∙ any-flat (on f) stock_lines (steps_of A c) ∙ any_same _ _ (steps_of A c) (each (λ s. of_lines s (lines_of s)) (steps_of A c)))
+    ∙ ap (λ b. option_map_or (same_name f) (own_field c) false || b)
+    (any-map (same_name f) line_name (flat_map stock_lines (steps_of A c)) ∙ any-flat (on f) stock_lines
+    (steps_of A c) ∙ any_same _ _ (steps_of A c) (each (λ s. of_lines s (lines_of s)) (steps_of A c)))
   where
     own : (x : Option Name) (names : List Name)
         → list_any (same_name f) (option_to_list x ++ names)
@@ -490,7 +511,8 @@ touched A c f =
 pub changes_share : (A : Ledger) (c : Command) (f : Name)
     → list_any (λ x. same_name f x.name && x.changes) (share_steps A c)
     ≡ list_any (λ s. list_any (λ l. on f l.after && changes_stock s l) (lines_of s)) (steps_of A c)
-changes_share A c f = any-flat (λ x. same_name f x.name && x.changes) shares_of_step (steps_of A c) ∙ any_same _ _ (steps_of A c) (each (λ s. any-map (λ x. same_name f x.name && x.changes) (share_step s) (lines_of s)) (steps_of A c))
+changes_share A c f = any-flat (λ x. same_name f x.name && x.changes) shares_of_step (steps_of A c) ∙ any_same _ _
+    (steps_of A c) (each (λ s. any-map (λ x. same_name f x.name && x.changes) (share_step s) (lines_of s)) (steps_of A c))
 
 nothing_added : (part : Way → Share → ℤ) (f : Name) (x : ShareStep) → StaysAlike x
     → (same_name f x.name && x.changes) ≡ false
@@ -508,7 +530,8 @@ none_added part f xs alike e =
     total-zero _ xs (each-both (λ x a k. nothing_added part f x a k) xs alike (any_none _ xs e))
 
 abbrev pub SameNumbers : Ledger → Ledger → Field → Type 0
-SameNumbers A B f = (settled B f ≡ settled A f) × (held_to_take B f.name ≡ held_to_take A f.name) × (held_to_add B f.name ≡ held_to_add A f.name)
+SameNumbers A B f = (settled B f ≡ settled A f) × (held_to_take B f.name ≡ held_to_take A f.name)
+    × (held_to_add B f.name ≡ held_to_add A f.name)
 
 pub same_numbers : (A : Ledger) (c : Command) (f : Field) → Good A → FirstFailure (checks A c) None
     → changes_field A c f.name ≡ false → SameNumbers A (next A c) f
@@ -532,4 +555,5 @@ same_numbers A c f good passed e =
         by : (x : Option (Name × Way × ℕ)) → moved_at_once c ≡ x
             → option_map_or (λ m. if same_name f.name m.0 then signed m.1 m.2 else pos 0) x (pos 0) ≡ pos 0
         by None e = refl
-        by (Some m) e = ap (λ b. if b then signed m.1 m.2 else pos 0) (sym (ap (λ x. option_map_or (same_name f.name) x false) (moves_alone c m e).own) ∙ k)
+        by (Some m) e = ap (λ b. if b then signed m.1 m.2 else pos 0)
+            (sym (ap (λ x. option_map_or (same_name f.name) x false) (moves_alone c m e).own) ∙ k)

@@ -1,4 +1,5 @@
--- What a keeper over SQLite shows of itself, as every keeper does.
+-- What a keeper over SQLite shows of itself, as every keeper does. An implementation's laws are proved by what stands in
+-- `specs`, so these proofs are here.
 use Rattle.std.proofs.Common.{◌≡◌, ◌≤◌, ◌∙◌, ◌-◌, ℕ, nat_eq, if◌then◌else◌, get_or, length, inl, inr, zero, suc, [], ◌∷◌, List, map, ap, arith, refl, subst, sym}
 use Rattle.std.specs.List.{Any}
 use Rattle.std.proofs.Math.Logic.{∥∥₁_map}
@@ -19,6 +20,7 @@ use Rattle.sql_keep.specs.StoreContent.{HasTables, Holds, IsContent, LeavesOnly,
 use Rattle.keep.proofs.KeyOrders.{key_cmp_total}
 use Rattle.keep.proofs.OneContent.{one_list, same_content}
 
+-- a row is told by its columns
 pub there_and_back : (t : TableName) (x : Cells t) → from_columns t (columns t x) ≡ x
 there_and_back table.Desk x = refl
 there_and_back table.Field x = refl

@@ -93,7 +93,7 @@ before_on part f steps = total (λ s. if same_name f s.name then part s.way s.be
 
 -- No line of these steps counted for more than is held on its field, with all of them.
 abbrev pub AreHeld : Ledger → List ShareStep → Type 0
-pub AreHeld A steps = (n : Name) → (before_on take_part n steps ≤ℤ held_to_take A n)
+AreHeld A steps = (n : Name) → (before_on take_part n steps ≤ℤ held_to_take A n)
     × (before_on add_part n steps ≤ℤ held_to_add A n)
 
 -- what is settled stays so, and what is settled then was settled or held; a stock that does not change is counted alike

@@ -4,10 +4,10 @@ use Rattle.ledger.proofs.Falls.{sounds_from_good}
 use Rattle.ledger.proofs.Asks.{line_test, more_test, moved_test}
 
 pub returns-clause-deliver : goal.returns-clause-deliver
-returns-clause-deliver c A f q good = moved_test Add A f q 0 (sounds_from_good A good)
+returns-clause-deliver c A f q good = moved_test A f q 0 (sounds_from_good A good) Add
 
 pub returns-clause-writeoff : goal.returns-clause-writeoff
-returns-clause-writeoff c A f q good = moved_test Take A f q 0 (sounds_from_good A good)
+returns-clause-writeoff c A f q good = moved_test A f q 0 (sounds_from_good A good) Take
 
 pub returns-clause-more : goal.returns-clause-more
 returns-clause-more c A n l i good may = more_test A n l (sounds_from_good A good) good.orders_in_order may i
