@@ -17,7 +17,6 @@ use Rattle.ledger.proofs.Runs.{in_order}
 use Rattle.ledger.proofs.Sums.{each-imp}
 use Rattle.ledger.proofs.EqualRows.{each-join, same_first, same_rest}
 use Rattle.ledger.proofs.FieldNames.{name_is}
-use Rattle.laws.proofs.ScriptPlay.{told}
 
 -- ---- rows, one by one
 

@@ -10,7 +10,6 @@ use Rattle.ledger.proofs.Runs.{in_order}
 use Rattle.book.proofs.ShownNumbers.{Contains-of_find}
 use Rattle.ledger.proofs.Lists.{each-at}
 use Rattle.ledger.proofs.Safety.{nothing_on}
-use Rattle.laws.proofs.ScriptPlay.{told}
 
 -- ---- one quantity
 
