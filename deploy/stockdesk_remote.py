@@ -20,8 +20,8 @@ AGAIN = {408, 429, 500, 502, 503, 504}
 # statuses of a front that does not let the caller through
 REFUSED = {401: "knows no such user and password", 403: "does not let this user do what deals need"}
 
-# the seconds that each step of an answer may take, also of a desk on this machine, and between two askings
-ANSWER_SECONDS, NEAR_SECONDS = 20, 5
+# the seconds that an answer may take, and between two askings
+ANSWER_SECONDS = 20
 FIRST_PAUSE, LONGEST_PAUSE = 0.02, 1.0
 
 Told = dict[str, Any]
@@ -151,6 +151,10 @@ class HttpDesk(Desk):
             if not was_kept or self.connection.sock is not None:
                 time.sleep(pause)
                 pause = min(2 * pause, LONGEST_PAUSE)
+
+
+# so long an answer of a desk on this machine may take
+NEAR_SECONDS = 5
 
 
 def port(text: str) -> int:
