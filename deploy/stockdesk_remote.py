@@ -24,8 +24,8 @@ REFUSED = {401: "knows no such user and password", 403: "does not let this user 
 # what a resolver says that knows no such name, and not that it was not reached
 UNKNOWN = {socket.EAI_NONAME, socket.EAI_NODATA}
 
-# the seconds that each step of an answer may take, also of a desk on this machine, and between two askings
-ANSWER_SECONDS, NEAR_SECONDS = 20, 5
+# the seconds that an answer may take, and between two askings
+ANSWER_SECONDS = 20
 FIRST_PAUSE, LONGEST_PAUSE = 0.02, 1.0
 
 Told = dict[str, Any]
@@ -165,6 +165,10 @@ class HttpDesk(Desk):
             if not was_kept or self.connection.sock is not None:
                 time.sleep(pause)
                 pause = min(2 * pause, LONGEST_PAUSE)
+
+
+# so long an answer of a desk on this machine may take
+NEAR_SECONDS = 5
 
 
 def port(text: str) -> int:

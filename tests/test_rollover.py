@@ -379,7 +379,7 @@ class Refusals(ProgramCase):
         with contextlib.closing(sqlite3.connect(old)) as database, database:
             database.execute("UPDATE field SET inf = inf + 1")
         expect_refused(self.program, [old, new], "old.db: it is damaged")
-        files = [(older(self.folder, "many"), "many.db: it is of version 1, which `stockdesk upgrade`")]
+        files = [(older(self.folder, "many"), "many.db: it is of version 1: `stockdesk upgrade`")]
         files += [
             (os.path.join(self.folder, "none.db"), "none.db is not there"),
             (self.folder, "is no file"),
