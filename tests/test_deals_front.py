@@ -45,7 +45,8 @@ def values(front: Chain) -> list[int]:
 
 class DealsFront(FrontCase):
     def test_who_is_let_in(self):
-        """The group between at both desks; the office, a shop, and who is at one desk alone begin nothing."""
+        """The group between at both desks; the office, a shop, and who is at one desk alone begin nothing, nor does a misspelt
+        desk."""
         with Chain(self.program, self.folder, users=["b2 between", "b3 between"], at=["b2 north"]) as front:
             words = [*words_of(front, *DESKS), "--move", "A-1", "7", *DESKS.values()]
             for user in ["ho", "n1", "w1", "b2", "b3", "nobody"]:
@@ -54,6 +55,11 @@ class DealsFront(FrontCase):
                 for desk in DESKS:
                     opened = json.loads(front.ask("ho", "GET", f"/{desk}/v1/desk")[1])["open"]
                     expect(opened == 0, f"{user}: {opened} open at {desk}")
+            for pair in (["nort", "south"], ["north", "sout"]):
+                status, told = called(NUMBER, [*words_of(front, *pair), *words[-5:]])
+                expect(status == 2 and "is no desk" in told, f"{pair}: {status} {told}")
+            for desk in DESKS:
+                expect(json.loads(front.ask("ho", "GET", f"/{desk}/v1/desk")[1])["orders"] == 0, f"begun at {desk}")
             expect(values(front) == [500, 500], f"{values(front)}")
             expect(called(NUMBER + 1, words) == (0, f"{NUMBER + 1} moved\n"), "not moved")
             expect(values(front) == [493, 507], f"{values(front)}")
