@@ -2,12 +2,15 @@
 they stand; after each single breach of the rules for them the file is damaged, and is left as it was."""
 
 import random
+import unittest
 
 from support.cases import ProgramCase, needs_sqlite
 from support.desks import OPEN_ORDER, Desks, changed, of_desk, of_fields, of_lines, of_orders
 from support.ledgers import BAD_FIRMS, BAD_LINES, BAD_ROWS, GOOD, NO_DESK, SHOWN, STILL_GOOD
 from support.programs import DAMAGED, NOT_A_DESK, done, expect
-from support.tables import rows_of
+from support.rows import desk_of, faults, tables_by
+from support.rules import ABORTED, ADD, COMMITTED, FIRM, OPEN, PLAIN, TAKE, Field, Line, Order, Rules
+from support.tables import lines_of_rows, rows_of, tables_in
 
 # what a desk with a place for nothing but the end of that order answers
 FULL = [
@@ -36,29 +39,29 @@ FULL_OF_A_FIRM_ORDER = [
 
 
 def large_desk():
-    """10,000 fields and 1,000 orders of 64 lines, some of them firm, with the settled value, the infimum and the supremum of each
-    field."""
-    generator = random.Random(1986)
-    fields = [(f"N{number % 2}", f"A{number // 2:04}") for number in range(10_000)]
-    values, least, most = ({field: 500_000 for field in fields} for _ in range(3))
-    rows = of_desk(0)
+    """10,000 fields and 1,000 orders of 64 lines, some of them firm."""
+    generator, desk = random.Random(1986), Rules()
+    names = [(f"N{number % 2}", f"A{number // 2:04}") for number in range(10_000)]
+    desk.fields = {name: Field(0, 1_000_000, 500_000, 500_000) for name in names}
     for number in range(1, 1_001):
-        state = generator.randrange(3)
-        is_firm = state < 2 and generator.random() < 0.5
-        rows += [f"orders,{number},0,120,{state}"] + [f"firm,{number}"] * is_firm
-        for place, field in enumerate(generator.sample(fields, 64), 1):
-            way, held = generator.randrange(2), generator.randrange(1_000)
-            used = generator.randrange(held + 1)
-            rows.append(f"line,{number},{place},{field[0]},{field[1]},{way},{held},{used}")
-            moved = used * (2 * way - 1) if state == 1 or is_firm else 0
-            left = held - used if is_firm else held
-            values[field] += moved
-            least[field] += moved - (left if (state, way) == (0, 0) else 0)
-            most[field] += moved + (left if (state, way) == (0, 1) else 0)
-    numbers = {field: (values[field], least[field], most[field]) for field in fields}
-    for field, (value, inf, sup) in numbers.items():
-        rows.append(f"field,{field[0]},{field[1]},0,1000000,500000,{value},{inf},{sup}")
-    return rows, numbers
+        state = generator.choice([OPEN, COMMITTED, ABORTED])
+        is_firm = state != ABORTED and generator.random() < 0.5
+        lines = [Line(name, generator.choice([TAKE, ADD]), generator.randrange(1_000)) for name in generator.sample(names, 64)]
+        for line in lines:
+            line.used = generator.randrange(line.held + 1)
+        desk.firms |= {number} if is_firm else set()
+        desk.add(Order(number, PLAIN, 120, lines, FIRM if is_firm and state == OPEN else state))
+    return desk
+
+
+def full_rows():
+    """Rows at a limit."""
+    return [of_desk(200_000), of_fields(10_000), of_orders(100_000), of_lines(64)]
+
+
+def rows_beyond():
+    """One row more than that, or a place set aside."""
+    return [of_desk(200_001), [*of_desk(200_000), *OPEN_ORDER], of_fields(10_001), of_orders(100_001), of_lines(65)]
 
 
 @needs_sqlite
@@ -97,10 +100,9 @@ class Damages(ProgramCase):
     def test_limits_are_those_of_the_rules(self):
         """At each limit the rows are good, and with one row more they are damaged."""
         desks = Desks(self.program, self.folder)
-        for rows in [of_desk(200_000), of_fields(10_000), of_orders(100_000), of_lines(64)]:
+        for rows in full_rows():
             desks.expect_replies(rows, [])
-        full = [*of_desk(200_000), *OPEN_ORDER]
-        for rows in [of_desk(200_001), full, of_fields(10_001), of_orders(100_001), of_lines(65)]:
+        for rows in rows_beyond():
             desks.expect_end(rows, DAMAGED)
 
     def test_a_full_desk_still_ends_its_order(self):
@@ -110,12 +112,22 @@ class Damages(ProgramCase):
 
     def test_the_numbers_of_fields_are_plain_sums(self):
         """Each field and each sheet of a large desk shows them."""
-        desks = Desks(self.program, self.folder)
-        rows, numbers = large_desk()
-        show = "? field {0} {1} lo 0 hi 1000000 value {2} inf {3} sup {4}"
-        desks.expect_replies(rows, [(f"? field {b} {a}", show.format(b, a, *n)) for (b, a), n in numbers.items()])
-        for branch in range(2):
-            of_branch = [(a, n) for (b, a), n in numbers.items() if b == f"N{branch}"]
-            want = [a.ljust(16) + "".join(f"{level:11}" for level in [0, 1_000_000, *n]) for a, n in of_branch]
-            want.append("total".ljust(16) + f"{sum(n[0] for _, n in of_branch):15}")
-            expect(done(self.program, ["sheet", desks.path, f"N{branch}"]) == want, f"another sheet of N{branch}")
+        desks, desk = Desks(self.program, self.folder), large_desk()
+        asks = [f"? field {' '.join(name)}" for name in desk.fields]
+        desks.expect_replies(lines_of_rows(tables_by(desk), ","), [(ask, desk.reply(ask)) for ask in asks])
+        for branch in ["N0", "N1"]:
+            found = done(self.program, ["sheet", desks.path, branch])
+            expect(found == desk.sheet(branch).splitlines(), f"another sheet of {branch}")
+
+
+class ByTheRules(unittest.TestCase):
+    def test_the_rules_in_python_find_what_is_wrong_with_rows(self):
+        """With each single breach, and with nothing else; the good rows are those of the desk that they tell."""
+        for change in [(), *STILL_GOOD]:
+            tables = tables_in(filter(None, changed(change)))
+            expect(faults(tables) == [], f"{change}: {faults(tables)}")
+            expect(tables_by(desk_of(tables)) == tables, f"{change}: other rows")
+        for change in [*NO_DESK, *BAD_ROWS, *BAD_LINES, *BAD_FIRMS]:
+            expect(faults(tables_in(filter(None, changed(change)))), f"{change}: nothing is wrong")
+        for is_good, rows in [*((True, rows) for rows in full_rows()), *((False, rows) for rows in rows_beyond())]:
+            expect(is_good == (faults(tables_in(rows)) == []), f"{rows[:1]}, {rows[-1:]}")

@@ -5,24 +5,24 @@ environment are for other cuts."""
 import os
 
 from support.cases import ProgramCase
-from support.inputs import Inputs
+from support.chance import SEED, Seeded
+from support.inputs import command
+from support.message_inputs import some_known
 from support.power_cuts import MADE, NAME, NO_CUTS, Recorded, calls_of, may_be_cut, rows_after_each, try_cuts
 from support.programs import NOT_A_DESK, STORE
 
 REQUESTS = 60
-SEED = int(os.environ.get("STOCKDESK_SEED", "1986"))
 CUTS = int(os.environ.get("STOCKDESK_CUTS", "1000"))
 
 
 def script_of(seed):
     """Fields, and then requests on them: orders that stay open, are used, made firm, committed and aborted."""
-    inputs = Inputs(seed)
-    lines = [f"F{branch}{article} field N{branch} A-{article} 0 1000 200" for branch in range(4) for article in range(5)]
-    while len(lines) < REQUESTS:
-        command = inputs.command()
-        if command.isascii() and len(command) < 400:
-            lines.append(f"K{len(lines)} {command}")
-    return lines
+    chance, known = Seeded(seed), some_known()
+    while len(known.lines) < REQUESTS:
+        words = command(chance, known).encode()
+        if len(words) < 400:
+            known.say(known.key() + b" " + words)
+    return [line.decode() for line in known.lines]
 
 
 def recorded_script(program, folder, seed):

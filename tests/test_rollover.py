@@ -10,21 +10,24 @@ import shutil
 import signal
 import stat
 import subprocess
+import tempfile
 import time
 from unittest import mock
 
 from support.cases import ProgramCase, needs_strict_tables
+from support.chance import SEED, Seeded, Seen, needs_hypothesis, try_cases
 from support.desks import OPEN_ORDER, Desks, changed
 from support.full_desks import full_rows, long_rows
 from support.ledgers import STILL_GOOD
 from support.older import older
 from support.programs import NOT_A_DESK, NO_DESK, SECONDS, Session, bytes_of, done, expect, expect_end, new_desk, note
 from support.rolled import (
-    COUNTED,
     SCRIPT,
     TOOL,
     asked,
     closed,
+    count_shapes,
+    desk_in,
     desk_of,
     expect_only,
     expect_refused,
@@ -33,12 +36,14 @@ from support.rolled import (
     expect_told,
     expect_whole,
     lying,
+    made,
+    old_desk,
     play_and_kill,
-    random_desk,
     rolled,
     tool_ended,
 )
-from support.sums import expect_sums
+from support.rows import expect_good
+from support.rules import OPEN
 from support.tables import sqlite3
 
 import stockdesk_files as files
@@ -80,9 +85,6 @@ HINDERED = [
     ),
 ]
 
-# open orders that `expire` would have ended
-LATE = """SELECT number FROM orders WHERE state = 0 AND until <= (SELECT clock FROM desk)
-    AND number NOT IN (SELECT number FROM firm) ORDER BY number"""
 
 # words that are wrong
 NO_WORDS = [
@@ -112,27 +114,33 @@ def instead(program, folder, text):
     return path
 
 
+def late_in(desk):
+    """The open orders of a desk that an expiry would have ended."""
+    return sorted(number for number, order in desk.open.items() if order.state == OPEN and order.until <= desk.clock)
+
+
 @needs_strict_tables
 class RollOvers(ProgramCase):
+    @needs_hypothesis
     def test_random_desks_are_rolled_over(self):
         """Equal in every number, the log of the old one in its file or beside it, and of the same future."""
-        counts, empty = dict.fromkeys(COUNTED, 0), new_desk(self.program, self.folder, "empty.db")
-        for seed in range(DESKS):
-            here = os.path.join(self.folder, str(seed))
-            os.mkdir(here)
-            old, read = random_desk(self.program, here, seed, empty)
-            new = os.path.join(here, "new.db")
-            try:
-                expect_told(rolled(self.program, old, new), read, new)
-                expect_whole(read, new)
-                expect_same_future(self.program, here, read, new, seed)
-            except AssertionError as fault:
-                raise AssertionError(f"desk {seed}: {fault}") from fault
-            for name, query in COUNTED.items():
-                counts[name] += asked(read, query)[0][0]
-            shutil.rmtree(here)
-        expect(all(counts.values()), f"missing: {counts}")
-        note(f"{DESKS} desks with {counts['open orders']} open orders, {counts['firm orders']} of them firm")
+        self.seen, self.empty = Seen("desks"), new_desk(self.program, self.folder, "empty.db")
+        try_cases(old_desk, DESKS, self.expect_rolled_over, str)
+        self.seen.expect_all()
+        note(str(self.seen))
+
+    def expect_rolled_over(self, case):
+        with tempfile.TemporaryDirectory(dir=self.folder) as here:
+            (old, read), new = made(self.program, here, case, self.empty), os.path.join(here, "new.db")
+            desk = desk_in(read)
+            self.seen.add("desks")
+            count_shapes(self.seen, desk)
+            if deals := sorted(number for number in desk.open if number >= LEAST):
+                expect_refused(self.program, [old, new], f"deal {deals[0]} is open")
+                return
+            expect_told(rolled(self.program, old, new), read, new)
+            expect_whole(read, new)
+            expect_same_future(self.program, here, read, new, case.future)
 
     def test_single_ledgers_are_rolled_over(self):
         """A good ledger, and each of its changes that leave it good."""
@@ -141,8 +149,8 @@ class RollOvers(ProgramCase):
         for change in [(), *STILL_GOOD]:
             desks.put(changed(change))
             shutil.copyfile(desks.path, read)
-            if late := asked(read, LATE):
-                expect_refused(self.program, [desks.path, new], f"order {late[0][0]} is open and its moment has come")
+            if late := late_in(desk_in(read)):
+                expect_refused(self.program, [desks.path, new], f"order {late[0]} is open and its moment has come")
                 continue
             expect_told(rolled(self.program, desks.path, new), read, new)
             expect_whole(read, new)
@@ -175,10 +183,7 @@ class RollOvers(ProgramCase):
         took = time.monotonic() - began
         expect_told(told, read, new)
         expect_standing(read, new)
-        # with an index the sums of 10,000 fields are quick
-        indexed = shutil.copyfile(new, os.path.join(self.folder, "indexed.db"))
-        asked(indexed, "CREATE INDEX of_field ON line (branch, article)")
-        expect_sums(indexed, "the new desk")
+        expect_good(new, "the new desk")
         expect_same_future(self.program, self.folder, read, new, 1986)
         [(places,)] = asked(new, "SELECT places FROM desk")
         note(f"{places} commands in {took:.0f} s")
@@ -413,7 +418,7 @@ class Refusals(ProgramCase):
 
     def test_want_of_room_is_told(self):
         """Files that may not grow so far: no new desk and nothing left, until one fits."""
-        old, read = random_desk(self.program, self.folder, 10, new_desk(self.program, self.folder))
+        old, read = made(self.program, self.folder, old_desk(Seeded(SEED)), new_desk(self.program, self.folder))
         new, size, names = os.path.join(self.folder, "new.db"), 0, os.listdir(self.folder)
         status, told = 1, []
         while status == 1:

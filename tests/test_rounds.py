@@ -1,35 +1,78 @@
 """Tests of the built program that serves many connections at once, in rounds: what many clients are answered fits one order of
-all that they asked, by the rules; one client alone is answered the same bytes as by a service of one connection after the other;
-many commands share a sync, and no question waits long behind those of others; and when such a service ends."""
+all that they asked, by the rules; many commands share a sync, and no question waits long behind those of others; and when such a
+service ends."""
 
+import random
 import signal
+import tempfile
 import time
 from collections.abc import Sequence
+from dataclasses import dataclass
 
 import test_scripts
 import test_spelling
-from support.asks import SOME_FIELDS, Ask, ask_of, random_talks
+from support.asks import SOME_FIELDS, Ask, ask_of
 from support.cases import ProgramCase
+from support.chance import SEED, Chance, Seeded, Seen, needs_hypothesis, try_cases
 from support.clients import Client, connected, play
 from support.failing import NEVER, FailingCase, Failure
-from support.inputs import Inputs
+from support.inputs import together
+from support.message_inputs import ask, some_known, talks_of
 from support.one_order import desk_with, expect_one_order, rules_behind, told_order
 from support.programs import expect, note
+from support.rows import rows_by
 from support.rules import Rules
 from support.service import TOGETHER, Service, answered
 from support.tables import rows_of, sqlite3
 
-SEED = 1986
 # how many clients there are at once, and how many questions all of them ask, about
 CROWDS = [1, 2, 3, 4, 5, 6, 8, 10, 12, 16, 20, 25, 30, 40, 50]
 QUESTIONS = 1_200
-# streams of one connection each
-STREAMS = 300
+SMALL_CROWDS = 30
 
 # syncs that take so many microseconds
 SLOW = 5_000
 AT_ONCE = 1_000
 FIELD = [("F", "field N1 A-1 0 1000000000 0")]
+
+
+@dataclass
+class Crowd:
+    """What each client of a service asks, and how far it is ahead of its answers; how many questions are answered together; and
+    by which seed the streams are cut."""
+
+    talks: list[list[Ask]]
+    ahead: list[int]
+    most: int
+    seed: int
+
+    def clients(self, port: int) -> list[Client]:
+        """They ask anew."""
+        cuts = random.Random(self.seed)
+        self.talks = [[ask.again() for ask in asks] for asks in self.talks]
+        return [Client(port, asks, ahead, cuts) for asks, ahead in zip(self.talks, self.ahead, strict=True)]
+
+    def __str__(self) -> str:
+        talks = [[ask.line or repr(ask.text) for ask in asks] for asks in self.talks]
+        lines = [line for number, asks in enumerate(talks, 1) for line in [f"# client {number}", *asks]]
+        return "\n".join([f"# {self.most} together, {self.ahead} ahead", *lines])
+
+
+def crowd_with(chance: Chance, clients: int) -> Crowd:
+    """Clients that ask the greater number of questions."""
+    known, count = some_known(), QUESTIONS // clients * clients
+    return crowd_of(chance, talks_of(chance, [ask(chance, known) for _ in range(count)], clients))
+
+
+def small_crowd(chance: Chance) -> Crowd:
+    """Each client asks something."""
+    known, clients = some_known(), chance.one_of([1, 2, 2, 3, 5, 8])
+    asks = [ask(chance, known), *chance.several(lambda chance: ask(chance, known), 40, 120)]
+    return crowd_of(chance, talks_of(chance, asks, min(clients, len(asks))))
+
+
+def crowd_of(chance: Chance, talks: list[list[Ask]]) -> Crowd:
+    return Crowd(talks, [chance.one_of([1, 4, QUESTIONS]) for _ in talks], together(chance), chance.whole(0, 9_999))
 
 
 def deliveries(name: str, count: int) -> list[Ask]:
@@ -47,36 +90,37 @@ class ByTheRules(ProgramCase):
 
     def test_random_questions_of_many_fit_one_order(self):
         """In random pieces, some clients far ahead of their answers; up to some random number of them together."""
-        found = [self.in_one_order(Inputs(SEED + number), clients) for number, clients in enumerate(CROWDS)]
+        found = [self.in_one_order(crowd_with(Seeded(SEED + number), clients)) for number, clients in enumerate(CROWDS)]
         note(f"{len(found)} crowds, {sum(found)} commands done")
 
-    def in_one_order(self, inputs: Inputs, clients: int) -> int:
-        """How many commands are done, in one order that all answers fit."""
-        path = desk_with(self.program, self.folder, SOME_FIELDS, f"{clients}.db")
-        talks = random_talks(inputs, clients, QUESTIONS // clients)
-        service = Service(self.program, path, clients, options=["--together", str(inputs.together())])
-        crowd = [Client(service.port, asks, inputs.random.choice([1, 4, QUESTIONS]), inputs.random) for asks in talks]
-        play(crowd)
-        service.expect_end()
-        for client in crowd:
-            client.expect_whole()
-        order = told_order(SOME_FIELDS, [ask for asks in talks for ask in asks])
-        desk = expect_one_order(order, len(SOME_FIELDS), talks)
-        expect(sqlite3 is None or rows_of(path) == desk.rows(), f"{clients} clients: other rows")
-        return len(order) - len(SOME_FIELDS)
+    @needs_hypothesis
+    def test_random_questions_of_some_fit_one_order(self):
+        """Small crowds, of which one that fails is made smaller."""
+        seen = Seen("clients", "commands done", "services of one sync a command")
 
-    def test_one_connection_is_answered_the_same_bytes(self):
-        """Random messages, some of them damaged or cut short: as by a service of one connection after the other."""
-        inputs = Inputs(SEED)
-        paths = [desk_with(self.program, self.folder, SOME_FIELDS, f"{name}.db") for name in ("one", "many")]
-        one, many = (Service(self.program, path, STREAMS, options=options) for path, options in zip(paths, [[], TOGETHER]))
-        for _ in range(STREAMS):
-            stream = inputs.stream()
-            want, found = answered(one.port, [stream]), answered(many.port, inputs.pieces(stream))
-            expect(found == want, f"{found} and not {want}: {stream!r}")
-        for service in (one, many):
+        def expect_in_one_order(crowd: Crowd) -> None:
+            seen.add("clients", len(crowd.talks))
+            seen.add("services of one sync a command", crowd.most == 1)
+            seen.add("commands done", self.in_one_order(crowd))
+
+        try_cases(small_crowd, SMALL_CROWDS, expect_in_one_order, str)
+        seen.expect_all()
+        note(str(seen))
+
+    def in_one_order(self, crowd: Crowd) -> int:
+        """How many commands are done, in one order that all answers fit."""
+        with tempfile.TemporaryDirectory(dir=self.folder) as folder:
+            path = desk_with(self.program, folder, SOME_FIELDS)
+            service = Service(self.program, path, len(crowd.talks), options=["--together", str(crowd.most)])
+            clients = crowd.clients(service.port)
+            play(clients)
             service.expect_end()
-        expect(sqlite3 is None or rows_of(paths[0]) == rows_of(paths[1]), "other rows")
+            for client in clients:
+                client.expect_whole()
+            order = told_order(SOME_FIELDS, [ask for asks in crowd.talks for ask in asks])
+            desk = expect_one_order(order, len(SOME_FIELDS), crowd.talks)
+            expect(sqlite3 is None or rows_of(path) == rows_by(desk), f"{len(clients)} clients: other rows")
+        return len(order) - len(SOME_FIELDS)
 
 
 def is_script(rows: Sequence[object]) -> bool:

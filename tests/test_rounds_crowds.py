@@ -8,10 +8,11 @@ import socket
 import time
 from collections.abc import Sequence
 
-from support.asks import SOME_FIELDS, ask_of, random_talks
+from support.asks import SOME_FIELDS, ask_of
 from support.cases import ProgramCase
+from support.chance import SEED
 from support.clients import Client, connected, play, reset
-from support.inputs import Inputs
+from support.message_inputs import load
 from support.messages import answer_of
 from support.one_order import Order, desk_with, expect_kept, rules_behind, told_order
 from support.processes import more_files, resident, seconds_of
@@ -19,7 +20,6 @@ from support.programs import done, expect, note
 from support.service import TOGETHER, Limit, Service
 from support.tables import sqlite3
 
-SEED = 1986
 CROWD = 2_000
 # clients, each of which sends so many messages at once, and how often
 CLIENTS, BATCH, BATCHES = 50, 100, 200
@@ -225,8 +225,7 @@ class Hostile(CrowdCase):
     def test_clients_that_are_gone_hold_nobody_up(self):
         """Of 32 clients each but every fourth resets its connection anywhere: the others are answered all, what they were told is
         kept, and nothing that was not sent."""
-        inputs, generator = Inputs(SEED), random.Random(SEED)
-        talks = random_talks(inputs, 32, 60)
+        talks, generator = load(SEED, 32, 60), random.Random(SEED)
         service = self.serve(len(talks), order=SOME_FIELDS)
         leaves = [generator.randrange(sum(len(ask.text) for ask in asks)) if at % 4 else None for at, asks in enumerate(talks)]
         aheads = [generator.choice([1, 10, 100]) for _ in talks]

@@ -13,20 +13,21 @@ import threading
 from collections import Counter
 from collections.abc import Sequence
 
-from support.asks import BAD_COMMAND, NO_MEMORY, NONE, SOME_FIELDS, STOPPED, UNREADABLE, Ask, ask_of, random_talks
+from support.asks import BAD_COMMAND, NO_MEMORY, NONE, SOME_FIELDS, STOPPED, UNREADABLE, Ask, ask_of
 from support.cases import ProgramCase, needs_sqlite, needs_strict_tables
+from support.chance import SEED
 from support.clients import Client, connected, play
 from support.failing import NEVER, Failing, FailingCase, Failure, refusals
-from support.inputs import Inputs
+from support.message_inputs import load
 from support.one_order import Order, desk_with, expect_kept, expect_one_order, told_order
 from support.power_cuts import NAME, NO_CUTS, Recorded, may_be_cut, may_be_kept, try_cuts
 from support.programs import IO, MEMORY, STORE, WELL, End, bytes_of, ended, expect, note
 from support.recorded import SENDS, SYNCS, Call, recorded_in, recorder
+from support.rows import rows_by
 from support.rules import Rules
 from support.service import TOGETHER, NotServed, Service
 from support.works import copy_desk
 
-SEED = 1986
 CLIENTS = 16
 # how far ahead of the answers the clients are, by turns
 AHEAD = [1, 1, 5, 100]
@@ -101,7 +102,7 @@ class Stops(ProgramCase):
 
     def told_and_kept(self, number: int, seconds: float, most: str) -> tuple[int, int]:
         """How many commands a service has told and kept that is killed after so many seconds."""
-        talks, options = random_talks(Inputs(SEED + number), CLIENTS, LOAD), ["--together", most]
+        talks, options = load(SEED + number, CLIENTS, LOAD), ["--together", most]
         path = desk_with(self.program, self.folder, SOME_FIELDS, f"{number}.db")
         service = Service(self.program, path, CLIENTS, options=options)
         crowd, moment = crowd_of(service.port, talks), threading.Timer(seconds, service.process.kill)
@@ -126,10 +127,10 @@ class Stops(ProgramCase):
 def rows_behind_each(order: Sequence[tuple[str, str]]) -> list[list[str]]:
     """The rows by the rules behind each of the commands, from none on."""
     desk = Rules()
-    rows = [desk.rows()]
+    rows = [rows_by(desk)]
     for key, command in order:
         desk.carry_out(key, command)
-        rows.append(desk.rows())
+        rows.append(rows_by(desk))
     return rows
 
 
@@ -151,7 +152,7 @@ def round_ends(calls: Sequence[Call]) -> list[int]:
 def recorded_rounds(program: str, folder: str, most: int) -> Recorded:
     """A service of some clients, of whose questions so many are answered together, at the most. Of a round all is kept, or
     nothing."""
-    talks, there = random_talks(Inputs(SEED), 3, 20), os.path.join(folder, "recorded")
+    talks, there = load(SEED, 3, 20), os.path.join(folder, "recorded")
     # the last is far ahead of its answers
     talks.append([ask_of(f"D{number} deliver N0 A-0 1") for number in range(30)])
     os.mkdir(there)
@@ -265,7 +266,7 @@ class Faults(FailingCase):
 
     def told_and_kept(self, failure: Failure, most: str) -> tuple[int, int, int]:
         """How many commands a service has told and kept, and how many it has told that it is stopped."""
-        talks = random_talks(Inputs(SEED + failure.first), CLIENTS, LOAD)
+        talks = load(SEED + failure.first, CLIENTS, LOAD)
         path = desk_with(self.program, self.folder, SOME_FIELDS, f"{failure}.db")
         with self.failing.lane() as lane:
             environment = self.failing.environment(failure, lane)

@@ -10,16 +10,19 @@ import subprocess
 import tempfile
 
 from support.cases import ProgramCase
-from support.inputs import Inputs
+from support.chance import Seen, needs_hypothesis, try_cases
+from support.inputs import fed, known_fields, request_of
 from support.killed import START, Killed, orders_of
 from support.power_cuts import NAME, NO_CUTS, Recorded, calls_of, may_be_cut, may_be_kept, rows_after_each, try_cuts
 from support.programs import SECONDS, bytes_of, done, ended, expect, new_desk, note
 from support.recorded import OUTPUT
-from support.stretches import file_of, kind_of
+from support.rows import rows_by
+from support.rules import Rules
+from support.stretches import HEADERS, file_of
 from support.tables import rows_of, sqlite3
 
 NUMBERS = [1, 2, 7, 100, 1000]
-REQUESTS = 400
+FILES = 4
 # what stands behind the command: the option at every place
 CALLS = ["FILE CSV", *(f"FILE CSV --together {number}" for number in [1, 2, 3, 4, 5, 1000])]
 CALLS += ["--together 3 FILE CSV", "FILE --together 3 CSV", "FILE CSV --together=3"]
@@ -178,32 +181,20 @@ def expect_small(files, kind, replies, shown, call):
     expect(found == want, f"{words}: {found} and not {want}")
 
 
-def random_lines(kind, inputs):
-    """Requests that a file of a kind says; some of them come again, but not right behind themselves."""
-    lines = []
-    while len(lines) < REQUESTS:
-        line = inputs.line()
-        if kind_of(line) == kind:
-            lines.append(inputs.random.choice(lines[:-1]) if lines[1:] and inputs.chance(0.1) else line)
-    return lines
+def requests(chance, kind):
+    """A kind of file, the lines that make the fields, and requests that such a file says."""
+    known = known_fields(chance)
+    before = list(known.lines)
+    return kind, before, chance.several(lambda chance: request_of(chance, known, kind), 100, 200)
 
 
-def expect_mixed(replies, places):
-    """There are accepted requests behind refused ones, and requests that come again."""
-    batches = ends_of(replies, places, len(replies))
-    dones = [reply for reply in replies if " done " in reply]
-    expect(len(batches) > 20 and len(set(dones)) < len(dones), f"{len(batches)} batches, {len(dones)} are done")
+def shown(case):
+    kind, before, said = case
+    return f"{fed(joined(before))}# by `{kind}`, one by one or together\n{fed(joined(said))}"
 
 
-def expect_as_one_by_one(files, kind, places):
-    """The replies and the rows to the file, and those to the file again."""
-    one_by_one = files.copy("one_by_one.db")
-    want = [files.answered(kind, one_by_one) for _ in range(2)]
-    expect_mixed(want[0][0].splitlines(), places)
-    for number in NUMBERS:
-        path = files.copy("together.db")
-        found = [files.answered(kind, path, "--together", str(number)) for _ in range(2)]
-        expect(found == want, f"{kind}, {number} together: another reply or other rows")
+def joined(lines):
+    return b"\n".join([*lines, b""])
 
 
 class Answers(ProgramCase):
@@ -213,13 +204,35 @@ class Answers(ProgramCase):
             files.write(text.encode())
             expect_small(files, kind, replies, shown, call)
 
-    def test_random_files_are_answered_as_one_by_one(self):
-        names = [(branch, article) for branch in range(4) for article in range(5)]
-        files = Files(self.program, self.folder, "".join(f"F{b}{a} field N{b} A-{a} 0 300 200\n" for b, a in names))
-        inputs = Inputs(SEED)
-        for kind in ["deliveries", "bounds", "orders"]:
-            files.write(file_of(kind, random_lines(kind, inputs)))
-            expect_as_one_by_one(files, kind, len(names))
+    @needs_hypothesis
+    def test_random_files_are_answered_by_the_rules(self):
+        """By each number together as one by one, and so when they come again."""
+        self.seen = Seen(*HEADERS, "requests that come again", "batches")
+        for kind in HEADERS:
+            try_cases(lambda chance, kind=kind: requests(chance, kind), FILES, self.expect_answered, shown)
+        self.seen.expect_all()
+        note(str(self.seen))
+
+    def expect_answered(self, case):
+        kind, before, said = case
+        with tempfile.TemporaryDirectory(dir=self.folder) as folder:
+            files, desk = Files(self.program, folder, joined(before)), Rules()
+            places = sum(desk.take(line).endswith(f" done {len(desk.kept)}") for line in before)
+            files.write(file_of(kind, said))
+            want = [[desk.take(line) for line in said] for _ in range(2)]
+            for number in [None, *NUMBERS]:
+                path, option = files.copy("asked.db"), ["--together", str(number)] if number else []
+                found = [files.answered(kind, path, *option) for _ in range(2)]
+                expect([out.splitlines() for out, _ in found] == want, f"{number} together: {found} and not {want}")
+                expect(found[1][1] in (None, rows_by(desk)), f"{number} together: other rows")
+        self.count(kind, want[0], places)
+
+    def count(self, kind, replies, places):
+        dones = [reply for reply in replies if " done " in reply]
+        self.seen.add(kind, len(replies))
+        self.seen.add("requests that come again", len(dones) - len(set(dones)))
+        # where an accepted request comes behind a refused one a batch ends
+        self.seen.add("batches", len(ends_of(replies, places, len(replies))) - 2)
 
 
 def rows_behind(count, every):

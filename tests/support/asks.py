@@ -1,12 +1,9 @@
-"""What clients ask of a service, each message with the line of a script that asks for the same; and random ones."""
+"""What clients ask of a service, each message with the line of a script that asks for the same."""
 
 import json
 import math
-import re
-from collections.abc import Sequence
 from dataclasses import dataclass
 
-from support.inputs import HEADERS, Inputs
 from support.messages import answer, compact, message, message_of
 from support.rules import Rules
 
@@ -18,8 +15,6 @@ BAD_COMMAND = answer(400, compact({"code": 20, "line": 0, "refused": "BadCommand
 # the moment of what never came
 NEVER = math.inf
 
-# views that can stand in a target as they are
-VIEW = re.compile(r"(?:field|order)(?: [A-Za-z0-9+.-]+)+")
 # messages that are answered so, whatever the desk has; and some behind which the connection ends
 FIXED = [
     (message("GET /", ""), NONE),
@@ -56,6 +51,10 @@ class Ask:
     def is_command(self) -> bool:
         return self.line != "" and not self.line.startswith("? ")
 
+    def again(self) -> "Ask":
+        """The same, not sent yet."""
+        return Ask(self.text, self.line, self.want)
+
     def was_sent(self) -> bool:
         return self.sent < NEVER
 
@@ -75,34 +74,3 @@ class Ask:
 
 def ask_of(line: str) -> Ask:
     return Ask(message_of(line), line)
-
-
-def random_line(inputs: Inputs) -> str:
-    """A command, a view or a sheet."""
-    kind = inputs.random.random()
-    if kind < 0.03:
-        return f"? sheet {inputs.branch()}"
-    if kind < 0.3:
-        view = inputs.view()
-        return f"? {view}" if VIEW.fullmatch(view, re.ASCII) else "? order 1"
-    return f"{inputs.key()} {inputs.command()}"
-
-
-def random_ask(inputs: Inputs, before: Sequence[Ask]) -> Ask:
-    """Some come again, and some ask for nothing that is there; the headers are any."""
-    if inputs.chance(0.05):
-        text, want = inputs.random.choice(FIXED)
-        return Ask(text, "", want)
-    line = inputs.random.choice(before).line if before and inputs.chance(0.05) else ""
-    ask = ask_of(line or random_line(inputs))
-    headers = "".join(f"{header}\r\n" for header in inputs.random.sample(HEADERS, inputs.random.randint(0, 2)))
-    return Ask(ask.text.replace(b" HTTP/1.1\r\n", f" HTTP/1.1\r\n{headers}".encode(), 1), ask.line)
-
-
-def random_talks(inputs: Inputs, clients: int, count: int) -> list[list[Ask]]:
-    """So many questions of each client, all about the same fields and orders. What some ask last cannot be read."""
-    asks: list[Ask] = []
-    while len(asks) < clients * count:
-        asks.append(random_ask(inputs, asks[-100:]))
-    ends = [[Ask(inputs.random.choice(LAST), "", UNREADABLE)] if inputs.chance(0.2) else [] for _ in range(clients)]
-    return [asks[client::clients] + ends[client] for client in range(clients)]

@@ -6,14 +6,13 @@ from random import Random
 from typing import Any
 
 from support.messages import answer_to
-from support.rules import ABORTED, COMMITTED, FIRM, OPEN, Effect, Order, Rules, refuse
+from support.rules import ABORTED, COMMITTED, OPEN, PLACES, Order, Rules
 
 # a deal, the moment until which its first desk may wait for it, and the upper bound of its fields
 NUMBER = 900_000_001
 MOMENT = 500
 ROOM = 100
 
-PLACES = 200_000
 NONE = 404, {"error": "none"}
 SHOWN_AT_ONCE = 50
 
@@ -22,20 +21,11 @@ Told = tuple[int, dict[str, Any]]
 
 
 class Places(Rules):
-    """A desk by the rules, with their limit of places, some of which are taken already."""
+    """A desk by the rules, of whose places some are taken already."""
 
     def __init__(self, taken: int = 0, places: int = PLACES):
-        super().__init__()
-        self.places = places
+        super().__init__(places)
         self.kept = {f"R{number}": (number, "expire 0") for number in range(1, taken + 1)}
-
-    def plan(self, command: str) -> Effect:
-        verb = command.split(" ", 1)[0]
-        if verb not in ("commit", "abort"):
-            set_aside = sum(order.state in (OPEN, FIRM) for order in self.orders.values())
-            needed = 2 if verb in ("open", "transfer") else 1
-            refuse(len(self.kept) + set_aside + needed > self.places, "Full")
-        return super().plan(command)
 
     def does(self, key: str, command: str) -> Told:
         """Does a command, and answers it."""
@@ -59,15 +49,14 @@ class Places(Rules):
             place, words = self.kept.get(names[0], (0, ""))
             return (200, {"command": words, "place": place}) if place else NONE
         if view == "desk":
-            open_now = sum(order.state in (OPEN, FIRM) for order in self.orders.values())
-            counts = {"fields": len(self.fields), "open": open_now, "orders": len(self.orders), "places": len(self.kept)}
+            counts = {"fields": len(self.fields), "open": len(self.open), "orders": len(self.orders), "places": len(self.kept)}
             return 200, {"clock": self.clock, **counts}
         if view == "open":
             return 200, {"orders": self.open_above(int(names[0]))}
         return answer_to(self.reply(" ".join(["?", view.removesuffix("s"), *names])))
 
     def open_above(self, number: int) -> list[dict[str, Any]]:
-        found = sorted(each.number for each in self.orders.values() if each.state in (OPEN, FIRM) and each.number > number)
+        found = sorted(each for each in self.open if each > number)
         return [self.shows(f"/v1/orders/{each}")[1] for each in found[:SHOWN_AT_ONCE]]
 
     def answers(self, method: str, target: str, body: str | None) -> Told:

@@ -14,7 +14,6 @@ from typing import Any
 from support.deal_desks import (
     MOMENT,
     NUMBER,
-    PLACES,
     ROOM,
     Places,
     Told,
@@ -26,7 +25,7 @@ from support.deal_desks import (
     words_of,
 )
 from support.programs import expect
-from support.rules import ABORTED, COMMITTED
+from support.rules import ABORTED, COMMITTED, PLACES
 
 import stockdesk_deals
 from stockdesk_remote import Desk

@@ -9,7 +9,8 @@ from typing import Any
 
 from support.asks import NEVER
 from support.messages import answer_to
-from support.rules import FIRM, OPEN, Rules
+from support.rows import rows_by
+from support.rules import Rules
 
 # a key and its command, by places
 Kept = list[tuple[str, str]]
@@ -70,8 +71,7 @@ def shown(desk: Rules, target: str) -> tuple[int, dict[str, Any]]:
     """What the rules show at a target."""
     kind, *names = target.removeprefix("/v1/").split("/")
     if kind == "desk":
-        is_open = sum(order.state in (OPEN, FIRM) for order in desk.orders.values())
-        counts = {"fields": len(desk.fields), "open": is_open, "orders": len(desk.orders), "places": len(desk.kept)}
+        counts = {"fields": len(desk.fields), "open": len(desk.open), "orders": len(desk.orders), "places": len(desk.kept)}
         return 200, {"clock": desk.clock, **counts}
     if kind == "keys":
         found = desk.kept.get(names[0])
@@ -179,8 +179,8 @@ def wrong_answers(history: History, kept: Kept, windows: Windows, rows: list[str
             return [*wrong, f"at place {place} the rules answer {said}"]
         desk.carry_out(key, command)
         wrong += explained.look(desk)
-    if desk.rows() != rows:
-        wrong.append(f"rows that the rules do not have: {sorted(set(rows) ^ set(desk.rows()))[:4]}")
+    if (wanted := rows_by(desk)) != rows:
+        wrong.append(f"rows that the rules do not have: {sorted(set(rows) ^ set(wanted))[:4]}")
     return wrong
 
 

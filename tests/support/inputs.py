@@ -1,204 +1,326 @@
-"""Random inputs: commands on a few fields and orders, most of them in range, and changes of their bytes."""
+"""Random lines of scripts, files of requests and changes of bytes. They are drawn with the rules beside them, so that many an
+amount stands just at a bound, and orders are mostly those that are there."""
 
-import json
-import random
+import re
+from collections.abc import Callable, Sequence
+from dataclasses import dataclass, field
 
-VERBS = "field deliver writeoff rebound open open transfer more use use release firm commit abort".split()
-# numbers at an edge of some range, and words that are no numbers
+from support.chance import Chance
+from support.rules import ADD, LINES, TAKE, Name, Order, Rules
+from support.stretches import SAID, key_of
+
+# what most scripts have; the first ones are tried first where a case is made smaller
+VERBS = "field deliver writeoff rebound open open open transfer more more use use use release firm commit abort expire".split()
+# those of desks on which much is open
+OPENING = "open open open open transfer transfer more more more use use use release firm commit abort deliver expire".split()
+# the verb of what a kind of file says
+OF_FILES = {"orders": "open", "deliveries": "deliver", "bounds": "rebound"}
+
+OF_ORDERS = "more use release firm commit abort".split()
+
+# numbers at an edge of some range, words that are no numbers, and words that are no codes, or long ones
 EDGES = "0 1 64 1000000 1000001 999999999 1000000000 1000000001 4000000000 4000000001 9223372036854775808".split()
 NO_NUMBERS = ["", "01", "-1", "+1", "1.0", "1e3", " 1", "one", "\u0661"]
-PIECES = [b"\n", b"\r\n", b"\r\n\r\n", b"\0", b" ", b"\xff", b"\xef\xbb\xbf", b'"', b",", b"?", b"9" * 30, b"A" * 600]
-METHODS = ["GET", "GET", "GET", "HEAD", "PUT", "get"]
-PATHS = ["/v1/commands", "/v1/fields/N1", "/v1/sheets/", "/v1/orders/7/", "/", "*", "/v1/fields/N1/A-1?x", "/v1/%4E1"]
-HEADERS = ["Host: desk", "Accept: */*", "X-Long: " + "x" * 300, "Expect: 100-continue", "Connection: close"]
-BREAKING = ["Transfer-Encoding: chunked", "Content-Length: 5", "Content-Length: 046", "No colon", "X: \x01"]
+CODES = ["n1", "-A", "K_1", "N" * 8, "N" * 9, "A" * 16, "A" * 17, "K" * 36, "K" * 37, "take", "add"]
+ODD_WORDS = [*EDGES, *NO_NUMBERS, *CODES]
+PIECES = [b"\n", b"\r\n", b"\r\n\r\n", b"\0", b" ", b"\xff", b"\xef\xbb\xbf", b'"', b",", b"?", b"9" * 30, b"A" * 5_000]
+
+WIDE = "0 1000000000 500000000"
+ROOMY = ["0 1000 200", "0 1000 200", WIDE, WIDE, "0 100 50"]
+TIGHT = ["0 100 100", "0 100 0", "70 70 70", "999999000 1000000000 1000000000"]
+BOUNDS = [*ROOMY, *TIGHT]
+LARGE_AMOUNTS = [1, 10, 400_000, 1_000_000, 1_000_000]
+LARGEST, LAST = 1_000_000, 4_000_000_000
 
 
-class Inputs:
-    """Inputs made one after the other from a seed; orders have running numbers, and moments go on slowly."""
+def names_of(branches: int, articles: int, long: bool = False) -> list[Name]:
+    pairs = [(branch, article) for article in range(articles) for branch in range(branches)]
+    return [(f"BRANCH{b:02}", f"ARTICLE-{a:08}") if long else (f"N{b}", f"A-{a}") for b, a in pairs]
 
-    def __init__(self, seed: int):
-        self.random = random.Random(seed)
-        self.orders = 0
-        self.held: dict[str, list[str]] = {}
-        self.now = 0
-        self.verb = VERBS[0]
-        # how often a command is of the kind of the last
-        self.stays = 0.0
 
-    def chance(self, share: float) -> bool:
-        return self.random.random() < share
+# the fields that a script is about: one or two hot ones, some, so many that an order has 64 lines, and long codes
+SOME = names_of(4, 5)
+FIELDS = [names_of(1, 1), names_of(2, 1), names_of(3, 2), SOME, SOME, names_of(8, 9), names_of(8, 9, long=True)]
 
-    def number(self, most: int) -> str:
-        """One of 1 to `most`, now and then another number, or none."""
-        if self.chance(0.02):
-            return self.random.choice(EDGES if self.chance(0.6) else NO_NUMBERS)
-        return str(self.random.randint(1, most))
 
-    def branch(self) -> str:
-        return "n1" if self.chance(0.005) else f"N{self.random.randrange(4)}"
+@dataclass(repr=False)
+class Known:
+    """What has been said to a desk by the rules, the fields that it is about, and the verbs of most commands."""
 
-    def article(self) -> str:
-        return "-A" if self.chance(0.005) else f"A-{self.random.randrange(5)}"
+    names: list[Name]
+    verbs: Sequence[str] = tuple(VERBS)
+    # what amounts mostly are, where they are not small
+    amounts: Sequence[int] = ()
+    desk: Rules = field(default_factory=Rules)
+    lines: list[bytes] = field(default_factory=list)
 
-    def key(self) -> str:
-        """Some come again."""
-        return "K_1" if self.chance(0.005) else f"K{self.random.randrange(100_000)}"
-
-    def order(self) -> str:
-        """A number of an order that was made some time ago, mostly of the last ones."""
-        return str(max(1, self.orders - int(self.random.expovariate(0.1)))) if self.chance(0.98) else self.number(100)
-
-    def until(self) -> str:
-        """Soon, or so late that it has not come where a changed line has moved the clock far."""
-        if self.chance(0.3):
-            return str(self.random.randint(3_000_000_000, 4_000_000_000))
-        return str(self.now + self.random.randint(1, 100)) if self.chance(0.9) else self.number(1000)
-
-    def way(self) -> str:
-        return self.random.choice(["take", "add"])
-
-    def lines(self) -> list[str]:
-        """The lines of an order: mostly a few, now and then 63 to 65."""
-        count = self.random.randint(63, 65) if self.chance(0.02) else self.random.randint(1, 4)
-        return [f"{self.way()} {self.branch()} {self.article()} {self.number(30)}" for _ in range(count)]
-
-    def verb_of_next(self) -> str:
-        if not (self.stays and self.chance(self.stays)):
-            self.verb = self.random.choice(VERBS)
-        return self.verb
-
-    def command(self) -> str:
-        if self.chance(0.01):
-            self.now += self.random.randrange(30)
-            return f"expire {self.now}"
-        verb = self.verb_of_next()
-        field, quantity = f"{self.branch()} {self.article()}", self.number(40)
-        if verb == "field":
-            return f"field {field} {self.number(9)} {self.number(1000)} {self.number(200)}"
-        if verb == "rebound":
-            return f"rebound {field} {self.number(9)} {self.number(1000)}"
-        if verb in ("deliver", "writeoff"):
-            return f"{verb} {field} {quantity}"
-        if verb in ("open", "transfer"):
-            self.orders += 1
-            branch, article = field.split(" ")
-            lines, pair = self.lines(), f"{article} {branch} {self.branch()} {quantity}"
-            fields = [line.split(" ", 1)[1].rsplit(" ", 1)[0] for line in lines]
-            self.held[str(self.orders)] = fields if verb == "open" else [field]
-            return f"{verb} {self.orders} {self.until()} {' '.join(lines) if verb == 'open' else pair}"
-        if verb in ("firm", "commit", "abort"):
-            return f"{verb} {self.order()}"
-        way, number = f"{self.way()} " if verb == "more" else "", self.order()
-        if number in self.held and self.chance(0.7):
-            # one that the order holds something of
-            field, quantity = self.random.choice(self.held[number]), self.number(10)
-        return f"{verb} {number} {way}{field} {quantity}"
-
-    def view(self) -> str:
-        return f"field {self.branch()} {self.article()}" if self.chance(0.5) else f"order {self.order()}"
-
-    def line(self) -> bytes:
-        """An ask, or a command; some are changed. Both are the rarer, the longer commands are of a kind."""
-        seldom = 0.1 * (1 - self.stays)
-        line = f"? {self.view()}" if self.chance(seldom) else f"{self.key()} {self.command()}"
-        return self.changed(line.encode()) if self.chance(seldom) else line.encode()
-
-    def script(self, count: int) -> bytes:
-        """So many lines, of which some come again, and the last may lack its end. In some scripts a command is mostly of the kind
-        of the last."""
-        self.stays = self.random.choice([0, 0.5, 0.8, 0.95])
-        lines: list[bytes] = []
-        for _ in range(count):
-            lines.append(self.random.choice(lines) if lines and self.chance(0.03) else self.line())
-        text = b"".join(line + b"\n" for line in lines)
-        return text[:-1] if self.chance(0.2) else text
-
-    def together(self) -> int:
-        """How many requests are carried out together: mostly a few, now and then as many as may be."""
-        return self.random.choice([1, 2, 3, 7, self.random.randint(1, 100), self.random.randint(1, 1000), 1000])
-
-    def records(self, columns: list[str]) -> bytes:
-        """A file of requests with these columns, mostly as it should be."""
-        records = [",".join(columns)]
-        for _ in range(self.random.randint(0, 12)):
-            self.orders += 1
-            head = [self.key(), str(self.orders), self.until()] if "order" in columns else [self.key()]
-            for line in self.lines():
-                words = line.split(" ") + ([self.number(1000)] if "hi" in columns else [])
-                records.append(",".join(head + (words if "way" in columns else words[1:])))
-        end = self.random.choice(["\n", "\r\n"])
-        text = (end.join(records) + end * self.chance(0.8)).encode()
-        return self.changed(text) if self.chance(0.3) else text
-
-    def target(self) -> str:
-        if self.chance(0.1):
-            return self.random.choice(PATHS)
-        if self.chance(0.2):
-            return f"/v1/sheets/{self.branch()}"
-        kind, *names = self.view().split(" ")
-        return "/".join([f"/v1/{kind}s", *names])
-
-    def message(self) -> bytes:
-        """A message of HTTP: two of three are commands."""
-        body = ""
-        if self.chance(0.66):
-            method, target = "POST", "/v1/commands"
-            body = json.dumps({"key": self.key(), "command": self.command()})
-            body = body + " " * self.random.choice([16_384 - len(body), 16_385 - len(body)]) if self.chance(0.003) else body
-            body = self.random.choice(["[" * 200, "{}", "null", body[:-1]]) if self.chance(0.02) else body
-        else:
-            method, target = self.random.choice(METHODS), self.target()
-        headers = self.random.sample(HEADERS, self.random.randint(0, 3))
-        headers += ["X: y"] * self.random.randint(25, 35) if self.chance(0.01) else []
-        headers += [self.random.choice(BREAKING)] if self.chance(0.01) else []
-        if body or self.chance(0.2):
-            name = self.random.choice(["Content-Length", "content-length", "CONTENT-LENGTH"])
-            headers.append(f"{name}: {len(body.encode()) + self.chance(0.005)}")
-        version = "HTTP/1.0" if self.chance(0.003) else "HTTP/1.1"
-        head = "".join(line + "\r\n" for line in [f"{method} {target} {version}", *headers])
-        return f"{head}\r\n{body}".encode()
-
-    def stream(self) -> bytes:
-        """Messages one behind the other, now and then changed, or cut anywhere."""
-        text = b"".join(self.message() for _ in range(self.random.randint(1, 5)))
-        text = self.changed(text) if self.chance(0.15) else text
-        return text[: self.random.randrange(len(text) + 1)] if self.chance(0.15) else text
-
-    def pieces(self, text: bytes) -> list[bytes]:
-        """The text in pieces, cut anywhere."""
-        cuts = sorted(self.random.randint(0, len(text)) for _ in range(self.random.randint(1, 8)))
-        return [text[first:end] for first, end in zip([0, *cuts], [*cuts, len(text)])]
-
-    def changed(self, text: bytes) -> bytes:
-        """The bytes with a few changes: some are put in, left out, doubled, or one bit of one is turned."""
-        for _ in range(self.random.randint(1, 4)):
-            first = self.random.randint(0, len(text))
-            end = min(len(text), first + 1 + int(self.random.expovariate(0.2)))
-            there = text[first:end]
-            turned = bytes([there[0] ^ 1 << self.random.randrange(8)]) + there[1:] if there else b""
-            put = self.random.choice([self.random.choice(PIECES) + there, b"", there + there, turned])
-            text = text[:first] + put + text[end:]
+    def say(self, text: bytes) -> bytes:
+        """A line, or more than one where its bytes were changed."""
+        self.lines.append(text)
+        for line in text.split(b"\n"):
+            self.desk.take(line)
         return text
 
-    def damaged(self, data: bytes, page: int = 4_096) -> bytes:
-        """A database's bytes with damage: bits turned, a page zeroed or put over another, the end cut off or more put behind."""
-        file = bytearray(data)
-        pages = max(1, len(file) // page)
-        first, other = page * self.random.randrange(pages), page * self.random.randrange(pages)
-        kind = self.random.randrange(6)
-        if kind == 0:
-            file[first : first + page] = bytes(page)
-        elif kind == 1:
-            file[first : first + page] = file[other : other + page]
-        elif kind == 2:
-            del file[self.random.randrange(len(file) + 1) if self.chance(0.5) else first :]
-        elif kind == 3:
-            file += self.random.choice([bytes(page), bytes(file[first : first + page]), self.random.randbytes(777)])
-        else:
-            # most of a page is empty, so half of the turned bits are where something is
-            for _ in range(self.random.randint(1, 8)):
-                places = [at for at in range(first, min(first + page, len(file))) if file[at]] if self.chance(0.5) else []
-                at = self.random.choice(places or range(len(file)))
-                file[at] ^= 1 << self.random.randrange(8)
-        return bytes(file)
+    def key(self) -> bytes:
+        return b"K%d" % len(self.lines)
+
+
+# ---- the words of commands
+
+
+def name_of(chance: Chance, known: Known) -> Name:
+    return chance.one_of(known.names)
+
+
+def pieces(number: int) -> int:
+    """The next number to this one that is a quantity."""
+    return max(1, min(LARGEST, number))
+
+
+def quantity(chance: Chance, known: Known, name: Name, way: str) -> int:
+    """A small one, just what may be taken or added, or one more or less, or a large one."""
+    kind = chance.whole(0, 19)
+    if kind >= 18:
+        return chance.one_of([LARGEST, 400_000, 1_000])
+    if kind < 14 or name not in known.desk.fields:
+        return chance.one_of(known.amounts) if known.amounts else chance.whole(1, 30)
+    _, inf, sup = known.desk.numbers(name)
+    bounds = known.desk.fields[name]
+    room = inf - bounds.lo if way == TAKE else bounds.hi - sup
+    return pieces(room + [0, 0, 1, -1][kind - 14])
+
+
+def field_words(chance: Chance, known: Known) -> str:
+    name = name_of(chance, known)
+    levels = "50 49 50" if chance.share(5) else chance.one_of(BOUNDS)
+    return f"{' '.join(name)} {levels}"
+
+
+def moved(way: str) -> Callable[[Chance, Known], str]:
+    def words(chance: Chance, known: Known) -> str:
+        name = name_of(chance, known)
+        return f"{' '.join(name)} {quantity(chance, known, name, way)}"
+
+    return words
+
+
+def bounds_words(chance: Chance, known: Known) -> str:
+    """Mostly bounds that leave no room, or nearly so."""
+    name = name_of(chance, known)
+    if name not in known.desk.fields or chance.share(30):
+        return f"{' '.join(name)} {chance.one_of(BOUNDS).rsplit(' ', 1)[0]}"
+    _, inf, sup = known.desk.numbers(name)
+    lo, hi = inf - chance.one_of([0, 5, -1]), sup + chance.one_of([0, 5, 100, -1])
+    return f"{' '.join(name)} {max(0, lo)} {max(0, min(hi, 1_000_000_000))}"
+
+
+def until(chance: Chance, known: Known) -> int:
+    """Soon, at last, or now, which is too late."""
+    kind = chance.whole(0, 19)
+    return LAST if kind >= 14 else known.desk.clock if kind == 13 else min(LAST, known.desk.clock + chance.whole(1, 100))
+
+
+def new_number(chance: Chance, known: Known) -> int:
+    return len(known.desk.orders) + 1 if chance.whole(0, 29) < 29 else chance.one_of([1, 899_999_999, 900_000_001, 999_999_999])
+
+
+def open_words(chance: Chance, known: Known) -> str:
+    """Mostly a few lines on neighbouring fields, now and then about 64, the more so where there are as many fields."""
+    is_long = chance.share(25 if len(known.names) >= LINES else 2)
+    count = chance.one_of([64, 64, 63, 65]) if is_long else chance.whole(1, 4)
+    first, ways = chance.whole(0, len(known.names) - 1), chance.whole(0, 15)
+    words = [str(new_number(chance, known)), str(until(chance, known))]
+    for nr in range(count):
+        name = known.names[(first + nr) % len(known.names)]
+        way = [TAKE, ADD][ways >> nr % 4 & 1]
+        words += [way, *name, str(quantity(chance, known, name, way) if count <= 4 else 1 + nr % 8)]
+    return " ".join(words)
+
+
+def transfer_words(chance: Chance, known: Known) -> str:
+    source, target = name_of(chance, known), name_of(chance, known)
+    held = quantity(chance, known, source, TAKE)
+    return f"{new_number(chance, known)} {until(chance, known)} {source[1]} {source[0]} {target[0]} {held}"
+
+
+def order_of(chance: Chance, known: Known) -> Order | None:
+    """Mostly one of the last that are open."""
+    orders = list(known.desk.open.values() if chance.whole(0, 9) < 9 else known.desk.orders.values())
+    return chance.one_of(orders[:-9:-1]) if orders else None
+
+
+def number_words(chance: Chance, known: Known) -> str:
+    order = order_of(chance, known)
+    return str(order.number if order else chance.whole(1, 100))
+
+
+def field_beside(chance: Chance, known: Known) -> str | None:
+    """The number of an order of 64 lines, where there is one, and a field that it has no line on."""
+    full = [order for order in known.desk.open.values() if len(order.lines) == LINES]
+    beside = [(order.number, name) for order in full[:1] for name in known.desk.fields if order.line_on(name) is None]
+    if not beside or not chance.share(70):
+        return None
+    number, name = chance.one_of(beside)
+    return f"{number} {TAKE} {' '.join(name)} 1"
+
+
+def line_words(chance: Chance, known: Known) -> tuple[str, Name, str, int]:
+    """The number of an order, mostly a field of its, its way there, and what it may still use."""
+    order = order_of(chance, known)
+    if order is None or chance.share(15):
+        return str(order.number if order else 1), name_of(chance, known), chance.one_of([TAKE, ADD]), 1
+    line = chance.one_of(order.lines)
+    return str(order.number), line.name, line.way, line.held - line.used
+
+
+def more_words(chance: Chance, known: Known) -> str:
+    if words := field_beside(chance, known):
+        return words
+    number, name, way, _ = line_words(chance, known)
+    way = {TAKE: ADD, ADD: TAKE}[way] if chance.share(10) else way
+    return f"{number} {way} {' '.join(name)} {quantity(chance, known, name, way)}"
+
+
+def used_words(chance: Chance, known: Known) -> str:
+    """Of a use or a release: mostly one, all that is held, or one more or less."""
+    number, name, _, left = line_words(chance, known)
+    return f"{number} {' '.join(name)} {pieces(chance.one_of([1, left, left + 1, left - 1, left // 2]))}"
+
+
+def moment_words(chance: Chance, known: Known) -> str:
+    """Now or soon, the moment of an order, or before now."""
+    kind, order = chance.whole(0, 9), order_of(chance, known)
+    if kind == 9:
+        return str(max(0, known.desk.clock - 1))
+    if kind >= 5 and order and order.until < LAST:
+        return str(max(known.desk.clock, order.until - (kind == 8)))
+    return str(min(LAST, known.desk.clock + chance.whole(0, 30)))
+
+
+WORDS: dict[str, Callable[[Chance, Known], str]] = {
+    "field": field_words,
+    "deliver": moved(ADD),
+    "writeoff": moved(TAKE),
+    "rebound": bounds_words,
+    "open": open_words,
+    "transfer": transfer_words,
+    "more": more_words,
+    "use": used_words,
+    "release": used_words,
+    "firm": number_words,
+    "commit": number_words,
+    "abort": number_words,
+    "expire": moment_words,
+}
+
+
+def command(chance: Chance, known: Known) -> str:
+    """A command, of which now and then a word is an odd one."""
+    verb = chance.one_of(known.verbs)
+    if verb in OF_ORDERS and not known.desk.open and chance.share(80):
+        verb = "open"
+    words = [verb, *WORDS[verb](chance, known).split(" ")]
+    if chance.share(4):
+        words[chance.whole(1, len(words) - 1)] = chance.one_of(ODD_WORDS)
+    return " ".join(words)
+
+
+def view(chance: Chance, known: Known) -> str:
+    """A field or an order, now and then an odd one."""
+    words = ["order", number_words(chance, known)] if chance.share(50) else ["field", *name_of(chance, known)]
+    if chance.share(4):
+        words[chance.whole(1, len(words) - 1)] = chance.one_of(ODD_WORDS)
+    return " ".join(words)
+
+
+# ---- lines
+
+
+def request(chance: Chance, known: Known) -> bytes:
+    """Mostly a command under a new key, else a line that was said before, its command under a new key, or another one under its
+    key."""
+    kind, before = chance.whole(0, 99), known.lines[:-20:-1]
+    if kind < 85 or not before:
+        return known.key() + b" " + command(chance, known).encode()
+    key, _, words = chance.one_of(before).partition(b" ")
+    if kind < 91:
+        return known.key() + b" " + words
+    return key + b" " + (words if kind >= 95 else command(chance, known).encode())
+
+
+def line(chance: Chance, known: Known) -> bytes:
+    """A line that is said: mostly a request, else an ask, or a line whose bytes are changed."""
+    kind = chance.whole(0, 99)
+    if kind >= 90:
+        return known.say(f"? {view(chance, known)}".encode())
+    text = request(chance, known)
+    return known.say(changed(chance, text) if kind >= 84 else text)
+
+
+def request_of(chance: Chance, known: Known, kind: str) -> bytes:
+    """A request that a file of a kind says, or one of it that was said before, or its key; but not the key of the last line."""
+    last = key_of(known.lines[-1]) if known.lines else b""
+    said = [line for line in known.lines if SAID[kind].fullmatch(line) and key_of(line) != last]
+    if said and chance.share(10):
+        return known.say(chance.one_of(said[:-20:-1]))
+    # an order of more lines is no record's
+    words = " ".join([OF_FILES[kind], *WORDS[OF_FILES[kind]](chance, known).split(" ")[: 2 + 4 * LINES]])
+    key = key_of(chance.one_of(said[:-20:-1])) if said and chance.share(4) else known.key()
+    return known.say(key + b" " + words.encode())
+
+
+def known_fields(chance: Chance, verbs: Sequence[str] = tuple(VERBS)) -> Known:
+    """Nothing but some fields, with bounds of three kinds that may be tight, or leave room, or wide ones for large amounts."""
+    names, kind = chance.one_of(FIELDS), chance.whole(0, 9)
+    known = Known(names, verbs, LARGE_AMOUNTS if kind >= 8 else ())
+    made = chance.whole(0, 6 * len(names))
+    levels = [WIDE if kind >= 8 else chance.one_of(ROOMY if kind >= 4 else BOUNDS) for _ in range(3)]
+    for number, name in enumerate(names[:made]):
+        known.say(f"F{number} field {' '.join(name)} {levels[number % 3]}".encode())
+    return known
+
+
+def say_lines(chance: Chance, known: Known, average: int, most: int) -> None:
+    chance.several(lambda chance: line(chance, known), average, most)
+
+
+def script(chance: Chance, average: int = 50, most: int = 100) -> list[bytes]:
+    """Fields, and then about so many lines. Most scripts have commands of all kinds, some mostly of one."""
+    verbs = [*VERBS, *[chance.one_of(VERBS)] * 80] if chance.share(20) else VERBS
+    known = known_fields(chance, verbs)
+    say_lines(chance, known, average, most)
+    return known.lines
+
+
+# ---- bytes
+
+
+def changed(chance: Chance, text: bytes) -> bytes:
+    """The bytes with a few changes: some are put in, left out, doubled, or one bit of one is turned."""
+    for _ in range(chance.whole(1, 4)):
+        first = chance.whole(0, len(text))
+        there = text[first : first + chance.whole(1, 12)]
+        turned = bytes([there[0] ^ 1 << chance.whole(0, 7)]) + there[1:] if there else b""
+        put = [chance.one_of(PIECES) + there, b"", there + there, turned][chance.whole(0, 3)]
+        text = text[:first] + put + text[first + len(there) :]
+    return text
+
+
+def cut(chance: Chance, text: bytes) -> list[bytes]:
+    """The text in pieces, cut anywhere."""
+    cuts = sorted(chance.several(lambda chance: chance.whole(0, len(text)), 4, 8))
+    return [text[first:end] for first, end in zip([0, *cuts], [*cuts, len(text)])]
+
+
+def together(chance: Chance) -> int:
+    """How many requests are carried out together: mostly a few, now and then as many as may be."""
+    return chance.one_of([1, 2, 3, 7, chance.whole(1, 100), chance.whole(1, 1_000), 1_000])
+
+
+def fed(text: bytes) -> str:
+    """A script as one can feed it to the program: its lines, or the `printf` that writes them where they have odd bytes."""
+    if re.fullmatch(rb"(?:[ -~]*\n)*", text):
+        return text.decode()
+    signs = {ord("\n"): "\\n", ord("'"): "'\\''", ord("\\"): "\\\\", ord("%"): "%%"}
+    escaped = [signs.get(byte) or (chr(byte) if 32 <= byte < 127 else f"\\{byte:03o}") for byte in text]
+    return f"printf '{''.join(escaped)}'"

@@ -7,6 +7,7 @@ from itertools import accumulate
 
 from support.asks import NO_MEMORY, NEVER, Ask
 from support.programs import done, expect, new_desk
+from support.rows import rows_by
 from support.rules import Rules
 from support.tables import rows_of, tables_of
 
@@ -120,11 +121,11 @@ def expect_kept(path: str, before: Order, talks: Iterable[Sequence[Ask]]) -> Ord
     """A desk that was stopped has kept all that was told, nothing that was not sent or was told to lack memory, and what that
     leads to by the rules: all commands by their places, those before first."""
     talks = list(talks)
-    kept = sorted((place, key, words) for key, place, words in tables_of(path)["kept"])
-    order = [(key, words) for _, key, words in kept]
+    kept = sorted(tables_of(path)["kept"], key=lambda row: row.place)
+    order = [(row.reqkey, row.words) for row in kept]
     may = {ask.line for asks in talks for ask in asks if ask.was_sent() and ask.answer != NO_MEMORY}
     others = [line for line in order[len(before) :] if " ".join(line) not in may]
     expect(not others, f"it is kept, and was not sent, or told to lack memory: {others}")
     desk = expect_one_order(order, len(before), talks)
-    expect(order[: len(before)] == before and rows_of(path) == desk.rows(), f"other rows behind {len(order)} commands")
+    expect(order[: len(before)] == before and rows_of(path) == rows_by(desk), f"other rows behind {len(order)} commands")
     return order

@@ -40,7 +40,7 @@ def expect(fact: object, text: str) -> None:
 def ended(
     program: str,
     words: Sequence[str],
-    text: str = "",
+    text: str | bytes = "",
     folder: str | None = None,
     limit: tuple[int, int] | None = None,
     environment: dict[str, str] | None = None,
@@ -49,7 +49,7 @@ def ended(
     another environment."""
     run = subprocess.run(
         [program, *words],
-        input=text.encode(),
+        input=text.encode() if isinstance(text, str) else text,
         cwd=folder,
         env=environment,
         capture_output=True,
@@ -61,7 +61,7 @@ def ended(
     return run.returncode, run.stdout, run.stderr
 
 
-def done(program: str, words: Sequence[str], text: str = "") -> list[str]:
+def done(program: str, words: Sequence[str], text: str | bytes = "") -> list[str]:
     """The lines of a run that ends with status 0."""
     status, out, errors = ended(program, words, text)
     expect(status == 0, f"{words}: status {status}, {errors!r}")
@@ -84,8 +84,8 @@ class Session:
         self.clock = threading.Timer(SECONDS, self.process.kill)
         self.clock.start()
 
-    def ask(self, line: str) -> str:
-        self.input.write(line.encode() + b"\n")
+    def ask(self, line: str | bytes) -> str:
+        self.input.write((line.encode() if isinstance(line, str) else line) + b"\n")
         self.input.flush()
         return self.output.readline().decode().rstrip("\n")
 

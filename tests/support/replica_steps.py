@@ -21,6 +21,7 @@ from stockdesk_tools import Fault
 from stockdesk_walk import Walk
 from support.histories import Attempt, History, View, judged, reply_to, shown
 from support.messages import answer_to, compact
+from support.rows import rows_by
 from support.rules import Rules
 
 MACHINES, CLIENTS, COMMANDS = 3, 5, 14
@@ -338,7 +339,7 @@ async def wrong_of(seed: int, counts: dict[str, int]) -> list[str]:
         await asyncio.wait_for(case.play(), CASE_SECONDS)
     except (Fault, asyncio.TimeoutError) as fault:
         return [f"{type(fault).__name__}: {fault}"]
-    wrong, found = judged(case.history, [place.rules.rows() for place in case.places])
+    wrong, found = judged(case.history, [rows_by(place.rules) for place in case.places])
     for name, count in found.items():
         counts[name] = counts.get(name, 0) + count
     return wrong

@@ -18,6 +18,7 @@ from stockdesk_machine import Machine
 from stockdesk_tools import Fault
 from stockdesk_walk import Walk
 from support.replica_steps import answer_of
+from support.rows import rows_by
 from support.rules import Rules
 
 WORDS = [f"{kind} N1 A-1 {many}" for kind in ("deliver", "writeoff") for many in (1, 2, 3)]
@@ -116,7 +117,8 @@ async def wrong_of(seed: int) -> str:
             rules = Rules() if chance.random() < 0.03 else copy.deepcopy(rules)
     except Fault as fault:
         return f"case {seed}: {fault}"
-    return "" if rules.rows() == whole.rows() else f"case {seed}: other rows: {set(rules.rows()) ^ set(whole.rows())}"
+    odd = set(rows_by(rules)) ^ set(rows_by(whole))
+    return f"case {seed}: other rows: {odd}" if odd else ""
 
 
 def first_wrong(count: int) -> str:

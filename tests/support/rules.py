@@ -1,8 +1,8 @@
-"""The rules of a desk in Python, but for its limits: what it answers to a line of a script, or a message, and what rows it has. A
-field's numbers are summed anew whenever they are asked for."""
+"""The rules of a desk in Python: what it answers to a line of a script, or a message, what that changes, and what a roll-over
+makes of the desk. A field's numbers are summed anew whenever they are asked for."""
 
 import re
-from collections.abc import Callable, Iterator, Sequence
+from collections.abc import Callable
 from dataclasses import dataclass
 
 from support.forms import ASK, BRANCH, REFUSALS, REQUEST
@@ -11,9 +11,8 @@ from support.messages import answer, answer_of
 PLAIN, TRANSFER = "plain", "transfer"
 TAKE, ADD = "take", "add"
 OPEN, FIRM, COMMITTED, ABORTED = "open", "firm", "committed", "aborted"
-# as they are stored
-STATES = {OPEN: 0, FIRM: 0, COMMITTED: 1, ABORTED: 2}
-MOST_LINES = 64
+# how many of each there may be: commands that are done or set aside, one for each open order; fields, orders, lines of an order
+PLACES, FIELDS, ORDERS, LINES = 200_000, 10_000, 100_000, 64
 BAD = "- refused 20 BadCommand 0"
 
 # a branch and an article
@@ -39,6 +38,10 @@ class Field:
     start: int
     moved: int
 
+    def stands_at(self, value: int) -> "Field":
+        """A field with these bounds that begins at this value."""
+        return Field(self.lo, self.hi, value, value)
+
 
 @dataclass
 class Line:
@@ -49,6 +52,9 @@ class Line:
     held: int
     used: int = 0
 
+    def sign(self) -> int:
+        return 1 if self.way == ADD else -1
+
 
 @dataclass
 class Order:
@@ -58,6 +64,9 @@ class Order:
     lines: list[Line]
     state: str = OPEN
 
+    def is_open(self) -> bool:
+        return self.state in (OPEN, FIRM)
+
     def line_on(self, name: Name) -> Line | None:
         return next((line for line in self.lines if line.name == name), None)
 
@@ -66,20 +75,29 @@ class Order:
         return self.lines if self.kind == TRANSFER else [line]
 
     def settled(self, line: Line) -> int:
+        """What the line has moved its field by, whatever comes."""
         return line.used if self.state in (FIRM, COMMITTED) else 0
 
     def left(self, line: Line) -> int:
         """What of the line may still move the field."""
-        return {OPEN: line.held, FIRM: line.held - line.used}.get(self.state, 0)
+        return line.held - self.settled(line) if self.is_open() else 0
+
+    def rest(self) -> "Order":
+        """What a roll-over leaves of an open order: of each line what is not settled, and no line that is all settled."""
+        settled = [(line, self.settled(line)) for line in self.lines]
+        lines = [Line(line.name, line.way, line.held - moved, line.used - moved) for line, moved in settled if line.held > moved]
+        return Order(self.number, self.kind, self.until, lines, self.state)
 
 
 class Rules:
     """A desk as the rules say it."""
 
-    def __init__(self) -> None:
+    def __init__(self, places: int = PLACES) -> None:
+        self.places = places
         self.clock = 0
         self.fields: dict[Name, Field] = {}
         self.orders: dict[int, Order] = {}
+        self.open: dict[int, Order] = {}
         # the lines of all orders on each field
         self.lines: dict[Name, list[tuple[Order, Line]]] = {}
         self.moves: list[tuple[int, Name, int]] = []
@@ -116,10 +134,10 @@ class Rules:
 
     def numbers(self, name: Name) -> tuple[int, int, int]:
         """The value, the infimum and the supremum of a field."""
-        lines = [(order, line, 1 if line.way == ADD else -1) for order, line in self.lines.get(name, [])]
-        value = self.fields[name].moved + sum(sign * order.settled(line) for order, line, sign in lines)
-        taken = sum(order.left(line) for order, line, sign in lines if sign < 0)
-        added = sum(order.left(line) for order, line, sign in lines if sign > 0)
+        lines = self.lines.get(name, [])
+        value = self.fields[name].moved + sum(line.sign() * order.settled(line) for order, line in lines)
+        taken = sum(order.left(line) for order, line in lines if line.way == TAKE)
+        added = sum(order.left(line) for order, line in lines if line.way == ADD)
         return value, value - taken, value + added
 
     def shown_field(self, line: str, name: Name) -> str:
@@ -146,6 +164,14 @@ class Rules:
 
     # ---- what is done
 
+    def take(self, line: bytes) -> str:
+        """Answers a line of a script, and does what it accepts."""
+        text = line.decode("latin-1")
+        reply, place = self.reply(text), len(self.kept) + 1
+        if reply.endswith(f" done {place}"):
+            self.carry_out(*text.split(" ", 1))
+        return reply
+
     def carry_out(self, key: str, command: str) -> None:
         """Does a command, which is accepted."""
         effect = self.plan(command)
@@ -155,6 +181,7 @@ class Rules:
     def plan(self, command: str) -> Effect:
         """What the command does; or it is refused, and nothing is done."""
         verb, *words = command.split()
+        self.check_full(verb)
         plans: dict[str, Callable[..., Effect]] = {
             "field": self.plan_field,
             "deliver": lambda branch, article, quantity: self.plan_move((branch, article), ADD, int(quantity)),
@@ -172,6 +199,14 @@ class Rules:
         }
         return plans[verb](*words)
 
+    def check_full(self, verb: str) -> None:
+        """The end of an order has its place, which was set aside."""
+        if verb in ("commit", "abort"):
+            return
+        begins = verb in ("open", "transfer")
+        is_full = verb == "field" and len(self.fields) == FIELDS or begins and len(self.orders) == ORDERS
+        refuse(is_full or len(self.kept) + len(self.open) + 1 + begins > self.places, "Full")
+
     def field_at(self, name: Name, nr: int = 0) -> Field:
         refuse(name not in self.fields, "NoField", nr)
         return self.fields[name]
@@ -185,8 +220,8 @@ class Rules:
 
     def open_order(self, number: int) -> Order:
         refuse(number not in self.orders, "NoOrder")
-        refuse(self.orders[number].state in (COMMITTED, ABORTED), "Ended")
-        return self.orders[number]
+        refuse(number not in self.open, "Ended")
+        return self.open[number]
 
     def plan_field(self, branch: str, article: str, *levels: str) -> Effect:
         lo, hi, start = map(int, levels)
@@ -197,12 +232,11 @@ class Rules:
     def plan_move(self, name: Name, way: str, quantity: int) -> Effect:
         self.check_room(name, way, quantity)
 
-        def move() -> None:
-            pieces = quantity if way == ADD else -quantity
-            self.fields[name].moved += pieces
-            self.moves.append((len(self.kept), name, pieces))
+        return lambda: self.move(len(self.kept), name, quantity if way == ADD else -quantity)
 
-        return move
+    def move(self, place: int, name: Name, pieces: int) -> None:
+        self.fields[name].moved += pieces
+        self.moves.append((place, name, pieces))
 
     def plan_rebound(self, branch: str, article: str, *levels: str) -> Effect:
         lo, hi = map(int, levels)
@@ -222,9 +256,9 @@ class Rules:
 
         def expire() -> None:
             self.clock = int(now)
-            for order in self.orders.values():
+            for order in list(self.open.values()):
                 if order.state == OPEN and order.until <= self.clock:
-                    order.state = ABORTED
+                    self.end(order, ABORTED)
 
         return expire
 
@@ -244,12 +278,18 @@ class Rules:
             refuse(line.name in names[: nr - 1], "SameField", nr)
             self.check_room(line.name, line.way, line.held, nr)
 
-        def begin() -> None:
-            self.orders[order.number] = order
-            for line in order.lines:
-                self.lines.setdefault(line.name, []).append((order, line))
+        return lambda: self.add(order)
 
-        return begin
+    def add(self, order: Order) -> None:
+        self.orders[order.number] = order
+        if order.is_open():
+            self.open[order.number] = order
+        for line in order.lines:
+            self.lines.setdefault(line.name, []).append((order, line))
+
+    def end(self, order: Order, state: str) -> None:
+        order.state = state
+        del self.open[order.number]
 
     def plan_more(self, number: str, way: str, branch: str, article: str, quantity: str) -> Effect:
         order, name = self.open_order(int(number)), (branch, article)
@@ -258,7 +298,7 @@ class Rules:
         self.field_at(name)
         line = order.line_on(name)
         refuse(line is not None and line.way != way, "OtherWay")
-        refuse(line is None and len(order.lines) == MOST_LINES, "TooManyLines")
+        refuse(line is None and len(order.lines) == LINES, "TooManyLines")
         self.check_room(name, way, int(quantity))
 
         def hold() -> None:
@@ -300,11 +340,7 @@ class Rules:
     def plan_end(self, number: int, state: str) -> Effect:
         order = self.open_order(number)
         refuse(state == ABORTED and order.state == FIRM, "Firm")
-
-        def end() -> None:
-            order.state = state
-
-        return end
+        return lambda: self.end(order, state)
 
     def plan_firm(self, number: str) -> Effect:
         order = self.open_order(int(number))
@@ -316,24 +352,17 @@ class Rules:
 
         return make_firm
 
-    # ---- what is stored
+    # ---- what is made of it
 
-    def rows(self) -> list[str]:
-        """The rows of all tables in the order of their keys, each as a line that begins with its table."""
-        return ["|".join([table, *map(str, row)]) for table, rows in self.tables() for row in rows]
-
-    def tables(self) -> Iterator[tuple[str, Sequence[tuple[object, ...]]]]:
-        orders = [order for _, order in sorted(self.orders.items())]
-        yield "desk", [(1, 2, self.clock, len(self.kept))]
-        yield "field", [
-            (*name, field.lo, field.hi, field.start, *self.numbers(name)) for name, field in sorted(self.fields.items())
-        ]
-        yield "move", [(place, *name, pieces) for place, name, pieces in self.moves]
-        yield "orders", [(it.number, int(it.kind == TRANSFER), it.until, STATES[it.state]) for it in orders]
-        yield "line", [
-            (it.number, nr, *line.name, int(line.way == ADD), line.held, line.used)
-            for it in orders
-            for nr, line in enumerate(it.lines, 1)
-        ]
-        yield "kept", [(key, place, words) for key, (place, words) in sorted(self.kept.items())]
-        yield "firm", [(number,) for number in sorted(self.firms)]
+    def rolled_over(self) -> "Rules":
+        """The desk that a roll-over makes of it, but for its kept keys: the fields stand where they stood, and the open orders
+        hold what may still move them. Nothing else is there."""
+        new = Rules()
+        new.clock = self.clock
+        new.fields = {name: field.stands_at(self.numbers(name)[0]) for name, field in self.fields.items()}
+        for order in self.open.values():
+            rest = order.rest()
+            if rest.lines:
+                new.add(rest)
+        new.firms = {number for number, order in new.open.items() if order.state == FIRM}
+        return new

@@ -1,30 +1,84 @@
-"""The tables of a desk as another SQLite than the program's reads and writes them."""
+"""The tables of a desk, each with the columns of its rows, and how another SQLite than the program's reads and writes them."""
 
 import contextlib
 from collections.abc import Iterable, Mapping
-from typing import Any
+from typing import Any, NamedTuple
 
 try:
     import sqlite3
 except ImportError:
     sqlite3 = None  # type: ignore[assignment]
 
-# the columns of each table, those of its key first
-COLUMNS = {
-    "desk": ["one", "version", "clock", "places"],
-    "field": ["branch", "article", "lo", "hi", "start", "value", "inf", "sup"],
-    "move": ["place", "branch", "article", "qty"],
-    "orders": ["number", "kind", "until", "state"],
-    "line": ["number", "nr", "branch", "article", "way", "held", "used"],
-    "kept": ["reqkey", "place", "words"],
-    "firm": ["number"],
+# of each kind of row the columns of the key come first
+
+
+class DeskRow(NamedTuple):
+    one: int
+    version: int
+    clock: int
+    places: int
+
+
+class FieldRow(NamedTuple):
+    branch: str
+    article: str
+    lo: int
+    hi: int
+    start: int
+    value: int
+    inf: int
+    sup: int
+
+
+class MoveRow(NamedTuple):
+    place: int
+    branch: str
+    article: str
+    qty: int
+
+
+class OrderRow(NamedTuple):
+    number: int
+    kind: int
+    until: int
+    state: int
+
+
+class LineRow(NamedTuple):
+    number: int
+    nr: int
+    branch: str
+    article: str
+    way: int
+    held: int
+    used: int
+
+
+class KeptRow(NamedTuple):
+    reqkey: str
+    place: int
+    words: str
+
+
+class FirmRow(NamedTuple):
+    number: int
+
+
+# the kind of each table's rows, and how many of their columns are its key
+ROWS: dict[str, Any] = {
+    "desk": DeskRow,
+    "field": FieldRow,
+    "move": MoveRow,
+    "orders": OrderRow,
+    "line": LineRow,
+    "kept": KeptRow,
+    "firm": FirmRow,
 }
-
-# how many columns of each table are its key
 KEYS = {"desk": 1, "field": 2, "move": 1, "orders": 1, "line": 2, "kept": 1, "firm": 1}
+COLUMNS: dict[str, list[str]] = {table: list(row._fields) for table, row in ROWS.items()}
 
-# rows by their table
-Rows = Mapping[str, Iterable[Any]]
+# the rows of each table, in the order of their keys where a desk has them
+Tables = dict[str, list[Any]]
 
 
 def is_able() -> bool:
@@ -32,24 +86,41 @@ def is_able() -> bool:
     return sqlite3 is not None and sqlite3.sqlite_version_info >= (3, 37)
 
 
-def tables_of(path: str) -> dict[str, list[tuple]]:
+def tables_of(path: str) -> Tables:
     """The rows of each table in the order of their keys. A desk of version 1 has all tables but the last."""
-    found: dict[str, list[tuple]] = {}
+    found: Tables = {}
     with contextlib.closing(sqlite3.connect(path)) as database:
+        there = {name for (name,) in database.execute("SELECT name FROM sqlite_schema WHERE type = 'table'")}
         for table, columns in COLUMNS.items():
-            if table == "firm" and found["desk"] and found["desk"][0][1] == 1:
+            if table == "firm" and table not in there:
                 break
             order = ", ".join(columns[: KEYS[table]])
-            found[table] = database.execute(f"SELECT {', '.join(columns)} FROM {table} ORDER BY {order}").fetchall()
+            rows = database.execute(f"SELECT {', '.join(columns)} FROM {table} ORDER BY {order}")
+            found[table] = [ROWS[table]._make(row) for row in rows]
     return found
+
+
+def lines_of_rows(tables: Mapping[str, Iterable[Any]], sign: str = "|") -> list[str]:
+    """Each row as a line that begins with its table."""
+    return [sign.join([table, *map(str, row)]) for table, rows in tables.items() for row in rows]
 
 
 def rows_of(path: str) -> list[str]:
     """The rows of all tables in the order of their keys, each as a line that begins with its table."""
-    return ["|".join([table, *map(str, row)]) for table, rows in tables_of(path).items() for row in rows]
+    return lines_of_rows(tables_of(path))
 
 
-def put_rows(database: "sqlite3.Connection", rows: Rows) -> None:
+def tables_in(lines: Iterable[str]) -> Tables:
+    """The rows that stand in lines, as `firm,7`, in the order of their keys."""
+    found: Tables = {table: [] for table in ROWS}
+    for line in lines:
+        table, *words = line.split(",")
+        types = ROWS[table].__annotations__.values()
+        found[table].append(ROWS[table]._make(kind(word) for kind, word in zip(types, words, strict=True)))
+    return {table: sorted(rows, key=lambda row: row[: KEYS[table]]) for table, rows in found.items()}
+
+
+def put_rows(database: "sqlite3.Connection", rows: Mapping[str, Iterable[Any]]) -> None:
     """Puts rows into the tables of a new desk, whose own row is removed."""
     database.execute("DELETE FROM desk")
     for table, columns in COLUMNS.items():
