@@ -180,7 +180,7 @@ class Scripts(RandomCase):
 class Files(RandomCase):
     def test_files_of_requests_are_answered_by_the_rules(self):
         """Each twice, one by one or together: what is done is done once. One whose bytes are changed is answered in its form."""
-        self.seen = Seen(*HEADERS, "bad files", "changed files that are read", "requests")
+        self.seen = Seen(*HEADERS, "bad files", "requests")
         try_cases(records, FILES, self.expect_answered, str)
         self.seen.expect_all()
         note(str(self.seen))

@@ -28,7 +28,7 @@ from support.tables import rows_of, sqlite3
 # how many clients there are at once, and how many questions all of them ask, about
 CROWDS = [1, 2, 3, 4, 5, 6, 8, 10, 12, 16, 20, 25, 30, 40, 50]
 QUESTIONS = 1_200
-SMALL_CROWDS = 60
+SMALL_CROWDS = 30
 
 # syncs that take so many microseconds
 SLOW = 5_000
@@ -65,8 +65,10 @@ def crowd_with(chance: Chance, clients: int) -> Crowd:
 
 
 def small_crowd(chance: Chance) -> Crowd:
+    """Each client asks something."""
     known, clients = some_known(), chance.one_of([1, 2, 2, 3, 5, 8])
-    return crowd_of(chance, talks_of(chance, chance.several(lambda chance: ask(chance, known), 40, 120), clients))
+    asks = [ask(chance, known), *chance.several(lambda chance: ask(chance, known), 40, 120)]
+    return crowd_of(chance, talks_of(chance, asks, min(clients, len(asks))))
 
 
 def crowd_of(chance: Chance, talks: list[list[Ask]]) -> Crowd:

@@ -22,7 +22,7 @@ from support.stretches import HEADERS, file_of
 from support.tables import rows_of, sqlite3
 
 NUMBERS = [1, 2, 7, 100, 1000]
-FILES = 10
+FILES = 4
 # what stands behind the command: the option at every place
 CALLS = ["FILE CSV", *(f"FILE CSV --together {number}" for number in [1, 2, 3, 4, 5, 1000])]
 CALLS += ["--together 3 FILE CSV", "FILE --together 3 CSV", "FILE CSV --together=3"]
@@ -185,7 +185,7 @@ def requests(chance, kind):
     """A kind of file, the lines that make the fields, and requests that such a file says."""
     known = known_fields(chance)
     before = list(known.lines)
-    return kind, before, chance.several(lambda chance: request_of(chance, known, kind), 120, 200)
+    return kind, before, chance.several(lambda chance: request_of(chance, known, kind), 100, 200)
 
 
 def shown(case):
