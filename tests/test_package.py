@@ -9,6 +9,7 @@ import os
 import re
 import shlex
 import shutil
+import tempfile
 import unittest
 
 from support import DEPLOY, TOP
@@ -50,10 +51,15 @@ SHARED += ["SystemCallFilter=@system-service", "SystemCallFilter=~@privileged @r
 
 @needs("dpkg-buildpackage", "dh", "go-md2man")
 class Package(ProgramCase):
+    @classmethod
+    def setUpClass(cls):
+        super().setUpClass()
+        cls.path = built(cls.enterClassContext(tempfile.TemporaryDirectory()))
+
     def test_the_package_is_of_the_proved_program(self):
         """It has these bytes, and the version of the newest change; a program that is older than a source, or none, is
         refused."""
-        path = built(self.folder)
+        path = self.path
         with open(os.path.join(TOP, "CHANGELOG.md"), encoding="utf-8") as file:
             version = re.search(r"^## (\S+)", file.read(), re.MULTILINE)[1]
         expect(os.path.basename(path) == f"stockdesk_{version}_amd64.deb", f"another name: {path}")
@@ -78,12 +84,12 @@ class Package(ProgramCase):
     def test_lintian_finds_nothing(self):
         """But what the package tells the reason of; of another program it may find less."""
         options = ["--display-info", "--pedantic", "--tag-display-limit", "0", "--suppress-tags", "unused-override"]
-        told = run(["lintian", *options, built(self.folder)])
+        told = run(["lintian", *options, self.path])
         expect((told.returncode, told.stdout) == (0, ""), f"lintian: {told.stdout}{told.stderr}")
 
     def test_the_manual_tells_each_command_and_status(self):
         """As `--help` tells of them, and each line of standard error that the rules have."""
-        pages = os.path.join(unpacked(built(self.folder), self.folder), "usr/share/man/man1")
+        pages = os.path.join(unpacked(self.path, self.folder), "usr/share/man/man1")
         with gzip.open(os.path.join(pages, "stockdesk.1.gz"), "rt", encoding="utf-8") as file:
             page = file.read().replace("\\-", "-")
         for command in "init run orders deliveries bounds sheet article serve upgrade".split():
@@ -98,7 +104,7 @@ class Package(ProgramCase):
 
     def test_the_documents_lead_to_what_is_there(self):
         """In the package, which has no sources."""
-        tree = unpacked(built(self.folder), self.folder)
+        tree = unpacked(self.path, self.folder)
         documents = glob.glob(os.path.join(tree, "usr/share/doc/stockdesk/**/*.md"), recursive=True)
         links = [(document, *link) for document in documents for link in links_of(document)]
         expect(len(documents) > 10 and len(links) > 50, f"{len(documents)} documents, {len(links)} links")
@@ -118,14 +124,14 @@ class Package(ProgramCase):
             inside("umask 077; cd /two && LANG=C.UTF-8 TZ=Asia/Tokyo /sources/deploy/package")
             inside("cmp /one/stockdesk_*_amd64.deb /two/stockdesk_*_amd64.deb")
             [path] = glob.glob(os.path.join(self.folder, "debian/one/*.deb"))
-            note(f"as here: {bytes_of(path) == bytes_of(built(self.folder))}")
+            note(f"as here: {bytes_of(path) == bytes_of(self.path)}")
 
     @needs("mmdebstrap", "chroot")
     @unittest.skipIf(os.geteuid() != 0, "only root can make a Debian")
     def test_a_package_comes_and_goes(self):
         """Installed, upgraded, removed, purged: the program runs in between, systemd is asked for what each step wants, and what
         is a shop's is as it was: desks and copies, their owner's alone, and settings."""
-        path, root = built(self.folder), os.path.join(self.folder, "debian")
+        path, root = self.path, os.path.join(self.folder, "debian")
         later = newer(path, self.folder)
         with fresh_debian(root, "--include=python3,systemd") as inside:
             for package, name in [(path, "first.deb"), (later, "later.deb")]:
