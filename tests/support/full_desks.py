@@ -39,11 +39,12 @@ def full_rows() -> list[str]:
     """A desk of 10,000 fields and 90,000 orders that has 1,000 places left for what is not the end of an open order."""
     generator, desk = random.Random(1986), Rules()
     desk.clock = CLOCK
-    desk.fields = {(f"N{n % 20}", f"A{n // 20}"): Field(0, 0, MIDDLE, MIDDLE) for n in range(FIELDS)}
+    names = [(f"N{n % 20}", f"A{n // 20}") for n in range(FIELDS)]
+    desk.fields = {name: Field(0, 0, MIDDLE, MIDDLE) for name in names}
     for index, number in enumerate(generator.sample(range(1, 900_000_000), ORDERS)):
         add_order(desk, generator, number, OPEN if index < OPEN_ORDERS else generator.choice([COMMITTED, ABORTED]))
     for place in range(1, 3_001):
-        desk.move(place, generator.choice(list(desk.fields)), generator.choice([-50, 70]))
+        desk.move(place, generator.choice(names), generator.choice([-50, 70]))
     leave_no_room(desk)
     desk.kept = {f"K{number:06}": (number, "expire 0") for number in range(1, PLACES + 1)}
     return lines_of_rows(tables_by(desk), ",")
