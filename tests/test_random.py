@@ -150,11 +150,17 @@ class Scripts(RandomCase):
         note(str(self.seen))
 
     def on_a_nearly_full_desk(self, chance: Chance) -> list[bytes]:
+        """An order is open before the last places are taken, and its end comes last."""
         known = Known(chance.one_of([names_of(1, 1), names_of(2, 1)]), OPENING)
         known.desk.kept = dict(self.taken)
         for name in known.names:
             known.say(known.key() + f" field {' '.join(name)} {WIDE}".encode())
+        field = " ".join(known.names[0])
+        moves = [f"deliver {field} 1"] * chance.whole(LEFT - 4, LEFT)
+        for command in [f"open 1 4000000000 take {field} 1", *moves]:
+            known.say(known.key() + f" {command}".encode())
         say_lines(chance, known, average=30, most=60)
+        known.say(known.key() + b" commit 1")
         return known.lines
 
     def expect_full(self, case: list[bytes]) -> None:
