@@ -111,7 +111,7 @@ def bounds_words(chance: Chance, known: Known) -> str:
         return f"{' '.join(name)} {chance.one_of(BOUNDS).rsplit(' ', 1)[0]}"
     _, inf, sup = known.desk.numbers(name)
     lo, hi = inf - chance.one_of([0, 5, -1]), sup + chance.one_of([0, 5, 100, -1])
-    return f"{' '.join(name)} {max(0, lo)} {max(0, min(hi, 1_000_000_000))}"
+    return " ".join([*name, *(str(max(0, min(level, 1_000_000_000))) for level in (lo, hi))])
 
 
 def until(chance: Chance, known: Known) -> int:
