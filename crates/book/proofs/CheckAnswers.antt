@@ -1,6 +1,6 @@
 -- What the comparisons of a program say of the checks of a command.
-use Rattle.ledger.proofs.Prelude.{Add, Bool, BreaksBound, Check, Command, Deliver, Each, Err, FallsBelow, Field, FirstFailure, Good, IsDistinct, IsFalse, IsNone, IsSome, IsTrue, Ledger, List, MAX_ORDER_LINES, More, Name, None, Ok, OpenLine, Option, Order, Refusal, Result, RisesAbove, Some, Take, Way, Writeoff, [], ap, arith, bound, checks, drop, false, field_named, find, full, get_or, inl, inr, is_open, is_some, is_transfer, length, length-take, line_checks, line_name, line_on, loose_checks, map, name_of, new_line, new_order, next, no_field, numbered, on, order_numbered, pos, same_name, subst, sym, take, true≢false, with_order, ℕ, ◌++◌, ◌+ℤ◌, ◌+◌, ◌-ℤ◌, ◌<ℤ◌, ◌<◌, ◌↔◌, ◌∙◌, ◌∷◌, ◌≡◌, ◌≢◌, ◌≤◌}
-use Rattle.book.proofs.Prelude.{FieldEntry, Finds, IsUpToDate, field_of}
+use Rattle.ledger.proofs.Prelude.{Add, Bool, BreaksBound, Check, Command, Deliver, Each, Err, FallsBelow, Field, FirstFailure, Good, IsFalse, IsNone, IsSome, IsTrue, Ledger, List, MAX_ORDER_LINES, More, Name, None, Ok, OpenLine, Option, Order, Refusal, Result, RisesAbove, Some, Take, Way, Writeoff, [], ap, arith, bound, checks, drop, false, field_named, find, full, get_or, inl, inr, is_open, is_some, is_transfer, length, length-take, line_checks, line_name, line_on, loose_checks, map, name_of, new_line, new_order, next, no_field, numbered, on, order_numbered, pos, same_name, subst, sym, take, true≢false, with_order, ℕ, ◌++◌, ◌+ℤ◌, ◌+◌, ◌-ℤ◌, ◌<ℤ◌, ◌<◌, ◌↔◌, ◌∙◌, ◌∷◌, ◌≡◌, ◌≢◌, ◌≤◌, own_field, IsDistinct}
+use Rattle.book.proofs.Prelude.{FieldEntry, Finds, IsUpToDate, field_of, IsFound}
 use Rattle.ledger.specs.declared.order.Kind.{Kind}
 use Rattle.ledger.specs.declared.order.Line.{Line}
 use Rattle.words.specs.declared.reply.Refusal.TheVariants.{Full, OtherWay, TooManyLines, TransferFixed}
@@ -36,11 +36,11 @@ go_on [] ds found e k = k
 go_on (c ∷ cs) ds found (inl h) k = let e = h.1 in cc
 go_on (c ∷ cs) ds found (inr h) k = inr (h.0, go_on cs ds found h.1 k)
 
-pub finds_too : {T : Type 0} (cs ds : List Check) (P Q : T → Type 0) (r : Result T (Refusal × ℕ))
-    → ((found : Option (Refusal × ℕ)) → FirstFailure cs found → FirstFailure ds found) → ((t : T) → P t → Q t)
-    → Finds cs P r → Finds ds Q r
-finds_too cs ds P Q (Ok t) f g k = (f None k.0, g t k.1)
-finds_too cs ds P Q (Err x) f g k = f (Some x) k
+-- a command that makes and changes no field itself finds none
+pub finds_none : (A : Ledger) (c : Command) (r : Result (Option (Name × FieldEntry)) (Refusal × ℕ)) → own_field c ≡ None
+    → Finds (checks A c) (λ found. found ≡ None) r → Finds (checks A c) (IsFound A c) r
+finds_none A c (Ok found) own k = (k.0, subst (IsFound A c) (sym k.1) own)
+finds_none A c (Err x) own k = k
 
 -- a failure that `?` passes up
 pub fails_with : {T : Type 0} (cs : List Check) (P : T → Type 0) (r : Result T (Refusal × ℕ)) (x : Refusal × ℕ)

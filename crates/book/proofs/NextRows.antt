@@ -11,14 +11,21 @@ use Rattle.ledger.proofs.Sums.{each}
 
 -- ---- how many are counted
 
-pub viewed : {X Y : Type 0} (view : X → Y) (p : Y → Bool) (xs : List X) → count_by p (map view xs) ≡ count_by (λ x. p (view x)) xs
+pub viewed : {X Y : Type 0} (view : X → Y) (p : Y → Bool) (xs : List X)
+    → count_by p (map view xs) ≡ count_by (λ x. p (view x)) xs
 viewed view p [] = refl
-viewed view p (x ∷ xs) = counted p (view x) (map view xs) ∙ ap (λ n. (if p (view x) then 1 else 0) + n) (viewed view p xs) ∙ sym (counted (λ x. p (view x)) x xs)
+viewed view p (x ∷ xs) =
+    counted p (view x) (map view xs) ∙ ap (λ n. (if p (view x) then 1 else 0) + n) (viewed view p xs)
+    ∙ sym (counted (λ x. p (view x)) x xs)
 
 -- ---- the rows that change
 
-fields_changed : (A : Ledger) (r : Request) → filter (λ (row : FieldCells). changes_field A r.command (name_of row.branch row.article)) (map (field_row (accept A r)) (accept A r).fields) ≡ field_rows A r
-fields_changed A r = sym (filter-each (λ (row : FieldCells). changes_field A r.command (name_of row.branch row.article)) (field_row (accept A r)) (field_row (accept A r)) (λ f. changes_field A r.command f.name) (accept A r).fields
+fields_changed : (A : Ledger) (r : Request)
+    → filter (λ (row : FieldCells). changes_field A r.command (name_of row.branch row.article))
+    (map (field_row (accept A r)) (accept A r).fields) ≡ field_rows A r
+fields_changed A r =
+    sym (filter-each (λ (row : FieldCells). changes_field A r.command (name_of row.branch row.article))
+    (field_row (accept A r)) (field_row (accept A r)) (λ f. changes_field A r.command f.name) (accept A r).fields
     (each (λ f. refl) (accept A r).fields) (each (λ f e. refl) (accept A r).fields))
 
 -- the rows that the book makes for the request
@@ -26,10 +33,13 @@ abbrev pub rows_made : Ledger → Request → Content
 rows_made A r = record (changed_rows A r no_content) { desk = desk_row (accept A r) ∷ []; fields = field_rows A r }
 
 -- they are those that change
-pub changes_to : (A : Ledger) (r : Request) (rows : Content) → Good A → IsKey r.key → IsInRange r.command → IsAccepted A r → rows ≡ rows_made A r → ChangesTo A r rows
+pub changes_to : (A : Ledger) (r : Request) (rows : Content) → Good A → IsKey r.key → IsInRange r.command
+    → IsAccepted A r → rows ≡ rows_made A r → ChangesTo A r rows
 changes_to A r rows g key range ok is = record {
   changed = changed;
-  suffice = λ C D x y. ap (λ (new : Content). put_content new C) (changed D y) ∙ changes_suffice A r C D g key range (no_key _ ok.0) ok.1 x y;
+  suffice =
+      λ C D x y. ap (λ (new : Content). put_content new C) (changed D y)
+      ∙ changes_suffice A r C D g key range (no_key _ ok.0) ok.1 x y;
   desk = ap (λ (rows : Content). rows.desk) is;
 }
   where
@@ -43,12 +53,14 @@ changes_to A r rows g key range ok is = record {
 pub good_now : (b : Inside) (v : BookView) → view_of b ≡ v → Good (ledger_of b) → Good v.ledger
 good_now b v e g = subst (λ (v : BookView). Good v.ledger) e g
 
-pub good_next : (b : Inside) (v : BookView) (r : Request) → view_of b ≡ v → Good (ledger_of b) → IsKey r.key → IsInRange r.command → IsAccepted v.ledger r → Good (accept v.ledger r)
+pub good_next : (b : Inside) (v : BookView) (r : Request) → view_of b ≡ v → Good (ledger_of b) → IsKey r.key
+    → IsInRange r.command → IsAccepted v.ledger r → Good (accept v.ledger r)
 good_next b v r e g key range ok = good_accept v.ledger r (good_now b v e g) key range (no_key _ ok.0) ok.1
 
 -- the place of the command is there
 pub place_fits : (A : Ledger) (r : Request) → Good (accept A r) → places A + 1 ≤ MAX_PLACES
 place_fits A r g = grind (arith, length-insert)
 
-pub place_is : (b : Inside) (v : BookView) (n : ℕ) → view_of b ≡ v → n ≡ length b.kept.entries → n + 1 ≡ places v.ledger + 1
+pub place_is : (b : Inside) (v : BookView) (n : ℕ) → view_of b ≡ v → n ≡ length b.kept.entries
+    → n + 1 ≡ places v.ledger + 1
 place_is b v n e is = cc ((length-of-map kept_of b.kept.entries))

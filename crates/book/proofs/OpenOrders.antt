@@ -1,7 +1,7 @@
 -- The numbers of open orders, in order.
-use Rattle.ledger.proofs.Prelude.{[], ◌&&◌, ◌+◌, ◌-◌, ◌<◌, ◌∙◌, ◌∷◌, ◌≡◌, ◌≤◌, ◌⊎◌, ◌++◌, Bool, Each, Equal, Greater, IsSome, IsStrictlySortedBy, Less, List, MatchOrdering, None, Option, Order, Ordering, Some, ap, arith, common_steps, cond, count_by, false, filter, find, get_or, get_or_from_slice_get, if◌then◌else◌, inl, inr, insert_entry, is_at, is_eq, is_open, length, lookup, map, match_ordering, nat_cmp, nat_le, open_state, option_map, refl, slice_get, slice_get_within, subst, suc, sym, true, zero, ℕ}
+use Rattle.ledger.proofs.Prelude.{[], ◌&&◌, ◌+◌, ◌<◌, ◌∙◌, ◌∷◌, ◌≡◌, ◌≤◌, ◌⊎◌, ◌++◌, Bool, Each, Equal, Greater, IsSome, IsStrictlySortedBy, Less, List, MatchOrdering, None, Option, Ordering, Some, ap, arith, cond, count_by, false, filter, find, get_or, get_or_from_slice_get, if◌then◌else◌, inl, inr, insert_entry, is_at, is_eq, is_open, length, lookup, map, match_ordering, nat_cmp, nat_le, open_state, option_map, refl, slice_get, slice_get_within, subst, suc, sym, true, zero, ℕ}
 use Rattle.book.proofs.Prelude.{OrderEntry, order_of}
-use Rattle.std.specs.Prelude.{Err, Ok, Result, MatchResult}
+use Rattle.std.specs.Prelude.{Result, MatchResult}
 use Rattle.std.specs.List.{insert, remove}
 use Rattle.std.specs.List.Sorted.{IsBinarySearchResult}
 use Rattle.std.specs.Map.{keys_of}

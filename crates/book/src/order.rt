@@ -2,6 +2,7 @@
 
 ghost use Rattle.std.specs.Prelude.{◌≡◌, MatchOption, count_by, find};
 ghost use Rattle.ledger.specs.Ledger.{on, open_state};
+ghost use Rattle.book.specs.inner.RunningNumbers.{IsShare};
 ghost use Rattle.ledger.specs.inner.Shares.{share_of};
 
 use escrow::{FieldName, Moment, OrderNo};
@@ -27,7 +28,8 @@ pub(crate) const NO_SHARE: Share = Share {
 
 /// The share of a line whose order has the state, and is firm or not.
 pub(crate) fn share_of(line: &Line, state: State, firm: bool) -> Share
-    ensures { result ≡ share_of state firm line.now }
+    ensures share { result ≡ share_of state firm line.now }
+    ensures levels { IsShare result }
 {
     let (held, used) = (line.held.get(), line.used.get());
     match state {

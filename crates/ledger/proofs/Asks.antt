@@ -1,6 +1,6 @@
 -- A command that asks for stock: so much more is held or moved on one field. Where the check of the bound passes, each
 -- field keeps its room; and the check, over all outcomes, is one comparison with the ledger before.
-use Rattle.ledger.proofs.Prelude.{Add, Bool, BreaksBound, Changes, Each, Field, Good, IsDistinct, IsNone, IsSomeAnd, IsStrictlySortedBy, Kind, Ledger, Line, List, MatchOption, MayHoldMore, Move, Name, None, Open, OpenLine, Option, Order, Share, Some, State, Take, Way, [], add_hold, add_part, added_by_order, ap, append-nil, append_assoc, arith, bound, by_lt_z, false, field_named, find, held_to_add, held_to_take, hold_more, if_add, if_take, if◌then◌else◌, ints, is_open, is_some, length, line_checks, line_name, line_on, map, moved_by_order, nat_cmp, nat_lt, new_line, new_order, numbered, on, open_state, option_map_or, order_numbered, orders_after, places, pos, raise_held, refl, same_name, settled, settled_part, share_of, signed, steps, subst, sym, take_part, taken_by_order, total, true, true≢false, with_order, ℕ, ℤ, ◌++◌, ◌+ℤ◌, ◌+◌, ◌-ℤ◌, ◌<ℤ◌, ◌==◌, ◌↔◌, ◌∙◌, ◌∷◌, ◌≡◌, ◌≤ℤ◌, ◌≤◌}
+use Rattle.ledger.proofs.Prelude.{Add, Bool, BreaksBound, Changes, Each, Field, Good, IsDistinct, IsNone, IsSomeAnd, IsStrictlySortedBy, Kind, Ledger, Line, List, MatchOption, MayHoldMore, Move, Name, None, Open, OpenLine, Option, Order, Share, Some, State, Take, Way, [], add_hold, add_part, added_by_order, ap, append-nil, append_assoc, arith, bound, by_lt_z, false, field_named, find, held_to_add, held_to_take, hold_more, if_add, if_take, if◌then◌else◌, ints, is_open, is_some, length, line_checks, line_name, line_on, map, moved_by_order, nat_cmp, nat_lt, new_line, new_order, numbered, on, open_state, option_map_or, order_numbered, orders_after, places, pos, raise_held, refl, same_name, settled, settled_part, share_of, signed, steps, subst, sym, take_part, taken_by_order, total, true, true≢false, turn, with_order, ℕ, ℤ, ◌++◌, ◌+ℤ◌, ◌+◌, ◌-ℤ◌, ◌<ℤ◌, ◌==◌, ◌↔◌, ◌∙◌, ◌∷◌, ◌≡◌, ◌≤ℤ◌, ◌≤◌}
 use Rattle.ledger.proofs.Bounds.{HasRoom, Sound, falls_below_iff, none-total, rises_above_iff}
 use Rattle.ledger.proofs.Falls.{sounds_from_good}
 use Rattle.ledger.proofs.FieldNames.{InOrder, OneOn, line_field, name_is, named, none_bad, one_on, one_on-map, one_on-push, other_way, same_self}
@@ -423,7 +423,7 @@ one_changed g change n z os sorted found = by (find (numbered n) os) (one_step n
   where
     by : (x : Option Order)
         → steps (Changes (numbered n) change) os
-        ≡ option_map_or (λ o. record { before = Some o; after = change o } ∷ []) x []
+        ≡ option_map_or (λ o. turn o (change o) ∷ []) x []
         → IsSomeAnd x (λ o. g (change o) ≡ g o +ℤ z)
         → total g (orders_after (Changes (numbered n) change) os) ≡ total g os +ℤ z
     by None is more = absurd more
@@ -451,10 +451,6 @@ module _ (A : Ledger) (n : ℕ) (l : OpenLine) (sound : Each Sound A.orders) (so
   adds_here : (f : Name) → f ≡ line_field l → AddsOn f l.way (only_held l.qty) A.orders with_more.orders
   adds_here f e = subst (λ b. AddsOn f l.way (held_if b l.qty) A.orders with_more.orders)
       (ap (same_name f) (sym e) ∙ same_self f) (more_adds f)
-
-  -- with an amount more on a line of it, so much more is held, and its value stays
-  pub more_sums : (f : Field) → f.name ≡ line_field l → HoldsMore A with_more f l.way l.qty
-  more_sums f e = holds_more A with_more.orders f l.way l.qty (adds_here f.name e)
 
   pub more_test : (i : ℕ) → (bound l.way with_more (line_field l) i).fails ↔ BreaksBound l.way A (line_field l) l.qty
   more_test i = held_test A with_more.orders l.way (line_field l) l.qty i sound_more (adds_here (line_field l) refl)

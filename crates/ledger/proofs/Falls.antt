@@ -1,14 +1,13 @@
 -- A command that asks for no stock: what its lines count for only falls, so that each field keeps its room.
-use Rattle.ledger.proofs.Prelude.{Aborted, Accepts, Add, AreHeld, AsksNoStock, Bool, Changes, Command, Committed, Each, Effect, Falls, Field, FirstFailure, Good, IsGoodOrder, IsSome, IsSomeAnd, IsStrictlySortedBy, IsTransferPair, IsTrue, Ledger, Line, List, MatchOption, Name, None, Nothing, Open, Opens, Option, Order, Request, Share, ShareStep, Some, State, Step, Take, Way, [], accept, add_part, added_on, ap, arith, before_on, change_lines, checks, effect, expires, false, field_named, find, if◌then◌else◌, insert_in_order, ints, is_open, is_transfer, line_name, lower_held, map, moved_by_command, name_of, nat_cmp, nat_le, nat_lt, next, not, numbered, on, open_state, order_numbered, orders_after, pos, raise_used, refl, same_name, set_firm, set_state, settled_part, share_of, share_steps, shares_of_step, steps, steps_of, subst, sym, take_part, total, true, true≢false, ℕ, ℤ, ◌&&◌, ◌++◌, ◌+ℤ◌, ◌+◌, ◌-ℤ◌, ◌-◌, ◌||◌, ◌∙◌, ◌∷◌, ◌≡◌, ◌≢◌, ◌≤ℤ◌, ◌≤◌}
-use Rattle.words.specs.declared.command.Command.TheVariants as command
+use Rattle.ledger.proofs.Prelude.{Aborted, Accepts, Add, AsksNoStock, Bool, Changes, Command, Committed, Each, Effect, Field, FirstFailure, Good, IsGoodOrder, IsSome, IsSomeAnd, IsStrictlySortedBy, IsTransferPair, IsTrue, Ledger, Line, List, MatchOption, Name, None, Nothing, Open, Opens, Option, Order, Request, Share, ShareStep, Some, State, Step, Take, Way, [], accept, add_part, added_on, ap, arith, change_lines, checks, effect, expires, false, field_named, find, if◌then◌else◌, insert_in_order, ints, is_open, is_transfer, line_name, lower_held, map, moved_by_command, name_of, nat_cmp, nat_le, nat_lt, next, not, numbered, on, open_state, order_numbered, orders_after, pos, raise_used, refl, same_name, set_firm, set_state, settled_part, share_of, share_steps, shares_of_step, steps, steps_of, subst, sym, take_part, true, true≢false, ℕ, ℤ, ◌&&◌, ◌++◌, ◌+ℤ◌, ◌+◌, ◌-ℤ◌, ◌-◌, ◌||◌, ◌∙◌, ◌∷◌, ◌≡◌, ◌≢◌, ◌≤ℤ◌, ◌≤◌}
 use Rattle.ledger.specs.Next.{fields_after}
-use Rattle.ledger.specs.Held.{added_by_order, taken_by_order}
 use Rattle.ledger.proofs.Bounds.{HasRoom, Sound, room_from_safe}
 use Rattle.ledger.proofs.FieldNames.{at_line, one_on, one_on-map}
 use Rattle.ledger.proofs.Lists.{NumbersInOrder, at_number}
 use Rattle.ledger.proofs.Passing.{AllPass, Usable, all_pass, loose_there, open_there, usable_there}
-use Rattle.ledger.proofs.Steps.{Goes, IsPart, StepGoes, add_counts, added_is, adds_next, after_turns, alike, before_is, before_least, changes_each, firm_goes, lines_go, part_of, shares_from, state_goes, step_if, steps_go, take_counts, taken_is, takes_next, turns, value_next}
-use Rattle.ledger.proofs.Sums.{each, each-both, each-flat, each-imp, each-insert, each-map, least_if, total-eq, total-not_negative}
+use Rattle.ledger.proofs.Steps.{Goes, StepGoes, adds_next, after_turns, changes_each, firm_goes, lines_go, shares_from, state_goes, step_if, takes_next, turns, value_next}
+use Rattle.ledger.proofs.Sums.{each, each-both, each-flat, each-imp, each-insert, each-map}
+use Rattle.words.specs.declared.command.Command.TheVariants as command
 
 -- ---- what holds of each order of the next ledger holds of those that the command makes
 
@@ -264,11 +263,15 @@ share_falls Open Aborted false n b l unended firm loose falls = record { settled
 share_falls Committed t m n b l unended firm loose falls = absurd (true≢false (sym unended))
 share_falls Aborted t m n b l unended firm loose falls = absurd (true≢false (sym unended))
 
-step_shares : (s : Step) → StepFalls s → Each (λ x. ShareFalls x.before x.after) (shares_of_step s)
+-- the line counts so then
+abbrev pub Falls : ShareStep → Type 0
+Falls x = ShareFalls x.before x.after
+
+step_shares : (s : Step) → StepFalls s → Each Falls (shares_of_step s)
 step_shares s falls = by s.before falls
   where
     go : (b : Order) → OrderFalls b s.after → (nr : ℕ) (bs ls : List Line) → LinesFall bs ls
-        → Each (λ x. ShareFalls x.before x.after) (shares_from (Some b) s.after nr bs ls)
+        → Each Falls (shares_from (Some b) s.after nr bs ls)
     go b falls nr [] [] lines = tt
     go b falls nr [] (l ∷ ls) lines = absurd lines
     go b falls nr (m ∷ ms) [] lines = absurd lines
@@ -276,42 +279,43 @@ step_shares s falls = by s.before falls
         (share_falls b.state s.after.state b.firm s.after.firm m l falls.goes.unended falls.goes.firm falls.loose lines.0, go b falls (nr + 1) ms ls lines.1)
 
     by : (b : Option Order) → MatchOption b ⊥ (λ b. OrderFalls b s.after)
-        → Each (λ x. ShareFalls x.before x.after) (shares_of_step (record { before = b; after = s.after }))
+        → Each Falls (shares_of_step (record { before = b; after = s.after }))
     by None falls = absurd falls
     by (Some b) falls = go b falls 1 b.lines s.after.lines falls.lines
 
-shares_fall : (A : Ledger) (c : Command) → Each StepFalls (steps_of A c)
-    → Each (λ x. ShareFalls x.before x.after) (share_steps A c)
+shares_fall : (A : Ledger) (c : Command) → Each StepFalls (steps_of A c) → Each Falls (share_steps A c)
 shares_fall A c falls = each-flat _ shares_of_step (steps_of A c) (each-imp step_shares (steps_of A c) falls)
 
 pub all_fall : (A : Ledger) (r : Request) → Accepts A r → AsksNoStock r.command → Each Falls (share_steps A r.command)
 all_fall A r accepts asks =
-    let falls = steps_fall A r.command (fit_from_good A accepts.before) accepts.accepted.1 asks in
-    each-both (λ x own same. record { settled = own.settled; used = own.used; same = same }) (share_steps A r.command)
-    (shares_fall A r.command falls) (alike A r.command (each-imp step_goes (steps_of A r.command) falls))
+    shares_fall A r.command (steps_fall A r.command (fit_from_good A accepts.before) accepts.accepted.1 asks)
 
 -- ---- the room of each field
 
--- where shares fall, the least that a field comes to does not sink, and the most does not rise
-abbrev Sinks : (settled takes adds : ℤ) → Type 0
-Sinks settled takes adds = (takes ≤ℤ settled) × ((settled +ℤ adds) ≤ℤ pos 0)
+-- where shares fall, the least that a field comes to rises, the most falls, and so does what is held
+pub record Lower (settled takes adds : ℤ) : Type 0 where
+  pub takes_fall : takes ≤ℤ pos 0
+  pub adds_fall : adds ≤ℤ pos 0
+  pub least : takes ≤ℤ settled
+  pub most : (settled +ℤ adds) ≤ℤ pos 0
 
-share_sinks : (b : Bool) (w : Way) (x y : Share) → ShareFalls x y
-    → Sinks (if b then settled_part w y -ℤ settled_part w x else pos 0)
+share_lowers : (b : Bool) (w : Way) (x y : Share) → ShareFalls x y
+    → Lower (if b then settled_part w y -ℤ settled_part w x else pos 0)
     (if b then take_part w y -ℤ take_part w x else pos 0) (if b then add_part w y -ℤ add_part w x else pos 0)
-share_sinks true Take x y falls =
-    let s = falls.settled in let u = falls.used in (omega (arith, ints), omega (arith, ints))
-share_sinks true Add x y falls =
-    let s = falls.settled in let u = falls.used in (omega (arith, ints), omega (arith, ints))
-share_sinks false w x y falls = (omega (arith, ints), omega (arith, ints))
+share_lowers true Take x y falls = let s = falls.settled in let u = falls.used in
+    record { takes_fall = omega (arith, ints); adds_fall = omega (arith, ints); least = omega (arith, ints); most = omega (arith, ints) }
+share_lowers true Add x y falls = let s = falls.settled in let u = falls.used in
+    record { takes_fall = omega (arith, ints); adds_fall = omega (arith, ints); least = omega (arith, ints); most = omega (arith, ints) }
+share_lowers false w x y falls =
+    record { takes_fall = omega (arith, ints); adds_fall = omega (arith, ints); least = omega (arith, ints); most = omega (arith, ints) }
 
-sinks : (f : Name) (xs : List ShareStep) → Each (λ x. ShareFalls x.before x.after) xs
-    → Sinks (added_on settled_part f xs) (added_on take_part f xs) (added_on add_part f xs)
-sinks f [] falls = (omega (arith, ints), omega (arith, ints))
-sinks f (x ∷ xs) falls =
-    let one = share_sinks (same_name f x.name) x.way x.before x.after falls.0 in let more = sinks f xs falls.1 in
-    let a = one.0 in let b = one.1 in let c = more.0 in let d = more.1 in
-    (omega (arith, ints), omega (arith, ints))
+pub lowers : (f : Name) (xs : List ShareStep) → Each Falls xs
+    → Lower (added_on settled_part f xs) (added_on take_part f xs) (added_on add_part f xs)
+lowers f [] falls =
+    record { takes_fall = omega (arith, ints); adds_fall = omega (arith, ints); least = omega (arith, ints); most = omega (arith, ints) }
+lowers f (x ∷ xs) falls =
+    let one = share_lowers (same_name f x.name) x.way x.before x.after falls.0 in let more = lowers f xs falls.1 in
+    record { takes_fall = omega (arith, ints); adds_fall = omega (arith, ints); least = omega (arith, ints); most = omega (arith, ints) }
 
 moves_nothing : (f : Name) (c : Command) → AsksNoStock c → moved_by_command f c ≡ pos 0
 moves_nothing f c asks = grind arith
@@ -362,35 +366,11 @@ fit-accept A key c asks fit passed = record {
     room : (f : Field) → HasRoom A f → HasRoom (next A c) f
     room f r =
         let low = r.0 in let high = r.1 in
-        let sum = sinks f.name (share_steps A c) (shares_fall A c falls) in let s = sum.0 in let t = sum.1 in
+        let sum = lowers f.name (share_steps A c) (shares_fall A c falls) in
         let none = moves_nothing f.name c asks in
         let value = value_next A c goes f in let takes = takes_next A c goes f.name in
         let adds = adds_next A c goes f.name in
         (omega (arith, ints), omega (arith, ints))
-
--- ---- what was counted is held
-
-counted_held : (part : Way → Share → ℤ) → IsPart part → ((w : Way) (s : Share) → pos 0 ≤ℤ part w s)
-    → (own : Order → ℤ) (f : Name) → ((o : Order) → own o ≡ part_of part f o)
-    → (A : Ledger) (c : Command) → Each StepGoes (steps_of A c)
-    → before_on part f (share_steps A c) ≤ℤ total own A.orders
-counted_held part is least own f same A c goes =
-    let was = before_is part is f (steps_of A c) goes in
-    let part_least = λ (o : Order). total-not_negative
-    (λ l. if on f l then part l.way (share_of o.state o.firm l) else pos 0)
-    (λ l. least_if (on f l) _ (least l.way (share_of o.state o.firm l))) o.lines in
-    let there = before_least (part_of part f) part_least (effect c) A.orders in
-    let all = total-eq own (part_of part f) A.orders (each same A.orders) in
-    omega (arith, ints)
-
-pub all_held : (A : Ledger) (r : Request) → Accepts A r → AreHeld A (share_steps A r.command)
-all_held A r accepts n =
-    let goes = steps_go A r.command accepts.before.orders_in_order accepts.accepted.1 in (
-      counted_held take_part take_counts (λ w s. omega (arith, ints)) (taken_by_order n) n
-          (taken_is n) A r.command goes,
-      counted_held add_part add_counts (λ w s. omega (arith, ints)) (added_by_order n) n
-          (added_is n) A r.command goes,
-    )
 
 -- ---- the fields of the lines are there
 

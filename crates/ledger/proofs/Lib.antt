@@ -19,4 +19,3 @@ pub mod EqualRows
 pub mod Puts
 pub mod NextContent
 pub mod OrderApart
-pub mod MoreSteps

@@ -10,8 +10,8 @@ pub use Rattle.ledger.specs.Next.{Changes, Effect, Nothing, Opens, accept, add_h
 pub use Rattle.escrow.specs.Choices.{IsWithin}
 pub use Rattle.ledger.specs.Outcomes.{FallsBelow, IsInfimum, IsSafe, IsSupremum, RisesAbove, article_total, moved_by, moved_by_order, settled, signed, total}
 pub use Rattle.ledger.specs.Rows.{Content, DeskCells, FieldCells, FirmCells, IsFieldRow, IsRowsOf, KeptCells, LineCells, OrderCells, desk_row, field_cmp, firm_cmp, firm_row, firm_rows, kept_cmp, kept_row, line_cmp, line_row, lines_from, move_cmp, move_row, order_cmp, order_lines, order_row}
-pub use Rattle.ledger.specs.inner.Shares.{Accepts, AreHeld, Falls, ShareStep, add_part, added_on, before_on, no_share, settled_part, share_before, share_of, share_step, share_steps, shares_of_step, take_part}
-pub use Rattle.ledger.specs.Steps.{LineStep, Step, becomes_firm, changes_held, changes_line, changes_state, changes_stock, line_steps, lines_of, orders_made, steps, steps_of}
+pub use Rattle.ledger.specs.inner.Shares.{Accepts, ShareStep, add_part, added_on, no_share, settled_part, share_before, share_of, share_step, share_steps, shares_of_step, take_part}
+pub use Rattle.ledger.specs.Steps.{LineStep, Step, becomes_firm, changes_held, changes_line, changes_state, changes_stock, line_steps, lines_of, opening, orders_made, steps, steps_of, turn}
 pub use Rattle.ledger.specs.Tables.{field_cells, firm_cells, kept_cells, line_cells, move_cells, no_content, order_cells, rows_among}
 pub use Rattle.ledger.specs.inner.ToldLedgers.{AreOthers, TellsField}
 pub use Rattle.ledger.specs.declared.limits.TheConstants.{MAX_PLACES}

@@ -1,14 +1,14 @@
 -- The steps of an accepted command: what stays of an order, and what the lines add up to.
-use Rattle.ledger.proofs.Prelude.{Aborted, Bool, Changes, Command, Committed, Each, Effect, Field, FirstFailure, Good, IsFalse, IsNone, IsSomeAnd, IsStrictlySortedBy, Ledger, Line, LineStep, List, MatchOption, Name, None, Nothing, Open, OpenLine, Opens, Option, Order, Share, ShareStep, Some, State, Step, Way, [], add_hold, add_part, added_by_order, added_on, ap, arith, before_on, change_lines, changes_field, changes_stock, checks, effect, expires, false, find, flat_map, hold_more, if_add, if_take, if◌then◌else◌, ints, is_open, is_settled, is_some, line_name, line_on, line_steps, lines_of, list_any, list_any-append, lower_held, map, moved_at_once, moved_by_command, moved_by_order, moves_after, name_of, nat_cmp, nat_lt, new_line, next, no_share, not, numbered, on, open_state, option_map, option_map_or, order_numbered, orders_after, own_field, places, pos, raise_held, raise_used, refl, same_name, set_firm, set_state, settled, settled_part, share_before, share_of, share_step, share_steps, shares_of_step, signed, steps, steps_of, sym, take_part, taken_by_order, total, true, true≢false, unsettled, ℕ, ℤ, ◌&&◌, ◌++◌, ◌+ℤ◌, ◌+◌, ◌-ℤ◌, ◌==◌, ◌||◌, ◌∙◌, ◌∷◌, ◌≡◌, ◌≤ℤ◌}
-use Rattle.words.specs.declared.command.Command.TheVariants as command
+use Rattle.ledger.proofs.Prelude.{Aborted, Bool, Changes, Command, Committed, Each, Effect, Field, FirstFailure, Good, IsFalse, IsNone, IsSomeAnd, Ledger, Line, LineStep, List, MatchOption, Name, None, Nothing, Open, OpenLine, Opens, Option, Order, Share, ShareStep, Some, State, Step, Way, [], add_hold, add_part, added_by_order, added_on, ap, arith, change_lines, changes_field, changes_stock, checks, effect, expires, false, find, flat_map, hold_more, if_add, if_take, if◌then◌else◌, ints, is_open, is_settled, is_some, line_name, line_on, line_steps, lines_of, list_any, list_any-append, lower_held, map, moved_at_once, moved_by_command, moved_by_order, moves_after, name_of, nat_cmp, nat_lt, new_line, next, no_share, not, numbered, on, open_state, option_map, option_map_or, order_numbered, orders_after, own_field, places, pos, raise_held, raise_used, refl, same_name, set_firm, set_state, settled, settled_part, share_before, share_of, share_step, share_steps, shares_of_step, signed, steps, steps_of, sym, take_part, taken_by_order, total, true, true≢false, turn, unsettled, ℕ, ℤ, ◌&&◌, ◌++◌, ◌+ℤ◌, ◌+◌, ◌-ℤ◌, ◌==◌, ◌||◌, ◌∙◌, ◌∷◌, ◌≡◌, IsStrictlySortedBy}
 use Rattle.std.specs.Prelude.{cond, option_to_list}
 use Rattle.std.specs.List.{filter}
 use Rattle.ledger.specs.Changes.{stock_lines}
 use Rattle.ledger.specs.Held.{held_to_add, held_to_take}
 use Rattle.ledger.proofs.Lists.{NumbersInOrder, any-map, any_none, any_same, at_number, none_after, number_is, or_false}
-use Rattle.ledger.proofs.Sums.{each, each-both, each-flat, each-imp, total-eq, total-flat, total-insert, total-not_negative, total-push, total-zero}
+use Rattle.ledger.proofs.Sums.{each, each-both, each-flat, each-imp, total-eq, total-flat, total-insert, total-push, total-zero}
 use Rattle.ledger.specs.Next.{fields_after}
 use Rattle.ledger.proofs.Passing.{AllPass, all_pass}
+use Rattle.words.specs.declared.command.Command.TheVariants as command
 
 -- ---- what stays of an order
 
@@ -113,10 +113,6 @@ effect_goes A c sorted h = by c (all_pass (checks A c) h)
     by (command.Expire now) p = each (λ o e. state_goes Aborted o (expired_open now o e)) A.orders
     by c p = tt
 
--- the order turned into another
-abbrev pub turned : Order → Order → Step
-turned o new = record { before = Some o; after = new }
-
 -- the steps of a change, and the orders after it
 abbrev pub turns : (Order → Bool) → (Order → Order) → List Order → List Step
 turns names change os = steps (Changes names change) os
@@ -130,14 +126,14 @@ shares_from b a nr bs ls = map (share_step (record { before = b; after = a })) (
 
 -- a step of an order that the change names
 abbrev pub step_if : Bool → Order → Order → List Step
-step_if b o new = if b then turned o new ∷ [] else []
+step_if b o new = if b then turn o new ∷ [] else []
 
 pub changes_each : (P : Step → Type 0) (names : Order → Bool) (change : Order → Order) (os : List Order)
-    → Each (λ o. names o ≡ true → P (turned o (change o))) os → Each P (turns names change os)
+    → Each (λ o. names o ≡ true → P (turn o (change o))) os → Each P (turns names change os)
 changes_each P names change [] h = tt
 changes_each P names change (o ∷ os) h = by (names o) h.0 (changes_each P names change os h.1)
   where
-    by : (b : Bool) → (b ≡ true → P (turned o (change o))) → Each P (turns names change os)
+    by : (b : Bool) → (b ≡ true → P (turn o (change o))) → Each P (turns names change os)
         → Each P (step_if b o (change o) ++ turns names change os)
     by true own more = (own refl, more)
     by false own more = more
@@ -159,7 +155,7 @@ steps_go A c sorted h = by (effect c) (effect_goes A c sorted h)
 -- the steps of a command that changes the order under a number
 pub one_step : (n : ℕ) (change : Order → Order) (os : List Order)
     → IsStrictlySortedBy nat_cmp (map (λ o. o.number) os)
-    → steps (Changes (numbered n) change) os ≡ option_map_or (λ o. turned o (change o) ∷ []) (find (numbered n) os) []
+    → steps (Changes (numbered n) change) os ≡ option_map_or (λ o. turn o (change o) ∷ []) (find (numbered n) os) []
 unfolding IsStrictlySortedBy
 one_step n change [] sorted = refl
 one_step n change (o ∷ os) sorted = by (o.number == n) refl (one_step n change os sorted.1)
@@ -170,10 +166,10 @@ one_step n change (o ∷ os) sorted = by (o.number == n) refl (one_step n change
 
     by : (b : Bool) → (o.number == n) ≡ b
         → steps (Changes (numbered n) change) os
-        ≡ option_map_or (λ o. turned o (change o) ∷ []) (find (numbered n) os) []
+        ≡ option_map_or (λ o. turn o (change o) ∷ []) (find (numbered n) os) []
         → step_if b o (change o) ++ steps (Changes (numbered n) change) os
-        ≡ option_map_or (λ o. turned o (change o) ∷ []) (if b then Some o else find (numbered n) os) []
-    by true e more = ap (λ (ss : List Step). turned o (change o) ∷ ss) (none os (none_after n o os e sorted.0))
+        ≡ option_map_or (λ o. turn o (change o) ∷ []) (if b then Some o else find (numbered n) os) []
+    by true e more = ap (λ (ss : List Step). turn o (change o) ∷ ss) (none os (none_after n o os e sorted.0))
     by false e more = more
 
 -- ---- sums over lines
@@ -263,36 +259,24 @@ steps_add g (Changes names change) os = go os
         by true more = omega (arith, ints)
         by false more = omega (arith, ints)
 
--- what was there of them was there
-pub before_least : (g : Order → ℤ) → ((o : Order) → pos 0 ≤ℤ g o) → (e : Effect) (os : List Order)
-    → total (before g) (steps e os) ≤ℤ total g os
-before_least g least Nothing os = total-not_negative g least os
-before_least g least (Opens o) os = let more = total-not_negative g least os in omega (arith, ints)
-before_least g least (Changes names change) os = go os
-  where
-    go : (os : List Order) → total (before g) (turns names change os) ≤ℤ total g os
-    go [] = omega (arith, ints)
-    go (o ∷ os) = by (names o) (least o) (go os)
-      where
-        by : (b : Bool) → pos 0 ≤ℤ g o → total (before g) (turns names change os) ≤ℤ total g os
-            → total (before g) (step_if b o (change o) ++ turns names change os) ≤ℤ (g o +ℤ total g os)
-        by true own more = omega (arith, ints)
-        by false own more = omega (arith, ints)
-
 -- ---- what the lines of a step add up to
 
 module _ (part : Way → Share → ℤ) (is : IsPart part) (f : Name) where
-  -- what the lines of steps count for then, as `before_on` says what they counted for before
+  -- what the lines of steps counted for before
+  abbrev before_on : List ShareStep → ℤ
+  before_on xs = total (λ x. if same_name f x.name then part x.way x.before else pos 0) xs
+
+  -- what they count for then
   abbrev pub after_on : List ShareStep → ℤ
   after_on xs = total (λ x. if same_name f x.name then part x.way x.after else pos 0) xs
 
-  difference : (xs : List ShareStep) → added_on part f xs +ℤ before_on part f xs ≡ after_on xs
+  difference : (xs : List ShareStep) → added_on part f xs +ℤ before_on xs ≡ after_on xs
   difference [] = refl
   difference (x ∷ xs) = by (same_name f x.name) (difference xs)
     where
-      by : (b : Bool) → added_on part f xs +ℤ before_on part f xs ≡ after_on xs
+      by : (b : Bool) → added_on part f xs +ℤ before_on xs ≡ after_on xs
           → ((if b then part x.way x.after -ℤ part x.way x.before else pos 0) +ℤ added_on part f xs)
-          +ℤ ((if b then part x.way x.before else pos 0) +ℤ before_on part f xs)
+          +ℤ ((if b then part x.way x.before else pos 0) +ℤ before_on xs)
           ≡ (if b then part x.way x.after else pos 0) +ℤ after_on xs
       by true more = omega (arith, ints)
       by false more = omega (arith, ints)
@@ -310,7 +294,7 @@ module _ (part : Way → Share → ℤ) (is : IsPart part) (f : Name) where
 
   -- a new line counted for nothing
   new_before : (b : Option Order) (a : Order) (nr : ℕ) (ls : List Line)
-      → before_on part f (shares_from b a nr [] ls) ≡ pos 0
+      → before_on (shares_from b a nr [] ls) ≡ pos 0
   new_before b a nr [] = refl
   new_before b a nr (l ∷ ls) =
       let more = new_before b a (nr + 1) ls in
@@ -322,7 +306,7 @@ module _ (part : Way → Share → ℤ) (is : IsPart part) (f : Name) where
       nothing_new (Some o) = refl
 
   lines_before : (o a : Order) (nr : ℕ) (bs ls : List Line) → Grows bs ls
-      → before_on part f (shares_from (Some o) a nr bs ls)
+      → before_on (shares_from (Some o) a nr bs ls)
       ≡ total (λ m. if on f m then part m.way (share_of o.state o.firm m) else pos 0) bs
   lines_before o a nr [] ls grows = new_before (Some o) a nr ls
   lines_before o a nr (m ∷ ms) [] grows = absurd grows
@@ -330,18 +314,18 @@ module _ (part : Way → Share → ℤ) (is : IsPart part) (f : Name) where
       λ i. (if same_name f (grows.0.1 i) then part (grows.0.0 i) (share_of o.state o.firm m) else pos 0)
       +ℤ lines_before o a (nr + 1) ms ls grows.1 i
 
-  step_before : (s : Step) → StepGoes s → before_on part f (shares_of_step s) ≡ before (part_of part f) s
+  step_before : (s : Step) → StepGoes s → before_on (shares_of_step s) ≡ before (part_of part f) s
   step_before s goes = by s.before goes
     where
       by : (b : Option Order) → MatchOption b (Unit {0}) (λ b. Goes b s.after)
-          → before_on part f (shares_from b s.after 1 (option_map_or (λ o. o.lines) b []) s.after.lines)
+          → before_on (shares_from b s.after 1 (option_map_or (λ o. o.lines) b []) s.after.lines)
           ≡ option_map_or (part_of part f) b (pos 0)
       by None goes = new_before None s.after 1 s.after.lines
       by (Some b) goes = lines_before b s.after 1 b.lines s.after.lines goes.lines
 
   -- what steps count for before them, and what they add
   pub before_is : (ss : List Step) → Each StepGoes ss
-      → before_on part f (flat_map shares_of_step ss) ≡ total (before (part_of part f)) ss
+      → before_on (flat_map shares_of_step ss) ≡ total (before (part_of part f)) ss
   before_is ss goes = total-flat _ shares_of_step ss ∙ total-eq _ _ ss (each-imp step_before ss goes)
 
   after_is : (ss : List Step) → after_on (flat_map shares_of_step ss) ≡ total (λ s. part_of part f s.after) ss

@@ -12,11 +12,17 @@ pub record Step : Type 0 where
   pub before : Option Order
   pub after : Order
 
+-- the step that opens an order, and the one that makes another of it
+abbrev pub opening : Order → Step
+opening o = record { before = None; after = o }
+
+abbrev pub turn : Order → Order → Step
+turn b a = record { before = Some b; after = a }
+
 abbrev pub steps : Effect → List Order → List Step
 steps Nothing orders = []
-steps (Opens o) orders = record { before = None; after = o } ∷ []
-steps (Changes names change) orders =
-    flat_map (λ o. if names o then record { before = Some o; after = change o } ∷ [] else []) orders
+steps (Opens o) orders = opening o ∷ []
+steps (Changes names change) orders = flat_map (λ o. if names o then turn o (change o) ∷ [] else []) orders
 
 -- the steps that a command makes
 abbrev pub steps_of : Ledger → Command → List Step

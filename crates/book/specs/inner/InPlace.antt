@@ -1,7 +1,6 @@
 -- How lines and orders change in place, and when they may; a command's effect as the code has it.
 use Rattle.std.specs.Prelude.{ℕ, ◌+◌, ◌<◌, ◌≤◌, ◌≡◌, ◌||◌, true, List, [], ◌∷◌, ◌++◌, MatchOption, Some, find, if◌then◌else◌, is_some, map}
 use Rattle.std.specs.List.{AllByRecursion as Each}
-use Rattle.std.specs.Option.{option_map_or}
 use Rattle.std.specs.Vec.{vec_capacity, vec_len}
 use Rattle.escrow.specs.Ranges.{IsLevel}
 use Rattle.words.specs.declared.open_line.OpenLine.{OpenLine}
@@ -57,10 +56,6 @@ effect_seen seen.Nothing = Nothing
 effect_seen (seen.Opens o) = Opens (order_of o)
 effect_seen (seen.Changes n change) = Changes (numbered n) (changed_order change)
 effect_seen (seen.Expires now) = Changes (expires now) (set_state Aborted)
-
--- the order under that number, changed, if there is one
-abbrev pub made_of : Ledger → OrderChange → ℕ → List Order
-made_of A change n = option_map_or (λ o. changed_order change o ∷ []) (order_numbered A n) []
 
 -- how many lines more the change may want
 abbrev pub lines_wanted : OrderChange → ℕ

@@ -1,6 +1,5 @@
 //! The rows that an accepted request changes.
 
-ghost use Rattle.std.specs.List.{AllByRecursion as Each};
 ghost use Rattle.std.specs.Option.{option_copied};
 ghost use Rattle.std.specs.Prelude.{◌≡◌, ◌≤◌, string_bytes, IfOk, ◌∷◌, [], length, map, OnOk};
 ghost use Rattle.std.specs.Str.{IsUtf8};
@@ -9,7 +8,8 @@ ghost use Rattle.ledger.specs.Changes.{amount_rows};
 ghost use Rattle.ledger.specs.Next.{next};
 ghost use Rattle.ledger.specs.Rows.{desk_of, kept_row, kind_code, line_row, move_row, order_row, state_code, way_code};
 ghost use Rattle.ledger.specs.inner.Shares.{Accepts};
-ghost use Rattle.book.specs.inner.StepsSeen.{Makes, joined, step_rows, step_seen, step_to};
+ghost use Rattle.book.specs.inner.StepsSeen.{Makes, joined, step_rows, step_seen};
+ghost use Rattle.ledger.specs.Steps.{steps_of};
 ghost use Rattle.ledger.specs.Tables.{desk_cells, field_cells, kept_cells, line_cells, move_cells, no_content, order_cells, rows_among};
 ghost use Rattle.book.specs.Model.{entry_row, move_of, order_of};
 ghost use Rattle.book.specs.Plans.{ChangesTo};
@@ -207,6 +207,30 @@ fn push_lines(
     Ok(())
 }
 
+/// Appends the rows that change as the order becomes this one: its own, if it is new or its state changes, those of its
+/// lines, and the one that marks it as firm, if that is new.
+#[tactic(auto, using(crate::proofs::Among::appended))]
+pub(super) fn push_rows(
+    alloc: Global,
+    changes: &mut Vec<Change>,
+    before: Option<&OrderEntry>,
+    after: &Order,
+) -> Result<(), Memory>
+    requires { length after.now.1.lines.items ≤ MAX_ORDER_LINES }
+    ensures { OnOk result (rows_among changes.new.items ≡ joined (rows_among changes.old.items)
+        (step_rows (step_seen (option_copied before.entry) after.now ∷ []))) }
+{
+    if changes_state(before, after) {
+        changes.push(Change::Order(order_row(after)))?;
+    }
+    push_lines(alloc, changes, before, after)?;
+    if becomes_firm(before, after) {
+        let number = after.0.get() as i64;
+        changes.push(Change::Firm(FirmRow { number }))?;
+    }
+    Ok(())
+}
+
 impl Book {
     /// The clock once the command is carried out.
     pub(super) fn clock_after(&self, command: &Command) -> Moment
@@ -218,58 +242,17 @@ impl Book {
         }
     }
 
-    /// Appends the rows that change as the order becomes this one: its own, if it is new or its state changes, those of
-    /// its lines, and the one that marks it as firm, if that is new.
-    #[tactic(auto, using(crate::proofs::Among::appended))]
-    fn push_step(
-        &self,
-        alloc: Global,
-        changes: &mut Vec<Change>,
-        order: &Order,
-    ) -> Result<(), Memory>
-        requires { length order.now.1.lines.items ≤ MAX_ORDER_LINES }
-        ensures { OnOk result (rows_among changes.new.items ≡ joined (rows_among changes.old.items)
-            (step_rows (step_to self.now.ledger (order_of order.now) ∷ []))) }
-    {
-        let before = self.order_entry(order.0);
-        if changes_state(before, order) {
-            changes.push(Change::Order(order_row(order)))?;
-        }
-        push_lines(alloc, changes, before, order)?;
-        if becomes_firm(before, order) {
-            let number = order.0.get() as i64;
-            changes.push(Change::Firm(FirmRow { number }))?;
-        }
-        Ok(())
-    }
-
-    /// Appends the rows that change as the orders become these.
-    fn push_steps(
-        &self,
-        alloc: Global,
-        changes: &mut Vec<Change>,
-        orders: &[Order],
-    ) -> Result<(), Memory>
-        requires { Each (λ o. length o.1.lines.items ≤ MAX_ORDER_LINES) orders.now }
-        ensures { OnOk result (rows_among changes.new.items ≡ joined (rows_among changes.old.items)
-            (step_rows (map (step_to self.now.ledger) (map order_of orders.now)))) }
-    {
-        for order in orders {
-            self.push_step(alloc, changes, order)?;
-        }
-        Ok(())
-    }
-
-    /// The rows that the accepted request changes, which puts these parts into the book, those of each table in the
-    /// order of its key.
+    /// The rows that the accepted request changes, which puts these parts into the book, with those of its orders.
     pub(super) fn changes_of(
         &self,
         alloc: Global,
         request: &Request,
         parts: &PlanParts,
+        mut rows: Vec<Change>,
     ) -> Result<Vec<Change>, Memory>
         requires accepts { Accepts self.now.ledger request.now }
         requires makes { Makes self.now.ledger request.now parts.now }
+        requires steps { rows_among rows.items ≡ step_rows (steps_of self.now.ledger request.now.command) }
         ensures changes { IfOk result (λ changes. ChangesTo self.now.ledger request.now (rows_among changes.items)) }
         ensures fields { IfOk result (λ changes. map entry_row parts.now.fields.entries
             ≡ (rows_among changes.items).fields) }
@@ -280,7 +263,7 @@ impl Book {
         if let Some(entry) = &parts.moved {
             changes.push(Change::Move(move_row(alloc, entry)?))?;
         }
-        self.push_steps(alloc, &mut changes, &parts.orders)?;
+        changes.append(&mut rows)?;
         let kept = kept_row(alloc, parts.key, parts.place, &parts.words)?;
         changes.push(Change::Kept(kept))?;
         Ok(changes)

@@ -9,29 +9,25 @@ ghost use Rattle.ledger.specs.Answers.{bounds_checks, checks, loose_checks, no_f
 ghost use Rattle.book.specs.inner.Checking.{Finds, IsFound, bound_checks, hold_checks, refusal_of};
 ghost use Rattle.ledger.specs.Ledger.{is_open, order_numbered, Ledger, Name, field_named, on, open_orders, places};
 ghost use Rattle.book.specs.Model.{order_of, field_of};
-ghost use Rattle.escrow.specs.Escrow.{bound_of, bounded, holding};
+ghost use Rattle.escrow.specs.Escrow.{bound_of, bounded};
 ghost use Rattle.ledger.specs.Good.{Good};
 ghost use Rattle.ledger.specs.Next.{new_line, new_order};
-ghost use Rattle.book.specs.inner.RunningNumbers.{CountsAll, IsUpToDate, new_share};
+ghost use Rattle.book.specs.inner.RunningNumbers.{IsUpToDate};
 ghost use Rattle.ledger.specs.declared.order.Kind.{Kind};
 
-use super::fields::{Fields, one_field, with_field};
 use super::made::new_line;
 use super::plan::{moved_at_once, transfer_lines};
-use super::{Book, FieldEntry};
+use super::{Book, Field, FieldEntry};
 use crate::order::{OrderEntry, is_on, line_in};
 use escrow::{Bound, FieldName, Level, Moment, OrderNo, Qty, Quantity, Rebound, Way};
-use index::InOrder;
 use ledger::{Kind, MAX_FIELDS, MAX_ORDERS, MAX_PLACES, State};
-use std::alloc::Global;
-use words::{Command, MAX_ORDER_LINES, Memory, OpenLine, Refusal};
+use words::{Command, MAX_ORDER_LINES, OpenLine, Refusal};
 
 /// A refusal, with the number of the line at fault, from 1; 0 where no line is.
 type Failure = (Refusal, u64);
 
-/// The fields that a command makes or changes, as they are then, or that memory for them was refused; nothing of a
-/// command that asks for no stock.
-pub(super) type Found = Option<Result<Fields, Memory>>;
+/// The field that a command itself makes or changes, as it is then, if there is one.
+pub(super) type Found = Option<Field>;
 
 impl Book {
     /// Whether so many more places do not fit.
@@ -42,9 +38,8 @@ impl Book {
         self.kept.len() + self.open_count() + more > MAX_PLACES
     }
 
-    /// The refusal and the line of the first check of the command that fails, or else what was found. No check fails for
-    /// want of memory.
-    pub(super) fn check(&self, alloc: Global, command: &Command) -> Result<Found, Failure>
+    /// The refusal and the line of the first check of the command that fails, or else what was found. Takes no memory.
+    pub(super) fn check(&self, command: &Command) -> Result<Found, Failure>
         ensures { Finds (checks self.now.ledger command.now) (IsFound self.now.ledger command.now) result }
     {
         match *command {
@@ -54,17 +49,17 @@ impl Book {
                 lo,
                 hi,
                 start,
-            } => self.check_field(alloc, &FieldName { branch, article }, lo, hi, start),
-            Command::Deliver { .. } | Command::Writeoff { .. } => self.check_moving(alloc, command),
+            } => self.check_field(&FieldName { branch, article }, lo, hi, start),
+            Command::Deliver { .. } | Command::Writeoff { .. } => self.check_moving(command),
             Command::Rebound {
                 branch,
                 article,
                 lo,
                 hi,
-            } => self.check_rebound(alloc, &FieldName { branch, article }, lo, hi),
-            Command::Open { .. } | Command::Transfer { .. } => self.check_opening(alloc, command),
-            Command::More { .. } => self.check_change(alloc, command),
-            Command::Use { .. } | Command::Release { .. } => self.check_change(alloc, command),
+            } => self.check_rebound(&FieldName { branch, article }, lo, hi),
+            Command::Open { .. } | Command::Transfer { .. } => self.check_opening(command),
+            Command::More { .. } => self.check_change(command),
+            Command::Use { .. } | Command::Release { .. } => self.check_change(command),
             Command::Commit { number } => self.check_commit(number),
             Command::Abort { number } => self.check_abort(number),
             Command::Firm { number } => self.check_firm(number),
@@ -73,7 +68,7 @@ impl Book {
     }
 
     /// The same for a command that moves a value at once.
-    fn check_moving(&self, alloc: Global, command: &Command) -> Result<Found, Failure>
+    fn check_moving(&self, command: &Command) -> Result<Found, Failure>
         ensures { IsSome (moved_at_once command.now) → Finds (checks self.now.ledger command.now)
             (IsFound self.now.ledger command.now) result }
     {
@@ -85,13 +80,13 @@ impl Book {
         }
         let mut field = self.field_there(&moved.0, 0)?;
         match field.quantity.at_once(moved.1, moved.2) {
-            Ok(()) => Ok(Some(one_field(alloc, moved.0, field))),
+            Ok(()) => Ok(Some((moved.0, field))),
             Err(bound) => Err((refusal_of(bound), 0)),
         }
     }
 
     /// The same for a command that opens an order.
-    fn check_opening(&self, alloc: Global, command: &Command) -> Result<Found, Failure>
+    fn check_opening(&self, command: &Command) -> Result<Found, Failure>
         ensures { OnTrue (is_opening command.now) (Finds (checks self.now.ledger command.now)
             (IsFound self.now.ledger command.now) result) }
     {
@@ -100,7 +95,7 @@ impl Book {
                 number,
                 until,
                 lines,
-            } => self.check_open(alloc, *number, *until, lines.as_slice()),
+            } => self.check_open(*number, *until, lines.as_slice()),
             Command::Transfer {
                 number,
                 until,
@@ -110,14 +105,14 @@ impl Book {
                 qty,
             } => {
                 let lines = transfer_lines(*article, *from, *to, *qty);
-                self.check_open(alloc, *number, *until, &lines)
+                self.check_open(*number, *until, &lines)
             }
             _ => Ok(None),
         }
     }
 
     /// The same for a command that changes what an order holds.
-    fn check_change(&self, alloc: Global, command: &Command) -> Result<Found, Failure>
+    fn check_change(&self, command: &Command) -> Result<Found, Failure>
         ensures { OnTrue (is_change command.now) (Finds (checks self.now.ledger command.now)
             (IsFound self.now.ledger command.now) result) }
     {
@@ -128,7 +123,7 @@ impl Book {
                 branch,
                 article,
                 qty,
-            } => self.check_more(alloc, number, way, &FieldName { branch, article }, qty),
+            } => self.check_more(number, way, &FieldName { branch, article }, qty),
             Command::Use {
                 number,
                 branch,
@@ -147,7 +142,6 @@ impl Book {
 
     fn check_field(
         &self,
-        alloc: Global,
         name: &FieldName,
         lo: Level,
         hi: Level,
@@ -163,18 +157,12 @@ impl Book {
             return Err((Refusal::FieldThere, 0));
         }
         match Quantity::start(lo, hi, start) {
-            Ok(quantity) => Ok(Some(one_field(alloc, *name, FieldEntry { start, quantity }))),
+            Ok(quantity) => Ok(Some((*name, FieldEntry { start, quantity }))),
             Err(_) => Err((Refusal::BadBounds, 0)),
         }
     }
 
-    fn check_rebound(
-        &self,
-        alloc: Global,
-        name: &FieldName,
-        lo: Level,
-        hi: Level,
-    ) -> Result<Found, Failure>
+    fn check_rebound(&self, name: &FieldName, lo: Level, hi: Level) -> Result<Found, Failure>
         ensures { let c = command.Rebound name.now.branch name.now.article lo hi in
             Finds (checks self.now.ledger c) (IsFound self.now.ledger c) result }
     {
@@ -183,35 +171,33 @@ impl Book {
         }
         let field = self.field_there(name, 0)?;
         let field = rebound(field, lo, hi)?;
-        Ok(Some(one_field(alloc, *name, field)))
+        Ok(Some((*name, field)))
     }
 
     /// A new order of these lines, whatever its kind.
     fn check_open(
         &self,
-        alloc: Global,
         number: OrderNo,
         until: Moment,
         lines: &[OpenLine],
     ) -> Result<Found, Failure>
         ensures { (kind : Kind) → Finds (order_checks self.now.ledger number until ++ line_checks self.now.ledger
-            (new_order number kind until) [] lines.now) (λ found. IsSomeAnd found (λ made. IfOk made
-            (λ fields. CountsAll self.now.ledger (map new_share lines.now) fields.entries))) result }
+            (new_order number kind until) [] lines.now) (λ found. found ≡ None) result }
     {
         self.check_order(number, until)?;
-        Ok(Some(self.check_lines(alloc, lines)?))
+        self.check_lines(lines)?;
+        Ok(None)
     }
 
     fn check_more(
         &self,
-        alloc: Global,
         number: OrderNo,
         way: Way,
         name: &FieldName,
         qty: Qty,
     ) -> Result<Found, Failure>
-        ensures { let c = command.More number way name.now.branch name.now.article qty in
-            Finds (checks self.now.ledger c) (IsFound self.now.ledger c) result }
+        ensures { Finds (checks self.now.ledger (command.More number way name.now.branch name.now.article qty))
+            (λ found. found ≡ None) result }
     {
         if self.is_full(1) {
             return Err((Refusal::Full, 0));
@@ -222,8 +208,8 @@ impl Book {
         }
         let field = self.field_there(name, 0)?;
         check_hold(order, way, name)?;
-        let field = ask(field, way, qty, 0)?;
-        Ok(Some(one_field(alloc, *name, field)))
+        ask(field, way, qty, 0)?;
+        Ok(None)
     }
 
     fn check_expire(&self, now: Moment) -> Result<Found, Failure>
@@ -324,16 +310,10 @@ impl Book {
     }
 
     /// The first check that fails of the lines of a new order, whatever its number, its kind and its end.
-    fn check_lines(
-        &self,
-        alloc: Global,
-        lines: &[OpenLine],
-    ) -> Result<Result<Fields, Memory>, Failure>
+    fn check_lines(&self, lines: &[OpenLine]) -> Result<(), Failure>
         ensures { (n : ℕ) (kind : Kind) (until : ℕ) → Finds (line_checks self.now.ledger
-            (new_order n kind until) [] lines.now) (λ made. IfOk made
-            (λ fields. CountsAll self.now.ledger (map new_share lines.now) fields.entries)) result }
+            (new_order n kind until) [] lines.now) (λ found. Unit) result }
     {
-        let mut fields = Ok(InOrder::new(alloc));
         for (i, line) in lines.iter().enumerate() {
             let number = i as u64 + 1;
             let (branch, article) = (line.branch, line.article);
@@ -342,10 +322,9 @@ impl Book {
                 return Err((Refusal::SameField, number));
             }
             let field = self.field_there(&name, number)?;
-            let field = ask(field, line.way, line.qty, number)?;
-            fields = with_field(fields, name, field);
+            ask(field, line.way, line.qty, number)?;
         }
-        Ok(fields)
+        Ok(())
     }
 
     /// The field of that name, for the line at fault where it is not there.
@@ -373,16 +352,13 @@ fn check_hold(order: &OrderEntry, way: Way, name: &FieldName) -> Result<(), Fail
     }
 }
 
-/// The field with so much more held the one way, where no outcome passes its bound.
-fn ask(mut field: FieldEntry, way: Way, qty: Qty, line: u64) -> Result<FieldEntry, Failure>
+/// Why no more may be held on the field the one way, where some outcome would pass its bound.
+fn ask(mut field: FieldEntry, way: Way, qty: Qty, line: u64) -> Result<(), Failure>
     ensures { (A : Ledger) (name : Name) → Good A → IsUpToDate A (name, field) → field_named A name ≡ Some
-        (field_of (name, field)) → Finds (bound_checks way A name qty line) (λ entry. entry ≡ record {
-          start = field.start;
-          quantity = holding field.quantity way qty;
-        }) result }
+        (field_of (name, field)) → Finds (bound_checks way A name qty line) (λ found. Unit) result }
 {
     match field.quantity.ask(way, qty) {
-        Ok(()) => Ok(field),
+        Ok(()) => Ok(()),
         Err(bound) => Err((refusal_of(bound), line)),
     }
 }

@@ -1,25 +1,30 @@
 //! What a command does to the orders: those that it opens or changes, as they are then.
 
-ghost use Rattle.book.specs.inner.InPlace.{MayChange, MayChangeOrder, changed_line, changed_order, effect_seen, held_lines, lines_wanted, made_of, MayChangeUnder};
+ghost use Rattle.book.specs.inner.InPlace.{MayChange, MayChangeOrder, changed_line, changed_order, effect_seen, held_lines, lines_wanted, MayChangeUnder};
 ghost use Rattle.ledger.specs.Ledger.{line_name, on, open_state};
 ghost use Rattle.ledger.specs.Next.{Changes, Opens, change_lines, effect, expires, new_line, new_order, numbered};
 ghost use Rattle.ledger.specs.inner.Shares.{Accepts};
-ghost use Rattle.ledger.specs.Steps.{orders_made};
+ghost use Rattle.ledger.specs.Steps.{steps_of};
+ghost use Rattle.book.specs.inner.StepsSeen.{Adds, IsMadeBy, MayMake, step_seen, steps_under};
+ghost use Rattle.std.specs.Option.{option_copied};
 ghost use Rattle.book.specs.Model.{order_of};
-ghost use Rattle.book.specs.declared.book.made.LineChange.TheVariants as LineChange;
-ghost use Rattle.book.specs.declared.book.made.OrderChange.TheVariants as OrderChange;
 ghost use Rattle.ledger.specs.declared.order.State.TheVariants.{Aborted};
 ghost use Rattle.words.specs.Kinds.{is_opening};
 ghost use Rattle.words.specs.declared.open_line.OpenLine.{OpenLine};
 ghost use Rattle.std.specs.List.{AllByRecursion as Each, filter};
 ghost use Rattle.std.specs.Prelude.{◌≡◌, ℕ, ◌<◌, ◌≤◌, ◌+◌, ◌||◌, true, false, MatchOption, find, if◌then◌else◌, map, IfOk, Some, ◌∷◌, ◌++◌, [], ◌&&◌, not, nat_le, OnOk, flat_map};
 ghost use Rattle.std.specs.Vec.{vec_capacity, vec_len};
+ghost use Rattle.book.specs.declared.book.made.LineChange.TheVariants as LineChange;
+ghost use Rattle.book.specs.declared.book.made.OrderChange.TheVariants as OrderChange;
 
 use super::Book;
+use super::changed_rows::push_rows;
+use super::fields::Fields;
 use super::plan::transfer_lines;
 use crate::order::{Order, OrderEntry, is_on, line_in};
 use escrow::{FieldName, Level, Moment, OrderNo, Qty};
-use ledger::{Kind, Line, State};
+use index::InOrder;
+use ledger::{Change, Kind, Line, State};
 use std::alloc::Global;
 use words::{Command, Memory, OpenLine, Request};
 
@@ -270,61 +275,107 @@ fn copy_of_order(alloc: Global, entry: &OrderEntry, more: usize) -> Result<Order
     })
 }
 
+/// What an accepted command makes of the orders, step by step: the orders as they are then, the fields whose stock
+/// their lines change, and the rows that change.
+#[derive(Drop)]
+pub(super) struct Made {
+    pub orders: Vec<Order>,
+    pub fields: Fields,
+    pub changes: Vec<Change>,
+}
+
 impl Book {
-    /// Appends the order under that number, changed, if there is one.
+    /// Adds the step to that order from the one before, if there was one.
+    fn push_step(
+        &self,
+        alloc: Global,
+        made: &mut Made,
+        before: Option<&OrderEntry>,
+        after: Order,
+    ) -> Result<(), Memory>
+        requires { MayMake self.now.ledger (step_seen (option_copied before) after ∷ []) made.old }
+        ensures { OnOk result (Adds self.now.ledger (step_seen (option_copied before.entry) after ∷ []) made.old made.new) }
+    {
+        self.count_order(&mut made.fields, before, &after)?;
+        push_rows(alloc, &mut made.changes, before, &after)?;
+        Ok(made.orders.push(after)?)
+    }
+
+    /// Adds the step of the order under that number, changed, if there is one.
     fn push_changed(
         &self,
         alloc: Global,
-        orders: &mut Vec<Order>,
+        made: &mut Made,
         number: OrderNo,
         change: &OrderChange,
     ) -> Result<(), Memory>
-        requires { MayChangeUnder self.now.ledger number change.now }
-        ensures { OnOk result (map order_of orders.new.items ≡ map order_of orders.old.items
-            ++ made_of self.now.ledger change.now number) }
+        requires change { MayChangeUnder self.now.ledger number change.now }
+        requires may { MayMake self.now.ledger (steps_under self.now.ledger change.now number) made.old }
+        ensures { OnOk result (Adds self.now.ledger (steps_under self.now.ledger change.now number) made.old made.new) }
     {
         let Some(entry) = self.order_entry(number) else {
             return Ok(());
         };
         let mut copy = copy_of_order(alloc, entry, lines_wanted(change))?;
         change_order(&mut copy, change);
-        Ok(orders.push((number, copy))?)
+        self.push_step(alloc, made, Some(entry), (number, copy))
     }
 
-    /// Appends the orders under these numbers, aborted.
+    /// Adds the steps of the orders under these numbers, aborted.
     fn push_aborted(
         &self,
         alloc: Global,
-        orders: &mut Vec<Order>,
+        made: &mut Made,
         numbers: &[OrderNo],
     ) -> Result<(), Memory>
-        ensures { OnOk result (map order_of orders.new.items ≡ map order_of orders.old.items
-            ++ flat_map (made_of self.now.ledger (OrderChange.End Aborted)) numbers.now) }
+        requires { MayMake self.now.ledger (flat_map (steps_under self.now.ledger (OrderChange.End Aborted)) numbers.now)
+            made.old }
+        ensures { OnOk result (Adds self.now.ledger (flat_map (steps_under self.now.ledger (OrderChange.End Aborted))
+            numbers.now) made.old made.new) }
     {
         for number in numbers {
-            self.push_changed(alloc, orders, *number, &OrderChange::End(State::Aborted))?;
+            self.push_changed(alloc, made, *number, &OrderChange::End(State::Aborted))?;
         }
         Ok(())
     }
 
-    /// The orders that the accepted request opens or changes, as they are then, by their numbers.
-    pub(super) fn orders_made(&self, alloc: Global, request: &Request) -> Result<Vec<Order>, Memory>
-        requires { Accepts self.now.ledger request.now }
-        ensures { IfOk result (λ orders. map order_of orders.items ≡ orders_made self.now.ledger request.now.command) }
+    /// Adds the steps that the accepted request makes, which does that to the orders.
+    fn push_steps(
+        &self,
+        alloc: Global,
+        made: &mut Made,
+        request: &Request,
+        found: Effect,
+    ) -> Result<(), Memory>
+        requires accepts { Accepts self.now.ledger request.now }
+        requires does { effect_seen found ≡ effect request.now.command }
+        requires first { made.old.fields.entries ≡ [] }
+        ensures { OnOk result (Adds self.now.ledger (steps_of self.now.ledger request.now.command) made.old made.new) }
     {
-        let mut orders = Vec::new(alloc);
-        match effect_of(alloc, request.command.command())? {
-            Effect::Nothing => {}
-            Effect::Opens(order) => orders.push(order)?,
-            Effect::Changes(number, change) => {
-                self.push_changed(alloc, &mut orders, number, &change)?;
-            }
+        match found {
+            Effect::Nothing => Ok(()),
+            Effect::Opens(order) => self.push_step(alloc, made, None, order),
+            Effect::Changes(number, change) => self.push_changed(alloc, made, number, &change),
             Effect::Expires(now) => {
                 let numbers = self.due(alloc, now)?;
-                self.push_aborted(alloc, &mut orders, &numbers)?;
+                self.push_aborted(alloc, made, &numbers)
             }
         }
-        Ok(orders)
+    }
+
+    /// What the accepted request makes of the orders.
+    pub(super) fn made(&self, alloc: Global, request: &Request) -> Result<Made, Memory>
+        requires { Accepts self.now.ledger request.now }
+        ensures { IfOk result (IsMadeBy self.now.ledger request.now.command) }
+    {
+        let mut made = Made {
+            orders: Vec::new(alloc),
+            fields: InOrder::new(alloc),
+            changes: Vec::new(alloc),
+        };
+        let found = effect_of(alloc, request.command.command())?;
+        self.push_steps(alloc, &mut made, request, found)?;
+        Ok(made)
     }
 
     /// The numbers of the orders that an expiry at that moment aborts, in their order. It looks at all orders as they lie,

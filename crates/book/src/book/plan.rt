@@ -1,7 +1,8 @@
 //! What is answered to a request, before it is carried out; plans of accepted requests.
 
 ghost use Rattle.ledger.specs.Answers.{IsAccepted};
-ghost use Rattle.book.specs.inner.StepsSeen.{Makes};
+ghost use Rattle.ledger.specs.Steps.{steps_of};
+ghost use Rattle.book.specs.inner.StepsSeen.{Makes, step_rows};
 ghost use Rattle.book.specs.inner.Checking.{IsFound};
 ghost use Rattle.ledger.specs.Next.{move_made, moved_at_once, transfer_lines};
 ghost use Rattle.book.specs.PlanAnswers.{Plans};
@@ -165,13 +166,13 @@ impl Book {
                 Ok(Planned::Refused(Refusal::KeyReused, 0))
             };
         }
-        let found = match self.check(alloc, request.command.command()) {
+        let found = match self.check(request.command.command()) {
             Ok(found) => found,
             Err(failure) => return Ok(Planned::Refused(failure.0, failure.1)),
         };
         self.accepts(request);
-        let parts = self.parts_of(alloc, request, found)?;
-        let changes = self.changes_of(alloc, request, &parts)?;
+        let (parts, rows) = self.parts_of(alloc, request, found)?;
+        let changes = self.changes_of(alloc, request, &parts, rows)?;
         Ok(Planned::Accept(Plan { parts, changes }))
     }
 
@@ -186,25 +187,33 @@ impl Book {
         request.command.words();
     }
 
-    /// What the accepted request puts into the book, with what its check found.
-    fn parts_of(&self, alloc: Global, request: &Request, found: Found) -> Result<PlanParts, Memory>
+    /// What the accepted request puts into the book, with what its check found, and the rows of its orders that change.
+    fn parts_of(
+        &self,
+        alloc: Global,
+        request: &Request,
+        found: Found,
+    ) -> Result<(PlanParts, Vec<Change>), Memory>
         requires accepts { Accepts self.now.ledger request.now }
         requires found { IsFound self.now.ledger request.now.command found }
-        ensures { IfOk result (λ parts. Makes self.now.ledger request.now parts) }
+        ensures makes { IfOk result (λ made. Makes self.now.ledger request.now made.0) }
+        ensures rows { IfOk result (λ made. rows_among made.1.items
+            ≡ step_rows (steps_of self.now.ledger request.now.command)) }
     {
         let command = request.command.command();
         let words = KeptWords::of(alloc, &request.command)?;
         let place = self.kept.len() as u64 + 1;
-        let orders = self.orders_made(alloc, request)?;
-        let fields = self.fields_after(alloc, request, found, &orders)?;
-        Ok(PlanParts {
+        let made = self.made(alloc, request)?;
+        let fields = self.fields_after(alloc, request, found, made.fields)?;
+        let parts = PlanParts {
             key: request.key,
             words,
             place,
             clock: self.clock_after(command),
             fields,
             moved: move_made(place, command),
-            orders,
-        })
+            orders: made.orders,
+        };
+        Ok((parts, made.changes))
     }
 }

@@ -1,5 +1,5 @@
 -- What a line counts for in the stock of its field, as a command changes it.
-use Rattle.std.specs.Prelude.{◌≡◌, ◌+◌, ◌≤◌, ℤ, pos, ◌-ℤ◌, ◌≤ℤ◌, Bool, false, List, Option, None, Some, flat_map, map, if◌then◌else◌}
+use Rattle.std.specs.Prelude.{ℤ, pos, ◌-ℤ◌, Bool, List, Option, None, Some, flat_map, map, if◌then◌else◌}
 use Rattle.std.specs.Option.{option_map_or}
 use Rattle.escrow.specs.Codes.{IsKey}
 use Rattle.escrow.specs.declared.quantity.Way.{Way}
@@ -8,7 +8,7 @@ use Rattle.words.specs.declared.command.Command.{Command}
 use Rattle.words.specs.declared.command.Request.{Request}
 use Rattle.ledger.specs.Answers.{IsAccepted}
 use Rattle.ledger.specs.Good.{Good}
-use Rattle.ledger.specs.Held.{held_to_add, held_to_take, if_add, if_take}
+use Rattle.ledger.specs.Held.{if_add, if_take}
 use Rattle.ledger.specs.Ledger.{Ledger, Name, Order, line_name, open_state, same_name, settled_state, unsettled}
 use Rattle.ledger.specs.Next.{accept}
 use Rattle.ledger.specs.Outcomes.{settled, signed, total}
@@ -86,18 +86,3 @@ add_part w s = pos (if_add w s.held)
 abbrev pub added_on : (Way → Share → ℤ) → Name → List ShareStep → ℤ
 added_on part f steps =
     total (λ s. if same_name f s.name then part s.way s.after -ℤ part s.way s.before else pos 0) steps
-
--- what there was before them
-abbrev pub before_on : (Way → Share → ℤ) → Name → List ShareStep → ℤ
-before_on part f steps = total (λ s. if same_name f s.name then part s.way s.before else pos 0) steps
-
--- No line of these steps counted for more than is held on its field, with all of them.
-abbrev pub AreHeld : Ledger → List ShareStep → Type 0
-AreHeld A steps = (n : Name) → (before_on take_part n steps ≤ℤ held_to_take A n)
-    × (before_on add_part n steps ≤ℤ held_to_add A n)
-
--- what is settled stays so, and what is settled then was settled or held; a stock that does not change is counted alike
-pub record Falls (s : ShareStep) : Type 0 where
-  pub settled : s.before.settled ≤ s.after.settled
-  pub used : s.after.settled + s.after.held ≤ s.before.settled + s.before.held
-  pub same : s.changes ≡ false → s.after ≡ s.before

@@ -1,9 +1,5 @@
-use Rattle.ledger.proofs.Prelude.{◌+◌, ◌++◌, ◌∙◌, ◌∷◌, ◌≡◌, [], ap, arith, if◌then◌else◌, length, length-take, open_state, sym, take}
-use Rattle.std.specs.List.{insert}
-use Rattle.std.proofs.lemmas.List.Edits.{insert_end}
-use Rattle.book.specs.inner.OpenOrders.{open_numbers}
-use Rattle.ledger.proofs.Lists.{take-step}
-use Rattle.book.proofs.OpenOrders.{few_open, open_pushed}
+use Rattle.ledger.proofs.Prelude.{ap, arith, length, length-take, take}
+use Rattle.book.proofs.OpenOrders.{few_open}
 use Rattle.book.proofs.orders.open_among.Goals as goal
 
 pub insert-requires-clause-room : goal.insert-requires-clause-room

@@ -1,4 +1,7 @@
+use Rattle.ledger.proofs.Prelude.{More, refl}
+use Rattle.book.proofs.CheckAnswers.{finds_none}
 use Rattle.book.proofs.book.Book.check_change.Goals as goal
 
 pub returns-in-More : goal.returns-in-More
-returns-in-More c = rw c.in-More.is c.check_more.ensures
+returns-in-More c =
+    rw c.in-More.is (finds_none c.args.self.now.ledger (More c.in-More.number c.in-More.way c.in-More.branch c.in-More.article c.in-More.qty) c.check_more.result refl c.check_more.ensures)

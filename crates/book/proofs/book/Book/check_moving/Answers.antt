@@ -1,6 +1,6 @@
 use Rattle.ledger.proofs.Prelude.{[], ◌∙◌, ◌∷◌, None, Some, Refusal, ap, inl, inr, no_field, refl, sym, true≢false}
 use Rattle.book.proofs.CheckAnswers.{fails_with, cut_short, full_decides, go_on, moving_decides, no}
-use Rattle.book.proofs.FieldRows.{moved_found, only_found}
+use Rattle.book.proofs.FieldRows.{moved_found}
 use Rattle.book.proofs.RunningNumbers.{grants, move_granted, refuses}
 use Rattle.book.specs.inner.Checking.{bound_checks}
 use Rattle.book.proofs.book.Book.check_moving.Goals as goal
@@ -21,7 +21,7 @@ returns-in-Ok c some =
     let found = c.in_ok-field.ensures.found in (
       moving_decides A c.args.command.now m.0 m.1 m.2 None is (no c.is_full.ensures c.if-is_full.false) c.in_ok-field.ensures.good
           (go_on (no_field A m.0 0 ∷ []) (bound_checks m.1 A m.0 m.2 0) None found.0 (inr (grants A m.0 f m.1 m.2 up found.1 (move_granted f.quantity m.1 m.2 (c.in-Ok.ensures.granted.0 refl)), refl))),
-      only_found A c.args.command.now (m.0, record { start = f.start; quantity = c.at_once.new.self }) c.one_field.result c.one_field.ensures (moved_found A c.args.command.now m.0 m.1 m.2 f c.at_once.new.self is up found.1 c.in-Ok.ensures.ok),
+      moved_found A c.args.command.now m.0 m.1 m.2 f c.at_once.new.self is up found.1 c.in-Ok.ensures.ok,
     )
 
 pub returns-in-Err : goal.returns-in-Err

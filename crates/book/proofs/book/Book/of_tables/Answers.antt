@@ -1,7 +1,6 @@
-use Rattle.ledger.proofs.Prelude.{◌∙◌, ◌≡◌, AllZip, Content, Each, Field, Good, IsFieldRow, IsRowsOf, Kept, Ledger, Order, ap, arith, count_by, is_open, map, map-map, open_orders, open_state, subst, sym, ℕ}
-use Rattle.book.proofs.Prelude.{IsUpToDate, OrderEntry, field_of, kept_of, ledger_of, move_of, order_of, told_ledger}
+use Rattle.ledger.proofs.Prelude.{◌∙◌, ◌≡◌, AllZip, Content, Each, Field, Good, IsFieldRow, IsRowsOf, Kept, Ledger, Order, ap, arith, map, map-map, subst, sym}
+use Rattle.book.proofs.Prelude.{IsUpToDate, field_of, kept_of, ledger_of, move_of, order_of, told_ledger}
 use Rattle.ledger.specs.Tables.{content_of}
-use Rattle.book.proofs.NextRows.{viewed}
 use Rattle.ledger.proofs.TestResults.{true_not_false}
 use Rattle.ledger.proofs.EqualRows.{one_content, rows_are, rows_of, rows_tell, told_once}
 use Rattle.book.proofs.RowEntries.{told_bounded, told_rows}

@@ -1,5 +1,5 @@
 use Rattle.book.proofs.Prelude.{BookView, order_of}
-use Rattle.ledger.proofs.Prelude.{IsSomeAnd, None, Some, ◌∙◌, ◌≡◌, ap, option_map, subst, sym}
+use Rattle.ledger.proofs.Prelude.{IsSomeAnd, Some, ◌∙◌, ◌≡◌, ap, option_map, subst, sym}
 use Rattle.book.specs.Views.{ShowsOrder, open_from}
 use Rattle.book.proofs.OpenOrders.{open_viewed}
 use Rattle.book.proofs.book.Book.open_from.Goals as goal

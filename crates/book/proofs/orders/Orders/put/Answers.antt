@@ -1,6 +1,5 @@
 use Rattle.ledger.proofs.Prelude.{None, ◌∙◌, ◌≡◌, ◌≤◌, IsStrictlySortedBy, ap, arith, insert_entry, is_at, length, lookup, nat_cmp, subst, sym, ℕ, List}
 use Rattle.book.proofs.Prelude.{OrderEntry}
-use Rattle.std.specs.Map.{keys_of}
 use Rattle.book.specs.OrderLists.{OrderEntries}
 use Rattle.book.specs.inner.OpenOrders.{marked, open_numbers, room_for}
 use Rattle.book.proofs.OpenOrders.{fits_marked, fits_put, no_more_room, open_put, open_sorted}
