@@ -1,5 +1,5 @@
-"""What bench/clients and bench/front share: their options, loads on servers that are started for each, and how a whole run
-begins, is told and ends."""
+"""What bench/clients and bench/front share: their options, loads on servers that are started for each load, and how a whole run
+begins, reports and ends."""
 
 import argparse
 import os
@@ -23,15 +23,15 @@ from services import Pace, Server, Syncs, make_desk
 from support import BUILT
 from support.tables import is_able
 
-# with 10,000 fields a desk has places for 190,000 deliveries
+# a desk with 10,000 fields has places for 190,000 deliveries
 SECONDS, MOST_SECONDS = 5, 8
 SLOW_MILLIS = 5
 MOST_CLIENTS = 256
 
-# the seconds after which the whole ends, whatever hangs
+# a run is ended after so many seconds, whatever hangs
 LIMIT = 900
 
-# as ./stockdesk runs the program
+# as ./stockdesk sets it for the program
 os.environ.setdefault("MALLOC_MMAP_THRESHOLD_", "131072")
 
 
@@ -83,14 +83,14 @@ def read_options(parser: argparse.ArgumentParser, tools: Sequence[str]) -> argpa
 
 
 def expect_kept(load: Load, work: Work, clients: int, moves: int, pieces: int) -> None:
-    """What was answered is kept, and beyond it at most what each client waited for at the end; asks leave nothing."""
+    """All that was answered is kept, and beyond that at most what each client waited for at the end; asks leave nothing."""
     least, most = (0, 0) if work.is_asks else (load.told, load.told + clients)
     if not least <= moves == pieces <= most:
         sys.exit(f"bench: {load.told} {work.kind()} were answered, {moves} are kept, and the fields got {pieces} pieces")
 
 
 def measured(server: Server, pace: Pace, work: Work, clients: int, seconds: int) -> Figures:
-    """What is found of a load on a server that is started for it."""
+    """Starts the server, puts a load on it, and returns what was found."""
     with server:
         before = pace.syncs.counted()
         load = server.load(work, clients, seconds)
@@ -102,7 +102,7 @@ def measured(server: Server, pace: Pace, work: Work, clients: int, seconds: int)
 
 
 def busy() -> float:
-    """How many processors work, during a second."""
+    """How many processors are busy, measured for a second."""
 
     def idle() -> int:
         with open("/proc/stat", encoding="ascii") as file:
@@ -114,7 +114,7 @@ def busy() -> float:
 
 
 class Bench(ABC):
-    """What is measured and in which folder, and what was found."""
+    """What is measured, the folder for it, and what was found."""
 
     def __init__(self, options: argparse.Namespace, folder: str, works: dict[str, Work]):
         self.options, self.folder, self.works = options, folder, works
@@ -124,7 +124,7 @@ class Bench(ABC):
         self.found = Found(titles, {name: pace.name for name, pace in self.paces.items()})
 
     def able_paces(self) -> Iterator[tuple[str, Pace]]:
-        """The syncs that are asked for; without a compiler none is slower."""
+        """The paces of syncs that are asked for. There are no slower syncs where there is no compiler."""
         library = build_slow_sync(self.folder)
         syncs = Syncs(os.path.join(self.folder, "syncs"))
         if FAST in self.options.paces:
@@ -139,23 +139,23 @@ class Bench(ABC):
 
     @abstractmethod
     def server(self, name: str, pace: Pace) -> Server:
-        """The server of that name in `SERVERS`."""
+        """The server with that name in `SERVERS`."""
 
     @abstractmethod
     def rounds(self) -> list[str]:
-        """The options by which many are served together."""
+        """The options with which many clients are served together."""
 
     @abstractmethod
     def parts(self) -> dict[str, Callable[[], None]]:
-        """What is played, by name."""
+        """The parts of a run, by name."""
 
     @abstractmethod
     def beside(self) -> str:
-        """What stands beside the program."""
+        """What is measured beside the program."""
 
     @abstractmethod
     def short(self) -> list[str]:
-        """All that was found, as docs/PERFORMANCE.md has it."""
+        """All that was found, as docs/PERFORMANCE.md shows it."""
 
     def measure(self, server: Server, pace: Pace, work: Work, clients: int, name: str, most: int = MOST_SECONDS) -> Figures:
         work = replace(work, has_ordered_keys=self.options.keys == "ordered")
@@ -170,7 +170,7 @@ class Bench(ABC):
         return self.measure(self.server(cell.server, pace), pace, self.works[cell.work], cell.clients, name, most)
 
     def head(self) -> list[str]:
-        """On what and how it is measured."""
+        """On what machine, and how, it is measured."""
         options = self.options
         first = next(iter(report.surroundings(options.program, files.kind_of(self.folder), None)))
         second = f"Before it {busy():.1f} processors were busy. {self.beside()}; {options.seconds} seconds a cell,"
@@ -197,17 +197,17 @@ def tell(lines: Sequence[str]) -> None:
 
 
 def end(number: int, _: FrameType | None) -> None:
-    """Ends it with all that it has started."""
+    """Ends the run, with all processes that it started."""
     sys.exit(f"bench: ended by {signal.Signals(number).name}")
 
 
 def play(options: argparse.Namespace, bench: Callable[[argparse.Namespace, str], Bench]) -> None:
-    """Plays it in a folder that is removed behind it, and for a limited time."""
+    """Plays a bench in a folder that is removed afterwards, within a limited time."""
     signal.signal(signal.SIGTERM, end)
     signal.signal(signal.SIGALRM, end)
     signal.alarm(LIMIT)
     folder = tempfile.mkdtemp(prefix="bench-", dir=options.dir)
-    # PostgreSQL may be another user's
+    # a folder of PostgreSQL may belong to another user
     os.chmod(folder, 0o711)
     try:
         bench(options, folder).play()

@@ -1,4 +1,4 @@
-"""What is built of C for the measures: the program that puts in rows, and slower syncs."""
+"""What is compiled from C for the measures: the program that puts rows in, and slower syncs."""
 
 import os
 import shutil
@@ -13,7 +13,7 @@ def say(text):
 
 
 def compiled(source, path, options, libraries):
-    """The compiler's end, or None where there is no compiler."""
+    """How the compiler ended, or None where there is no compiler."""
     compiler = shutil.which("cc")
     if compiler is None:
         say("without C, since there is no C compiler `cc`")
@@ -23,7 +23,7 @@ def compiled(source, path, options, libraries):
 
 
 def build_rows(folder):
-    """The C program, or None where what it needs is missing."""
+    """The path of the C program, or None where something that it needs is missing."""
     path = os.path.join(folder, "rows")
     end = compiled("rows.c", path, [], ["-lsqlite3"])
     if end is None or end.returncode == 0:
@@ -35,7 +35,7 @@ def build_rows(folder):
 
 
 def build_slow_sync(folder):
-    """The library by which syncs are slower, or None where there is no compiler."""
+    """The path of the library that makes syncs slower, or None where there is no compiler."""
     path = os.path.join(folder, "slow_sync.so")
     end = compiled("slow_sync.c", path, ["-shared", "-fPIC"], ["-ldl"])
     if end is None or end.returncode == 0:

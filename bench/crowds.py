@@ -1,5 +1,5 @@
-"""What many clients found, as Markdown: as bench/clients and bench/front print it, and more shortly as docs/PERFORMANCE.md has
-it."""
+"""What was found with many clients, as Markdown: as bench/clients and bench/front print it, and shorter, as docs/PERFORMANCE.md
+shows it."""
 
 from collections.abc import Iterator, Sequence
 from dataclasses import dataclass, field
@@ -19,13 +19,13 @@ SERVERS = {
 FAST, SLOW = "fast", "slow"
 PACES = [FAST, SLOW]
 
-# the goals: `--together` against `serve` where there is one client; the share of the waits of so many clients that are within
-# so many syncs and microseconds more
+# the goals: `--together` against `serve` with one client; and, with so many clients, the share of waits that last at most so many
+# syncs and so many microseconds more
 ONE_GOAL = 0.95
 WAITERS, WAITS_GOAL, SYNCS, MICROS = 64, 0.99, 3, 20_000
 
-# the works of bench/front, and its goals for so many clients: deliveries against those without the front and through an older
-# one; asks a second; the share of waits within so many microseconds; and the milliseconds that a slow reader may add
+# the works of bench/front, and its goals with so many clients: deliveries against those without the front, and through an older
+# front; asks a second; the share of waits of at most so many microseconds; and how many milliseconds a slow reader may add
 DELIVERIES, ASKS = "deliveries", "asks"
 WITHOUT_GOAL, OLDER_GOAL, ASKS_GOAL, FRONT_MICROS, ADDED_GOAL = 0.7, 4.0, 20_000, 30_000, 5.0
 
@@ -34,28 +34,28 @@ COLUMNS = ["a second", "p50 ms", "p99 ms", "syncs a second", "a sync, ms", "comm
 
 @dataclass(frozen=True)
 class Figures:
-    """What was found of a load: the load, the syncs meanwhile, and the nanoseconds that they took."""
+    """What was found under a load: the load, how many syncs there were meanwhile, and how many nanoseconds these took."""
 
     load: Load
     syncs: int
     nanoseconds: int
 
     def together(self) -> float | None:
-        """The commands a sync."""
+        """The commands per sync."""
         return over(self.load.told, self.syncs)
 
     def sync_millis(self) -> float | None:
-        """The milliseconds of a sync."""
+        """The milliseconds per sync."""
         return over(self.nanoseconds / 1e6, self.syncs)
 
     def in_time(self) -> float:
-        """The share of the waits that is within the goal."""
+        """The share of the waits that are within the goal."""
         return self.load.within(SYNCS * 1000 * (self.sync_millis() or 0) + MICROS)
 
 
 @dataclass(frozen=True)
 class Cell:
-    """The requests, how many clients send them, what answers them, and with which syncs."""
+    """The requests, how many clients send them, what answers them, and the pace of the syncs."""
 
     work: str
     clients: int
@@ -65,9 +65,9 @@ class Cell:
 
 @dataclass
 class Found:
-    """The names of requests and of syncs, and what was found: of cells; by pace the loads of one client, by `serve` and then
-    together; by the number of clients that never read what those beside them found; and the loads of others alone and then beside
-    a client that reads slowly."""
+    """The names of works and of paces, and what was found: for cells; for one client, by pace, its loads with `serve` and then
+    together; for clients that never read, by their number, the load of those beside them; and the loads of others alone and then
+    beside a client that reads slowly."""
 
     works: dict[str, str]
     paces: dict[str, str]
@@ -77,7 +77,7 @@ class Found:
     slow: list[tuple[Load, Load]] = field(default_factory=list)
 
     def rows(self, work: str) -> list[tuple[str, list[Figures | None]]]:
-        """The numbers of clients and what serves them, and the figures of each pace."""
+        """For each number of clients and each server, its title and the figures of each pace."""
         rows = sorted({(cell.clients, list(SERVERS).index(cell.server)) for cell in self.cells if cell.work == work})
         named = [(clients, list(SERVERS)[index]) for clients, index in rows]
         return [(f"{clients}, {SERVERS[server]}", self.paces_of(work, clients, server)) for clients, server in named]
@@ -89,21 +89,22 @@ class Found:
         return [self.cells.get(Cell(work, clients, server, pace)) for pace in PACES]
 
     def rate(self, work: str, server: str, pace: str = FAST) -> float | None:
-        """The requests a second of the clients of which goals speak."""
+        """The requests a second with the number of clients that the goals are about."""
         found = self.cells.get(Cell(work, WAITERS, server, pace))
         return found.load.rate() if found else None
 
     def slow_added(self, share: float) -> float:
-        """The median of the milliseconds that a client that reads slowly adds to the waits of such a share."""
+        """The median of the milliseconds that a client that reads slowly adds to the waits of that share."""
         return median(beside.millis(share) - alone.millis(share) for alone, beside in self.slow)
 
     def one_rates(self, pace: str) -> tuple[float, float, float]:
-        """The medians of the commands a second of one client, by `serve` and together, and that of the ratios."""
+        """The medians of the commands a second of one client, with `serve` and together, and the median of their ratios."""
         pairs = [(one.rate(), many.rate()) for one, many in self.one[pace]]
         return *medians(pairs), median(many / one for one, many in pairs)
 
     def one_waits(self, pace: str) -> tuple[float, float, float]:
-        """The same of the microseconds within which half of its commands are answered: other work does less to these."""
+        """The same for the microseconds within which half of the client's commands are answered; other work on the machine
+        changes these less."""
         pairs = [(1000 * one.millis(0.5), 1000 * many.millis(0.5)) for one, many in self.one[pace]]
         return *medians(pairs), median(one / many for one, many in pairs)
 
@@ -117,12 +118,12 @@ def millis(value: float | None) -> str:
 
 
 def speed(load: Load) -> list[str]:
-    """The commands a second, and the waits of half and of 99 in 100."""
+    """The cells of the commands a second, and of the waits that half and 99 in 100 do not exceed."""
     return [number(load.rate()), millis(load.millis(0.5)), millis(load.millis(0.99))]
 
 
 def cells_of(found: Figures | None) -> list[str]:
-    """As the columns say."""
+    """The cells of `COLUMNS`."""
     if found is None:
         return ["-"] * len(COLUMNS)
     together = found.together()
@@ -146,7 +147,7 @@ def one_text(found: Found) -> list[str]:
 
 
 def added(load: Load, alone: Load) -> list[str]:
-    """The milliseconds that are added to the waits of half and of 99 in 100."""
+    """The cells of the milliseconds that are added to the waits that half and 99 in 100 do not exceed."""
     return [f"{load.millis(share) - alone.millis(share):+.2f}" for share in (0.5, 0.99)]
 
 
@@ -170,7 +171,7 @@ def slow_text(found: Found, readers: int) -> list[str]:
 
 @dataclass(frozen=True)
 class Goal:
-    """A goal, the least that is to be reached, or the most, and what was found."""
+    """A goal, with the least or the most that it allows, and what was found."""
 
     name: str
     limit: float
@@ -222,12 +223,12 @@ def goals_text(found: Found) -> list[str]:
 
 
 def narrow(heads: Sequence[str], rows: Sequence[Sequence[str]]) -> list[str]:
-    """A table as documents have it."""
+    """A table as the documents write it."""
     return ["|" + "|".join(line) + "|" for line in [heads, ["---"] * len(heads), *rows]] + [""]
 
 
 def short_cells(found: Found, work: str) -> list[str]:
-    """Of slower syncs, where there are any, also the commands a sync."""
+    """The table of a work, shorter; where there are slower syncs, it has their commands per sync too."""
     slow_heads = [f"slow: {COLUMNS[0]}", *COLUMNS[1:3], COLUMNS[-1]] if found.has_slow(work) else []
     heads = ["clients", *COLUMNS[:3], *slow_heads]
     rows = []
@@ -247,7 +248,7 @@ def short_slow(found: Found, readers: int) -> list[str]:
 
 
 def short_text(found: Found, readers: int) -> list[str]:
-    """All that was found, as docs/PERFORMANCE.md has it."""
+    """All that was found, as docs/PERFORMANCE.md shows it."""
     lines = [line for work in found.works if found.rows(work) for line in short_cells(found, work)]
     lines += short_unread(found, readers) if found.unread else []
     lines += short_slow(found, readers) if found.slow else []

@@ -1,16 +1,16 @@
-"""Desks in files: made of rows, spoiled and read back, by Python's own SQLite."""
+"""Desks in files: made from rows and spoiled, with Python's own SQLite."""
 
 import os
 import shutil
 import subprocess
 from contextlib import closing
 
-from support.tables import put_rows, sqlite3, tables_of
+from support.tables import put_rows, sqlite3
 
-# a desk of another version is told by the table that is read first
+# the program recognises a desk of another version by the table that it reads first
 OTHER_VERSION = ["UPDATE desk SET version = 3"]
 
-# no good rows, in the first of the tables that the ledger looks at, whichever that is
+# rows that are not good, in the first of the tables that the ledger looks at, whichever that is
 NO_GOOD_ROWS = [
     "UPDATE desk SET clock = 4000000001",
     "UPDATE field SET lo = -1 WHERE rowid = (SELECT rowid FROM field ORDER BY branch, article LIMIT 1)",
@@ -23,7 +23,7 @@ def init(program, path):
 
 
 def alter(path, act):
-    """Does that to the file's database in one transaction, and copies the log into the file."""
+    """Calls `act` on the file's database in one transaction, and copies the log into the file."""
     with closing(sqlite3.connect(path, isolation_level=None)) as database:
         database.execute("BEGIN")
         act(database)
@@ -33,20 +33,19 @@ def alter(path, act):
 
 
 def settle(path):
-    """Waits until the file's bytes are on the disk, so that no later wait is for them."""
+    """Waits until the file's bytes are on the disk, so that no later wait is due to them."""
     with open(path, "rb+") as file:
         os.fsync(file.fileno())
 
 
 def write(program, path, rows):
-    """A desk of these rows in a new file."""
+    """Writes a desk with these rows into a new file."""
     init(program, path)
-    values = {table: [row[1:] for row in these] for table, these in rows.items()}
-    alter(path, lambda database: put_rows(database, values))
+    alter(path, lambda database: put_rows(database, rows))
 
 
 def copy(source, path, changes=()):
-    """A copy of a closed desk, with these changes of its rows, in place of what was there."""
+    """Copies a closed desk, with these changes to its rows, in place of what was there."""
     for name in [path, path + "-wal", path + "-shm"]:
         if os.path.exists(name):
             os.remove(name)
@@ -57,13 +56,8 @@ def copy(source, path, changes=()):
     return path
 
 
-def read(path):
-    """The rows of a file by their table, in the order of their keys."""
-    return {table: [(table, *row) for row in rows] for table, rows in tables_of(path).items()}
-
-
 def kind_of(folder):
-    """The kind of file system that a folder is on, where the system tells it."""
+    """The kind of file system that a folder is on, where the system says it."""
     try:
         with open("/proc/mounts", encoding="utf-8") as file:
             mounts = [line.split()[1:3] for line in file]

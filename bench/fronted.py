@@ -1,5 +1,5 @@
-"""The program behind its front, HAProxy, as a server of requests over TLS; one beside which a client reads slowly; and several
-desks behind one front."""
+"""The program behind its front, HAProxy, as a server of requests over TLS; the same beside a client that reads slowly; and
+several desks behind one front."""
 
 import os
 import shutil
@@ -16,12 +16,12 @@ from support.chains import lines_of
 from support.fronts import CONFIGURATION, OFFICE, PAGE, Haproxy, credentials, head_of
 
 SHEET = "/v1/sheets/N0"
-# as older fronts, whose buffers were larger, had it; the environment of the program is not the front's
+# settings of older fronts, whose buffers were larger; the environment for the program is not for the front
 MALLOC = {"MALLOC_MMAP_THRESHOLD_": "33554432", "MALLOC_TRIM_THRESHOLD_": "1073741824"}
 
 
 class Fronted(Service):
-    """The program behind HAProxy, with the configuration that is shipped or another; all users are without limits."""
+    """The program behind HAProxy, with the configuration that is shipped or with another; no user has limits."""
 
     def __init__(self, program: str, desk: str, pace: Pace, options: Sequence[str] = (), configuration: str = CONFIGURATION):
         super().__init__(program, desk, pace, options)
@@ -34,7 +34,7 @@ class Fronted(Service):
             for name in MALLOC:
                 self.front.environment.pop(name, None)
             if self.configuration != CONFIGURATION:
-                # an older front's page is one file
+                # the page of an older front is one file
                 self.front.environment.update(MALLOC, PAGE=os.path.join(PAGE, "desk.html"))
             self.front.start()
         except BaseException:
@@ -53,7 +53,7 @@ class Fronted(Service):
 
 
 class Slowly(Fronted):
-    """The same, while one more client reads a sheet, a byte a second."""
+    """The same, while one more client reads a sheet, one byte a second."""
 
     def load(self, work: Work, clients: int, seconds: int) -> Load:
         with reading_slowly(self.front):
@@ -68,7 +68,7 @@ class Slowly(Fronted):
 
 @contextmanager
 def behind_one_front(folder: str, ports: Sequence[int]) -> Iterator[list[str]]:
-    """The addresses of the desks of these ports behind one front."""
+    """Serves the desks at these ports behind one front, and yields their addresses."""
     names = [f"desk{number}" for number in range(len(ports))]
     os.mkdir(folder)
     front = Haproxy(folder, 0, more="".join(map(lines_of, names, ports)))
@@ -88,13 +88,13 @@ def behind_one_front(folder: str, ports: Sequence[int]) -> Iterator[list[str]]:
 
 @contextmanager
 def reading_slowly(front: Haproxy) -> Iterator[None]:
-    """A client that has asked for a sheet, with little room for it, and takes a byte a second from its connection."""
+    """Beside a client that has asked for a sheet, has little room for it, and takes one byte a second from its connection."""
     plain = socket.socket()
     plain.setsockopt(socket.SOL_SOCKET, socket.SO_RCVBUF, 4096)
     plain.connect(("127.0.0.1", front.port))
     over = threading.Event()
     with front.context.wrap_socket(plain, server_hostname="localhost") as client:
-        # what is read beneath TLS is a byte, and no record
+        # what is read beneath TLS is a byte, not a record
         with socket.socket(fileno=os.dup(client.fileno())) as beneath:
 
             def read() -> None:

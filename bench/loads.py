@@ -1,5 +1,5 @@
-"""Deliveries and asks by clients that each wait for their answer, and how long they wait: `wrk` sends them over HTTP, `pgbench`
-deliveries in SQL."""
+"""Deliveries and asks by clients that each wait for their answers, and how long they wait: `wrk` sends requests over HTTP,
+`pgbench` deliveries in SQL."""
 
 import glob
 import os
@@ -12,20 +12,20 @@ from dataclasses import dataclass
 
 HERE = os.path.dirname(os.path.abspath(__file__))
 
-# the most threads of `wrk` and of `pgbench`
+# how many threads `wrk` and `pgbench` have at most
 THREADS = 2
 
-# the seconds that an answer may take
+# how many seconds an answer may take
 PATIENCE = 20
 
-# the seconds for which PostgreSQL works before it is measured
+# how many seconds PostgreSQL works before it is measured
 WARMING = 2
 
 
 @dataclass(frozen=True)
 class Work:
-    """Deliveries to random fields of so many branches and articles, under random keys or under such as come in order; or asks
-    for such fields."""
+    """Deliveries to random fields of so many branches and articles, under random keys or under keys in order; or asks for such
+    fields."""
 
     name: str
     branches: int
@@ -45,8 +45,8 @@ class Work:
 
 @dataclass(frozen=True)
 class Load:
-    """What clients found: the seconds that were measured, how many requests were answered in them after how many microseconds,
-    and how many were answered in the whole run."""
+    """What clients found: how many seconds were measured, how many requests were answered in these (by the microseconds that they
+    waited), and how many were answered in the whole run."""
 
     seconds: float
     waits: Counter[int]
@@ -56,7 +56,7 @@ class Load:
         return self.waits.total()
 
     def rate(self) -> float:
-        """The commands a second."""
+        """The commands per second."""
         return self.commands() / self.seconds
 
     def within(self, micros: float) -> float:
@@ -64,7 +64,7 @@ class Load:
         return sum(count for wait, count in self.waits.items() if wait <= micros) / self.commands()
 
     def millis(self, share: float) -> float:
-        """The least number of milliseconds within which that share of the commands was answered."""
+        """How many milliseconds suffice for that share of the commands to be answered."""
         wanted, seen = share * self.commands(), 0
         for wait in sorted(self.waits):
             seen += self.waits[wait]
@@ -79,7 +79,7 @@ def threads_for(clients: int) -> str:
 
 def as_waited(counts: Counter[int], commands: int, expected: int) -> Counter[int]:
     """The waits without those that `wrk` adds. For each wait of more than twice the expected one it adds waits that are shorter
-    by the expected one, by twice that and so on, as if requests had been sent meanwhile."""
+    by the expected one, by twice that, and so on, as if requests had been sent meanwhile."""
     if counts.total() == commands:
         return counts
     found = Counter({wait: count - (counts[wait + expected] if wait > expected else 0) for wait, count in counts.items()})
@@ -89,7 +89,7 @@ def as_waited(counts: Counter[int], commands: int, expected: int) -> Counter[int
 
 
 def told_by_wrk(told: str, clients: int) -> Load:
-    """What requests.lua has printed."""
+    """The load that requests.lua has printed."""
     if wrong := re.search(r"Non-2xx.*|Socket errors.*", told):
         sys.exit(f"bench: wrk: {wrong[0]} (where the desk is full: take fewer --seconds)")
     [(micros, commands)] = [(int(micros), int(count)) for micros, count in re.findall(r"^run (\d+) (\d+)$", told, re.M)]
@@ -100,7 +100,7 @@ def told_by_wrk(told: str, clients: int) -> Load:
 
 
 def by_wrk(address: str, work: Work, clients: int, seconds: int, header: str | None = None) -> Load:
-    """Sends requests to a service for so many seconds, each with a user's header if there is one."""
+    """Sends requests to a service for so many seconds, each with a header that names a user if there is one."""
     words = ["wrk", "--threads", threads_for(clients), "--connections", str(clients), "--duration", f"{seconds}s"]
     words += ["--timeout", f"{PATIENCE}s", "--script", os.path.join(HERE, "requests.lua"), address]
     words += ["--", str(work.branches), str(work.articles), work.keys(), *([header] if header else [])]
@@ -109,7 +109,7 @@ def by_wrk(address: str, work: Work, clients: int, seconds: int, header: str | N
 
 
 def ends_in(paths: Iterable[str]) -> list[tuple[int, int]]:
-    """The moment at which each transaction ended, and how long it took, in microseconds, from the logs of `pgbench`."""
+    """From the logs of `pgbench`, the moment at which each transaction ended and how long it took, in microseconds."""
     found = []
     for path in paths:
         with open(path, encoding="ascii") as file:
@@ -120,7 +120,7 @@ def ends_in(paths: Iterable[str]) -> list[tuple[int, int]]:
 
 
 def last_of(ends: Sequence[tuple[int, int]], seconds: int) -> Load:
-    """What clients found in the last so many seconds."""
+    """What clients found in the last `seconds` seconds."""
     last = max(end for end, _ in ends)
     first = max(last - 1_000_000 * seconds, min(end for end, _ in ends))
     return Load((last - first) / 1e6, Counter(wait for end, wait in ends if end > first), len(ends))
@@ -129,8 +129,8 @@ def last_of(ends: Sequence[tuple[int, int]], seconds: int) -> Load:
 def by_pgbench(
     command: Sequence[str], environment: Mapping[str, str], folder: str, work: Work, clients: int, seconds: int
 ) -> Load:
-    """Sends deliveries to PostgreSQL; the command is `pgbench` with the options that say where the server is. Before the seconds
-    that are measured the connections open, and each plans its statement."""
+    """Sends deliveries to PostgreSQL; the command is `pgbench` with the options that say where the server is. Before the measured
+    seconds begin, the connections open and each plans its statement."""
     logs = os.path.join(folder, "waits")
     words = [*command, "--no-vacuum", "--protocol", "prepared", "--file", os.path.join(HERE, "deliver.sql")]
     words += ["--client", str(clients), "--jobs", threads_for(clients), "--time", str(seconds + WARMING)]

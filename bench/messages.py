@@ -1,10 +1,10 @@
-"""Messages of HTTP that ask for what the lines of a script do, and the answers to them."""
+"""Messages of HTTP that ask for the same as lines of a script, and their answers."""
 
 from support.messages import answer, answer_to, compact, message
 
 
 def message_of(line):
-    """The message of a command under its key, or of an ask for a field."""
+    """The message for a command with its key, or for an ask for a field."""
     first, rest = line.split(" ", 1)
     if first == "?":
         _, branch, article = rest.split()
@@ -13,6 +13,6 @@ def message_of(line):
 
 
 def answer_of(line):
-    """The answer where that line answers the script."""
+    """The answer of HTTP where a script is answered by this line."""
     status, body = answer_to(line)
     return answer(status, compact(body))

@@ -1,4 +1,4 @@
-"""PostgreSQL, which carries out the same deliveries with row locks, in a cluster that is made for it."""
+"""PostgreSQL, which carries out the same deliveries with row locks, in a cluster made for this."""
 
 import glob
 import os
@@ -18,21 +18,21 @@ from loads import Load, Work, by_pgbench
 from services import START, Pace, Server
 from support.fronts import free_port
 
-# where Debian has the programs of each version, and the user that it makes for them
+# where Debian puts the programs of each version, and the user that Debian makes for them
 VERSIONS = "/usr/lib/postgresql/*/bin"
 OWNER = "postgres"
 
-# beside its defaults: it listens on no other address and no socket, and has room for the clients
+# settings beside the defaults: it listens on no other address and no socket, and has room for the clients
 SETTINGS = ["listen_addresses=127.0.0.1", "unix_socket_directories=", "shared_buffers=256MB", "max_connections=300"]
 
-# the seconds within which a program of it starts or ends
+# how many seconds one of its programs may take to start or to end
 WAITED = 30
 
 
 @dataclass(frozen=True)
 class Cluster:
-    """A cluster of PostgreSQL: the folder of its programs, its own folder, its password, and the user it belongs to where that is
-    not the one who runs this."""
+    """A cluster of PostgreSQL: the folder of its programs, its own folder, its password, and the user whom it belongs to where
+    that is not the one who runs this."""
 
     programs: str
     folder: str
@@ -46,11 +46,11 @@ class Cluster:
         return os.path.join(self.folder, "data")
 
     def version(self) -> str:
-        """As its programs tell it, without a packager's words."""
+        """The version that its programs report, without a packager's words."""
         return subprocess.run([self.program("postgres"), "--version"], capture_output=True, text=True).stdout.split()[2]
 
     def start(self, name: str, words: Sequence[str], environment: Mapping[str, str]) -> subprocess.Popen[bytes]:
-        """Starts one of the programs as the owner. What it tells goes into a file."""
+        """Starts one of its programs as the owner. What the program writes goes into a file."""
         groups: list[int] | None = None if self.owner is None else []
         group = self.owner and pwd.getpwnam(self.owner).pw_gid
         with open(os.path.join(self.folder, "log"), "ab") as log:
@@ -67,28 +67,28 @@ class Cluster:
             )
 
     def told(self) -> str:
-        """The end of what its programs told."""
+        """The end of what its programs wrote."""
         with open(os.path.join(self.folder, "log"), encoding="utf-8", errors="replace") as log:
             return log.read()[-2000:]
 
     def at(self, name: str, port: int) -> list[str]:
-        """One of the programs that ask the server, with the options that say where the server is."""
+        """One of the programs that connect to the server, with the options that say where it is."""
         return [self.program(name), "-h", "127.0.0.1", "-p", str(port), "-U", OWNER]
 
     def asking(self) -> dict[str, str]:
-        """The environment of these programs, which has the password."""
+        """The environment of these programs; it has the password."""
         return {**os.environ, "PGPASSWORD": self.password}
 
 
 def newest_programs() -> str | None:
-    """The folder of the newest version of PostgreSQL that has all that is needed."""
+    """The folder of the newest version of PostgreSQL that has all programs that are needed."""
     able = [path for path in glob.glob(VERSIONS) if os.path.exists(os.path.join(path, "pgbench"))]
     numbered = [(int(found[1]), path) for path in able if (found := re.search(r"/(\d+)/bin$", path))]
     return max(numbered)[1] if numbered else None
 
 
 def owner_of_clusters() -> str | None:
-    """As root PostgreSQL does not run: then the cluster belongs to the user that Debian makes for it."""
+    """The user that Debian makes for clusters, where this runs as root, as which PostgreSQL does not run; else None."""
     return OWNER if os.geteuid() == 0 else None
 
 
@@ -152,7 +152,7 @@ class Postgres(Server):
             time.sleep(0.05)
 
     def ask(self, *words: str) -> str:
-        """What `psql` tells, with bars between the columns."""
+        """What `psql` writes, with bars between the columns."""
         options = ["-X", "-q", "-A", "-t", "-v", "ON_ERROR_STOP=1", "-d", "postgres"]
         command = [*self.cluster.at("psql", self.port), *options, *words]
         ended = subprocess.run(command, env=self.cluster.asking(), capture_output=True, text=True)
@@ -164,12 +164,12 @@ class Postgres(Server):
         self.end()
 
     def end(self) -> None:
-        """Ends it fast: it waits for no session."""
+        """Ends it fast, without waiting for sessions."""
         self.process.send_signal(signal.SIGINT)
         try:
             self.process.wait(WAITED)
         except subprocess.TimeoutExpired:
-            # at once, with all its children
+            # at once, with all its child processes
             self.process.send_signal(signal.SIGQUIT)
             self.process.wait()
 

@@ -14,7 +14,7 @@ EXPIRY_GROWTH = 3
 DELIVERY = 1.2
 OPENING = 0.3
 RESIDENT = 4
-# a message takes at most so many times what its line takes, so that there are at least 0.8 as many a second
+# a message takes at most so many times as long as its line, which leaves at least 0.8 times as many a second
 MESSAGE = 1.25
 LONG_RUN = 1.01
 COMMANDS = [kind for kind in KINDS if kind != "ask"]
@@ -35,7 +35,7 @@ NAMES = {
 
 @dataclass
 class Found:
-    """What was found, by size and player, and the seconds of runs that end at three points of the opening."""
+    """What was found, by size and player; and how many seconds runs took that end at three points of the opening."""
 
     sizes: list
     limit: int
@@ -43,11 +43,11 @@ class Found:
     bytes: dict = field(default_factory=dict)
     played: dict = field(default_factory=dict)
     runs: dict = field(default_factory=dict)
-    # messages, messages more, and the bytes that are resident behind the first and behind the last of them
+    # how many messages were sent, how many more after these, and the resident bytes after the first and after the last of them
     long: tuple = ()
 
     def of(self, size, player, name, choose=median):
-        """The median of a number of the sessions, or what else is chosen, or None where there were none."""
+        """The median of one number over the sessions, or what `choose` makes of it; None where there were no sessions."""
         played = self.played.get((size, player), [])
         return choose(getattr(each, name) for each in played) if played else None
 
@@ -55,22 +55,22 @@ class Found:
         return [micros for each in self.played.get((size, player), []) for micros in each.micros[kind]]
 
     def micros(self, size, player, kind):
-        """The median of all parts of the batches, or None where there were none."""
+        """The median over all parts of the batches, or None where there were none."""
         parts = self.parts(size, player, kind)
         return median(parts) if parts else None
 
     def against(self, size, player, beside, *kinds):
-        """The median of the ratios to the other player's part that was played right after each, or None."""
+        """The median of the ratios to that part of the other player which was played right after each, or None."""
         pairs = [pair for kind in kinds for pair in zip(self.parts(size, player, kind), self.parts(size, beside, kind))]
         return median(one / other for one, other in pairs) if pairs else None
 
     def run_seconds(self, size):
-        """The least seconds behind the store's opening, behind its selects, and behind the whole opening. They are long, and
-        close to one another: the least is what other work on the machine adds least to."""
+        """The least seconds up to the end of the store's opening, of its selects, and of the whole opening. These times are long
+        and close to one another, and other work on the machine adds least to the least of them."""
         return [min(seconds) for seconds in zip(*self.runs[size])]
 
     def beyond(self, size):
-        """The seconds of an opening beyond the store's opening and selects, and their ratio to these."""
+        """How many seconds an opening takes beyond the store's opening and selects, and their ratio to these."""
         _, selects, whole = self.run_seconds(size)
         return whole - selects, whole / selects - 1
 
@@ -111,7 +111,7 @@ def processor():
 
 
 def surroundings(program, file_system, library):
-    """What was measured, on what, and when."""
+    """What was measured, on what machine, and when."""
     machine = f"{os.cpu_count()} processors, {processor()}, load {os.getloadavg()[0]:.1f}"
     system = f"{platform.system()} {platform.release()}, files on {file_system}"
     yield f"{time.strftime('%Y-%m-%d %H:%M')}; {machine}; {system}."
@@ -135,7 +135,7 @@ def desks(found):
 
 
 def cells(found, size, kind, player, beside):
-    """The microseconds of the program and of C, and their ratio."""
+    """The cells of the microseconds of the program and of C, and of their ratio."""
     own, other = found.micros(size, player, kind), found.micros(size, beside, kind)
     return [number(own), number(other), ratio(found.against(size, player, beside, kind))]
 
@@ -182,7 +182,7 @@ def services(found):
 
 
 def growths(found):
-    """Each command at the greatest size against the least, where there are two."""
+    """Rows of each command at the greatest size against the least, where there are two sizes."""
     least, most = min(found.sizes), max(found.sizes)
     for player, where in [(FILE, "on a file"), (MEMORY, "in memory")] if least < most else []:
         for kind in KINDS:
@@ -192,7 +192,8 @@ def growths(found):
 
 
 def over_http(found):
-    """Commands as messages against their lines, an ask at the greatest size against the least, and the memory."""
+    """Rows of commands as messages against the same as lines, of an ask at the greatest size against the least, and of the
+    memory."""
     for size in found.sizes:
         yield f"commands over HTTP against a script's, {size:,}", MESSAGE, found.against(size, HTTP, FILE, *COMMANDS)
     least, most = min(found.sizes), max(found.sizes)
@@ -204,7 +205,7 @@ def over_http(found):
 
 
 def targets(found):
-    """Each target with its limit, and what was found."""
+    """Rows of each target, with its limit and what was found."""
     size = max(found.sizes)
     yield from growths(found)
     yield from over_http(found)

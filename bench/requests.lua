@@ -1,6 +1,7 @@
--- Deliveries for `wrk`, or asks. The arguments are numbers of branches and articles, of which each has random ones; whether the
--- keys of deliveries are `random` or `ordered`, or `none`: then it asks for fields; and a user's header, if there is one. At the
--- end it prints the microseconds of the run, how many requests were answered, and how many of them after how many microseconds.
+-- Deliveries for `wrk`, or asks. The arguments are how many branches and articles there are, from which each request takes
+-- random ones; `random` or `ordered`, for the keys of deliveries, or `none`, and then it asks for fields; and a user's header, if
+-- there is one. At the end it prints the microseconds of the run, how many requests were answered, and each wait in microseconds
+-- with how many requests waited so long.
 local thread = 0
 
 function setup(started)

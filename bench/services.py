@@ -1,5 +1,5 @@
-"""What carries out deliveries, under syncs that may be slower: here the program that serves a desk in a file. Each server is a
-process that listens on 127.0.0.1 only and is ended by its id."""
+"""What carries out deliveries, with syncs that may be slower; here it is the program, which serves a desk in a file. Each server
+is a process that listens on 127.0.0.1 only and is ended by its id."""
 
 import os
 import re
@@ -14,26 +14,26 @@ from itertools import product
 
 import files
 from loads import Load, Work, by_wrk
-from model import Desk
+from steps import Desk
 from support.tables import sqlite3
 
-# the fields of a desk: their upper bound and what they begin with, as postgres.sql has them
+# the fields of a desk: their upper bound and their start, the same as in postgres.sql
 HI = 1_000_000_000
 START = 1_000_000
 FIELDS = 10_000
 
-# the most connections that are served together, and those that are served until the program ends
+# how many connections are served at most, together and until the program ends
 CLIENTS, CONNECTIONS = 1000, 1_000_000
 
 
 class Syncs:
-    """How many syncs there were, and their nanoseconds, as slow_sync.c counts them in a file."""
+    """How many syncs there were, and how many nanoseconds they took, as slow_sync.c counts them in a file."""
 
     def __init__(self, path: str):
         self.path = path
         with open(path, "wb") as file:
             file.write(bytes(16))
-        # PostgreSQL may be another user's
+        # a file of PostgreSQL may belong to another user
         os.chmod(path, 0o666)
 
     def counted(self) -> tuple[int, int]:
@@ -44,7 +44,7 @@ class Syncs:
 
 @dataclass(frozen=True)
 class Pace:
-    """How much slower syncs are, and the library by which they are slower and are counted, where there is one."""
+    """By how much syncs are slower; and the library that makes them slower and counts them, where there is one."""
 
     name: str
     millis: int
@@ -59,7 +59,7 @@ class Pace:
 
 
 class Server(ABC):
-    """A server of a desk: when it starts, there are all fields and no deliveries."""
+    """A server of a desk. When it starts, the desk has all fields and no deliveries."""
 
     @abstractmethod
     def __enter__(self) -> "Server":
@@ -71,23 +71,24 @@ class Server(ABC):
 
     @abstractmethod
     def load(self, work: Work, clients: int, seconds: int) -> Load:
-        """Has so many clients send requests for so many seconds."""
+        """Lets so many clients send requests for so many seconds."""
 
     @abstractmethod
     def kept(self) -> tuple[int, int]:
-        """How many deliveries are kept, and how many pieces the fields have got. To find this the server may be ended."""
+        """How many deliveries are kept, and how many pieces the fields have got by them. The server may be ended to find this
+        out."""
 
 
 def make_desk(program: str, path: str, branches: int, articles: int) -> None:
     """A new desk with the fields of so many branches and articles."""
     desk = Desk()
     for branch, article in product(range(branches), range(articles)):
-        desk.add_field(f"F{branch}-{article}", f"N{branch}", f"A-{article}", HI, START)
+        desk.carry_out(f"F{branch}-{article}", f"field N{branch} A-{article} 0 {HI} {START}")
     files.write(program, path, desk.rows())
 
 
 def listening(process: subprocess.Popen[bytes]) -> int:
-    """The port that a service tells."""
+    """The port that a service writes on its first line."""
     assert process.stdout
     told = re.fullmatch(rb"listening (\d+)\n", process.stdout.readline())
     if not told:
@@ -96,7 +97,7 @@ def listening(process: subprocess.Popen[bytes]) -> int:
 
 
 class Service(Server):
-    """The program, which serves a copy of a desk in a file. The options may say that it serves many connections together."""
+    """The program, which serves a copy of a desk in a file. With some options it serves many connections together."""
 
     def __init__(self, program: str, desk: str, pace: Pace, options: Sequence[str] = ()):
         self.desk, self.pace = desk, pace
@@ -126,7 +127,7 @@ class Service(Server):
         return by_wrk(f"http://127.0.0.1:{self.port}", work, clients, seconds)
 
     def kept(self) -> tuple[int, int]:
-        """The program is ended first: while it serves the file, nobody else can read that."""
+        """The same. The program is ended first: while it serves the file, nobody else can read that."""
         self.end()
         with closing(sqlite3.connect(self.path)) as database:
             moves, pieces = database.execute(

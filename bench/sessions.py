@@ -9,18 +9,19 @@ from collections import defaultdict
 from dataclasses import dataclass, field
 
 from messages import answer_of, message_of
+from support.tables import lines_of_rows
 
 PIECE = 65_536
 
 
 class Late(Exception):
-    """What was asked for was not answered within its seconds."""
+    """No answer came within its seconds."""
 
 
 @dataclass
 class Played:
-    """What is found in a session: by kind the microseconds of a command in each part of a batch, the seconds of its opening,
-    and bytes."""
+    """What is found in a session: by kind of command, the microseconds per command in each part of a batch; the seconds of its
+    opening; and bytes of memory."""
 
     micros: dict = field(default_factory=lambda: defaultdict(list))
     opening: float = 0
@@ -29,7 +30,7 @@ class Played:
 
 
 class Session:
-    """A child process whose lines of input are answered by lines."""
+    """A child process that answers lines of input with lines."""
 
     def __init__(self, words):
         self.words = words
@@ -40,18 +41,18 @@ class Session:
         os.set_blocking(self.input, False)
 
     def channels(self):
-        """What is written to, and what is read from."""
+        """The channel that is written to, and the one that is read from."""
         return self.process.stdin.fileno(), self.process.stdout.fileno()
 
     def exchange(self, lines, answers, seconds=None):
-        """Writes the lines and reads so many answers meanwhile: these, and the seconds until the last one."""
+        """Writes the lines and reads so many answers meanwhile. Returns the answers, and the seconds until the last one."""
         data = "".join(line + "\n" for line in lines).encode()
         read, found = self.transfer(data, answers, lambda piece: piece.count(b"\n"), seconds)
         return read.decode().splitlines(), found
 
     def transfer(self, data, left, count, seconds=None):
-        """Writes the bytes and reads meanwhile until nothing is left, as the pieces that come are counted: these, and the
-        seconds until the last one."""
+        """Writes the bytes, and meanwhile reads pieces, until what `count` says of each adds up to `left`. Returns what was read,
+        and the seconds until the last piece."""
         data = memoryview(data)
         read = bytearray()
         began = time.perf_counter()
@@ -75,15 +76,15 @@ class Session:
         return piece
 
     def open(self, lines, seconds=None):
-        """The answers to the first lines. Notes the seconds from the process's start until then, and its memory: the bytes
-        that are resident, and the most that ever were."""
+        """The answers to the first lines. Notes how many seconds passed from the process's start until these, and its memory in
+        bytes: what is resident, and the most that ever was."""
         found, _ = self.exchange(lines, len(lines), seconds)
         self.played.opening = time.perf_counter() - self.began
         self.played.resident, self.played.peak = self.memory()
         return found
 
     def memory(self):
-        """The bytes that are resident, and the most that ever were."""
+        """The memory in bytes: what is resident, and the most that ever was."""
         with open(f"/proc/{self.process.pid}/status", encoding="utf-8") as file:
             status = dict(line.split(":", 1) for line in file)
         return [1024 * int(status[name].split()[0]) for name in ("VmRSS", "VmHWM")]
@@ -92,7 +93,7 @@ class Session:
         return self
 
     def __exit__(self, kind, _error, _trace):
-        """Lets the process come to its end, or ends it where something failed."""
+        """Lets the process end, or ends it where something failed."""
         if kind:
             self.process.kill()
         self.process.stdin.close()
@@ -109,7 +110,7 @@ def expect_answers(found, wanted, what):
 
 
 class Program(Session):
-    """A run of the program. Each of its answers is expected."""
+    """A run of the program. Each of its answers has to be the one that is expected."""
 
     def ask_first(self, step):
         """Opens a desk in a file, and asks for a field."""
@@ -120,14 +121,14 @@ class Program(Session):
         expect_answers(self.open(made.script, seconds), made.answers, "the making")
 
     def play(self, kind, steps):
-        """Plays the steps: the seconds from the first byte written to the last one read."""
+        """Plays the steps. Returns the seconds from the first byte written to the last one read."""
         found, seconds = self.exchange([step.line for step in steps], len(steps))
         expect_answers(found, [step.answer for step in steps], kind)
         return seconds
 
 
 class Service(Session):
-    """The program, which serves a desk in a file to one connection. Each of its answers is expected."""
+    """The program, which serves a desk in a file to one connection. Each of its answers has to be the one that is expected."""
 
     def channels(self):
         _, port = self.process.stdout.readline().split()
@@ -136,7 +137,7 @@ class Service(Session):
         return self.socket.fileno(), self.socket.fileno()
 
     def play(self, kind, steps):
-        """Plays the steps as messages: the seconds from the first byte written to the last one read."""
+        """Plays the steps as messages. Returns the seconds from the first byte written to the last one read."""
         wanted = [answer_of(step.answer) for step in steps]
         data = b"".join(message_of(step.line) for step in steps)
         found, seconds = self.transfer(data, sum(map(len, wanted)), len)
@@ -156,11 +157,11 @@ class Rows(Session):
         self.open(["all"])
 
     def play(self, _kind, steps):
-        """Puts the rows in, one transaction a command: the seconds as C has measured them."""
-        return self.put(line for step in steps for line in lines_of_rows(step))
+        """Puts the rows in, with one transaction per command. Returns the seconds that C has measured."""
+        return self.put(line for step in steps for line in lines_of(step))
 
     def play_together(self, steps, count):
-        """Puts the rows in, those of so many commands in one transaction: the seconds."""
+        """Puts the rows in, with one transaction for so many commands. Returns the seconds."""
         parts = [steps[first : first + count] for first in range(0, len(steps), count)]
         return self.put(line for part in parts for line in in_transaction(line for step in part for line in rows_in(step)))
 
@@ -170,19 +171,19 @@ class Rows(Session):
 
 
 def rows_in(step):
-    return ["\t".join(map(str, row)) for row in step.rows]
+    return lines_of_rows(step.rows, "\t")
 
 
 def in_transaction(lines):
     return ["begin", *lines, "commit"]
 
 
-def lines_of_rows(step):
-    return rows_in(step) if step.rows[0][0] == "ask" else in_transaction(rows_in(step))
+def lines_of(step):
+    return rows_in(step) if "ask" in step.rows else in_transaction(rows_in(step))
 
 
 def play_together(players, batches, parts):
-    """Plays each batch on all players, in so many parts that are played on each in turn."""
+    """Plays each batch on all players: it is cut into parts, and each part is played on one player after the other."""
     for kind, batch in batches.items():
         length = -(-len(batch) // parts)
         for first in range(0, len(batch), length):
@@ -192,7 +193,7 @@ def play_together(players, batches, parts):
 
 
 def run_seconds(program, path, status, errors):
-    """The seconds of a run that reads nothing and ends so."""
+    """How many seconds a run takes that reads nothing and ends with this status and these errors."""
     began = time.perf_counter()
     ended = subprocess.run([program, "run", path], stdin=subprocess.DEVNULL, capture_output=True)
     seconds = time.perf_counter() - began

@@ -1,5 +1,6 @@
-"""A deal between desks: at each an order of the same number, of which the first desk's decides. All that is to be known stands in
-these orders, and nobody keeps notes; so a deal may be left anywhere, and be taken up by anybody, also by several at once.
+"""A deal between desks: at each desk there is an order of the same number, and the first desk's order decides. All that there is
+to know stands in these orders, and nobody keeps notes. So a deal may be left anywhere, and may be taken up by anybody, also by
+several at once.
 
 Each command rests on facts that stay once they are so; so it may come late, or twice:
 
@@ -20,23 +21,23 @@ from stockdesk_remote import Desk, NoAnswer, Told
 # the numbers of deals, which no other order has
 LEAST, MOST = 900_000_000, 999_999_999
 
-# The moment of the other desks' orders. No expiry ends them but that of this moment, which nobody sends. The first's has an
-# earlier one, by which it is known.
+# The moment of the other desks' orders. Only an expiry at that moment ends them, and nobody sends one. The first desk's order has
+# an earlier moment, by which it is known.
 NEVER = 4_000_000_000
 LATEST = NEVER - 1
 
 OPEN, COMMITTED, ABORTED = "open", "committed", "aborted"
 
-# refusals of what somebody else has done, or ended, meanwhile: the orders tell
+# refusals by what somebody else has done, or has ended, meanwhile: the orders say what
 LOOK_AGAIN = {"KeyReused", "NoOrder", "Ended", "NotHeld", "OverUse", "Firm"}
 
-# a deal that is looked at so often comes to no end
+# after so many looks a deal is taken to come to no end
 MOST_LOOKS = 100
 MOST_KEYS = 10
 
 
 class Foreign(Exception):
-    """Another hand was on the number: nothing more is done, and somebody has to look."""
+    """Somebody else has used the number: nothing more is done, and a person has to look."""
 
 
 @dataclass(frozen=True)
@@ -75,7 +76,7 @@ class Order:
 
 @dataclass(frozen=True)
 class Step:
-    """A command that is due at a desk: 0 is the first. A use is of a line, from 1."""
+    """A command that is due at a desk; desk 0 is the first. A use is on a line, counted from 1."""
 
     side: int
     verb: str
@@ -83,7 +84,7 @@ class Step:
 
 
 def order_of(told: Told) -> Order:
-    """An order that a desk shows. Foreign: no deal has such a one."""
+    """An order that a desk shows. Foreign: no deal has such an order."""
     lines = told["lines"]
     is_a_deals = told["kind"] == "plain" and told["state"] in (OPEN, COMMITTED, ABORTED)
     if not is_a_deals or any(line["used"] not in (0, line["held"]) for line in lines):
@@ -93,8 +94,8 @@ def order_of(told: Told) -> Order:
 
 
 def next_step(orders: Sequence[Order | None], goes_on: bool, holds: bool = False) -> Step | None:
-    """What is due at the desks, of which the first is in front; nothing where the deal has ended, or is held. Who does not know
-    what it is to do does not go on with it, unless the decision alone is left."""
+    """What is due at the desks, the first of which is in front; nothing where the deal has ended, or is held. A caller who does
+    not know what the deal is to do does not go on with it, unless only the decision is left."""
     first = orders[0]
     if first is None:
         return Step(0, "open") if goes_on else None
@@ -116,14 +117,15 @@ def forward(orders: Sequence[Order | None], holds: bool) -> Step | None:
         return Step(lacking[0], "open")
     if holds:
         return None
-    # the first's last: that it has used tells everybody that all others have
+    # the first desk's line last: once it has used, everybody knows that all others have
     turns = [*range(1, len(orders)), 0]
     unused = [(side, order.used.index(False)) for side in turns if (order := orders[side]) and not order.has_used_all]
     return Step(unused[0][0], "use", unused[0][1] + 1)
 
 
 def fault_of(early: Order | None, first: Order | None, late: Order | None) -> str | None:
-    """Why another hand was on an order that was seen before the first desk's, and after it."""
+    """Why somebody else was at work on the order of another desk, which was seen before the first desk's order and after it; None
+    where nobody was."""
     if first is None:
         return "is there, but not at the first desk" if early else None
     if not first.is_first or (late and late.is_first):
@@ -138,8 +140,8 @@ def fault_of(early: Order | None, first: Order | None, late: Order | None) -> st
 
 
 def key_of_opening(number: int, *sides: Lines) -> str:
-    """The key under which an order is opened that belongs to this deal alone: at the first desk it comes from what the deal does
-    at all of them, at another from what it does at the first."""
+    """The key under which an order of this deal alone is opened. At the first desk it comes from what the deal does at all desks;
+    at another desk, from what it does at the first."""
     first, *others = [" ".join(map(str, lines)) for lines in sides]
     digest = hashlib.sha256("\n".join([first, *sorted(others)]).encode()).hexdigest()
     return f"between-{number}-{digest[:16]}"
@@ -147,8 +149,8 @@ def key_of_opening(number: int, *sides: Lines) -> str:
 
 @dataclass
 class Side:
-    """A desk of a deal, what the deal does there if that is known, and its order as it was seen last. `is_ours` once it is known
-    to be this deal's; `away` says why nothing is known of a desk that does not answer."""
+    """A desk of a deal, what the deal does there if that is known, and its order as it was seen last. `is_ours` says that the
+    order is known to be this deal's; `away` says why a desk that does not answer is unknown."""
 
     desk: Desk
     lines: Lines | None = None
@@ -166,7 +168,7 @@ class End:
 
 
 class Deal:
-    """A deal at its desks, the first in front. Where it is not known what it is to do, it is only brought to an end."""
+    """A deal at its desks, the first in front. Where it is not known what the deal is to do, it is only brought to an end."""
 
     def __init__(self, number: int, sides: Sequence[Side], until: int = LATEST, holds: bool = False):
         self.number, self.sides, self.until, self.holds = number, sides, until, holds
@@ -174,7 +176,7 @@ class Deal:
         self.goes_on = len(self.terms) == len(sides)
 
     def is_held(self) -> bool:
-        """Whether it waits for a moment, as it was seen: nothing is used, and an expiry at its first desk will end it."""
+        """Whether the deal, as it was seen, waits for a moment: nothing is used, and an expiry at its first desk will end it."""
         orders = [side.order for side in self.sides if side.order]
         is_idle = not any(any(order.used) for order in orders)
         return is_idle and all(order.state == OPEN and order.until != LATEST for order in orders)
@@ -189,7 +191,7 @@ class Deal:
             raise self.foreign(side, str(fault)) from fault
 
     def seen_if_there(self, side: Side) -> Order | None:
-        """The same, or None where its desk does not answer."""
+        """The order at a desk, or None where the desk does not answer."""
         side.away = None
         try:
             return self.seen(side)
@@ -201,8 +203,8 @@ class Deal:
         return Foreign(f"order {self.number} at {side.desk.name} {why}")
 
     def look(self) -> None:
-        """Sees all orders: the others before the first desk's, since they are opened behind it, and behind it, since what it has
-        used, and its end, rest on them. NoAnswer: the first desk does not answer."""
+        """Looks at all orders: at those of the other desks before the first desk's, since they are opened after it, and again
+        after it, since what it has used, and how it ended, rests on them. NoAnswer: the first desk does not answer."""
         first, *others = self.sides
         early = [self.seen_if_there(side) for side in others]
         first.order = self.seen(first)
@@ -218,7 +220,7 @@ class Deal:
             self.expect_ours(side)
 
     def expect_ours(self, side: Side) -> None:
-        """Foreign: its order of this number is another deal's."""
+        """Foreign: the desk's order of this number is another deal's."""
         if side.order is None or side.is_ours:
             return
         key = self.key_of(side)
@@ -228,7 +230,8 @@ class Deal:
         side.is_ours = True
 
     def key_of(self, side: Side) -> str | None:
-        """The key under which its order is opened; none at the first desk, where it is not known what the deal is to do."""
+        """The key under which the desk's order is opened; None at the first desk, where it is not known what the deal is to
+        do."""
         first = self.sides[0]
         if side is first:
             return key_of_opening(self.number, *self.terms) if self.goes_on else None
@@ -236,7 +239,7 @@ class Deal:
         return key_of_opening(self.number, lines) if lines else None
 
     def leave_out(self, side: Side, fault: NoAnswer) -> None:
-        """Goes on without knowing of a desk that does not answer. NoAnswer: it is the first."""
+        """Goes on without a desk that does not answer. NoAnswer: it is the first desk."""
         if side is self.sides[0]:
             raise fault
         side.away, side.order = fault, None
@@ -250,7 +253,7 @@ class Deal:
     # ---- what is done there
 
     def command_of(self, step: Step) -> tuple[str, str]:
-        """The key and the spelling of a step."""
+        """The key and the spelling of the command of a step."""
         side = self.sides[step.side]
         if step.verb == "open":
             until = NEVER if step.side else self.until
@@ -263,13 +266,13 @@ class Deal:
         return f"between-{self.number}-{step.verb}", f"{step.verb} {self.number}"
 
     def send(self, step: Step) -> Told | None:
-        """Carries a step out, under another key where its own was taken for something else, and tells the refusal if it is
+        """Carries a step out; under another key where its own was taken for something else. Returns the refusal where it is
         refused. Foreign: the number is taken by an order that was opened under no key of this deal."""
         key, command = self.command_of(step)
         side = self.sides[step.side]
         for count in range(1, MOST_KEYS + 1):
             refusal = side.desk.send(key if count == 1 else f"{key}-{count}", command)
-            # an order that is opened under its key with another moment is this deal's
+            # an order that is opened under the deal's key with another moment is this deal's
             if not refusal or refusal["refused"] != "KeyReused" or step.verb == "open":
                 break
         if refusal and refusal["refused"] == "OrderThere":
@@ -277,7 +280,7 @@ class Deal:
         return refusal
 
     def note(self, step: Step) -> None:
-        """What is known behind a step that was done."""
+        """Notes what is known once a step is done."""
         side = self.sides[step.side]
         if step.verb == "open":
             lines = side.lines or ()
@@ -293,7 +296,7 @@ class Deal:
 
     def carry(self) -> End:
         """Carries the deal to its end, or, where it is to be held, until all its orders are open. NoAnswer: a desk has not
-        answered; at the others the deal is carried to its end where it is decided, or given up."""
+        answered. Then the deal is carried to its end at the other desks where it is decided, and given up where it is not."""
         why = ""
         self.look()
         looks = 1
@@ -317,15 +320,15 @@ class Deal:
                 why = why or self.told(step, refusal)
                 if self.sides[0].order is None:
                     return End("not moved", why)
-                # given up, at the first desk first: behind its abort nobody can decide otherwise
+                # given up, at the first desk first: once that has aborted, nobody can decide otherwise
                 self.send(Step(0, "abort"))
             self.look()
             looks += 1
         raise Foreign(f"order {self.number} comes to no end")
 
     def wants_all(self, step: Step) -> bool:
-        """Whether a step waits for desks that do not answer: it does not where the first desk's order has ended, or ends by it
-        without a decision."""
+        """Whether a step waits for desks that do not answer. It does not wait where the first desk's order has ended, or ends by
+        this step without a decision."""
         first = self.sides[0].order
         return step.verb != "abort" and (first is None or first.state == OPEN)
 
@@ -334,7 +337,7 @@ class Deal:
         return f"{self.sides[step.side].desk.name} refuses to {step.verb} it: {refusal['refused']}{line}"
 
     def end(self, why: str) -> End:
-        """How it has ended where nothing is due."""
+        """How the deal has ended, where nothing is due."""
         first = self.sides[0].order
         if first is None:
             return End("not moved", "no desk has begun it")
@@ -344,10 +347,10 @@ class Deal:
 
 
 def found_deal(number: int, desks: Sequence[Desk]) -> Deal | None:
-    """The deal that some of these desks have orders of, or None where none has. Desks that do not answer may be its, too.
-    Foreign: none of them is its first, or two. NoAnswer: its first may be one that does not answer."""
+    """The deal of which some of these desks have orders, or None where none has. Desks that do not answer may be its, too.
+    Foreign: none of these desks is its first, or two are. NoAnswer: its first may be one that does not answer."""
     sides: list[Side] = []
-    # again where the first was not there yet when it was asked
+    # again, where the first desk's order was not there yet when the desk was asked
     for _ in range(2):
         whole = Deal(number, [Side(desk) for desk in desks])
         for side in whole.sides:

@@ -23,7 +23,7 @@ PR_SET_PDEATHSIG = 1
 
 
 class Answer(NamedTuple):
-    """Of the desk, or of this machine in its place."""
+    """An answer of the desk, or of this machine in its place."""
 
     status: int
     kind: str
@@ -33,10 +33,14 @@ class Answer(NamedTuple):
 Tell = Callable[[Answer], None]
 
 
-def lock(path: str) -> int:
-    """A lock that this process and its desk hold until both are gone: so whoever has it reads a file that nobody writes."""
-    handle = os.open(path, os.O_RDWR | os.O_CREAT, 0o600)
-    fcntl.flock(handle, fcntl.LOCK_EX)
+def lock(path: str, waits: bool = True) -> int:
+    """A lock on the desk in a file, which this process and its desk hold until both are gone. So whoever has it reads a file that
+    nobody writes. Fault: another process has it, and this one does not wait."""
+    handle = os.open(path + ".lock", os.O_RDWR | os.O_CREAT, 0o600)
+    try:
+        fcntl.flock(handle, fcntl.LOCK_EX | (0 if waits else fcntl.LOCK_NB))
+    except BlockingIOError:
+        raise Fault(f"{path} is in use: end the program that has it open first") from None
     return handle
 
 
@@ -48,8 +52,8 @@ def die_with(parent: int) -> None:
 
 
 def start(program: str, path: str, held: int) -> subprocess.Popen[bytes]:
-    """Starts the desk, which keeps the lock, too. It serves as many connections as this machine has to it, and so ends when all
-    of them do."""
+    """Starts the desk, which holds the lock, too. The desk serves as many connections as this machine has to it, and so ends when
+    all of them end."""
     words = [program, "serve", path, "--port", "0", "--connections", str(1 + VIEWERS), "--together", str(TOGETHER)]
     tie = functools.partial(die_with, os.getpid())
     return subprocess.Popen(words, stdin=subprocess.DEVNULL, stdout=subprocess.PIPE, pass_fds=[held], preexec_fn=tie)
@@ -75,7 +79,7 @@ class Connection:
     def begin(self) -> None:
         self.tells: deque[Tell] = deque()
         self.asked = self.answered = 0
-        # what is done behind so many answers
+        # what is to be done behind so many answers
         self.fences: deque[tuple[int, Callable[[], None]]] = deque()
         self.has_answered = asyncio.Event()
 
@@ -128,7 +132,7 @@ class Desk:
         self.turns = itertools.cycle(viewers)
 
     def view(self, target: str, tell: Tell) -> None:
-        """Asks for what the desk shows behind all commands that it was given."""
+        """Asks for what the desk shows once it has carried out all commands that it was given."""
         self.commands.behind_all(lambda: next(self.turns).ask(view_message(target), tell))
 
     async def hear(self) -> None:

@@ -1,14 +1,14 @@
-"""The log of a desk that several machines hold: the values that one key of etcd takes, one after the other, each an entry. An
-entry is a head line and, behind `lines`, the commands, each a line KEY COMMAND:
+"""The log of a desk that several machines hold: the values that one key of etcd takes, one after the other. Each value is an
+entry. An entry is a head line and, behind `lines`, the commands, each as a line KEY COMMAND:
 
     lines RUN NUMBER BASE    RUN and NUMBER name the entry; BASE is the revision that its machine had come to, up to which none of
                              the lines was late
-    begin PLACES DIGEST      the first entry of a log that begins with a certain desk: it has so many places, and what is kept at
-                             them has that digest; that of nothing is an empty word
-    mark BASE                nothing behind it that was asked for before it counts; BASE is the mark before
+    begin PLACES DIGEST      the first entry of a log that begins with a certain desk: the desk has so many places, and what is
+                             kept at them has that digest; the digest of nothing is an empty word
+    mark BASE                a command behind it that was asked for before it does not count; BASE is the mark before
     end                      nothing behind it counts: the desk is rolled over, or its program changed
 
-Any other value is none of these, and all machines pass over it."""
+Any other value is no entry, and all machines pass over it."""
 
 import asyncio
 import contextlib
@@ -20,7 +20,7 @@ import grpc
 from etcd3.etcdrpc import kv_pb2, rpc_pb2, rpc_pb2_grpc
 from stockdesk_tools import Fault, say
 
-# how long one call of etcd may take, and what is waited before the next behind one that failed, in seconds
+# how long one call of etcd may take, and how long to wait before the next call behind one that failed, in seconds
 CALL_SECONDS, AGAIN_SECONDS = 1, 0.1
 
 OPTIONS = [
@@ -33,7 +33,7 @@ HEAD = re.compile(rb"lines ([0-9a-f]+) ([0-9]+) ([0-9]+)|mark ([0-9]+)|begin ([0
 
 
 class Entry(NamedTuple):
-    """What stands at a revision of the log."""
+    """An entry of the log, or another value, at its revision."""
 
     revision: int
     value: bytes
@@ -60,7 +60,7 @@ class End(NamedTuple):
 
 
 class ToldMark(NamedTuple):
-    """Where a machine's desk stood at a mark: so many places, and the digest of what is kept at them."""
+    """Where a machine's desk stood at a mark: how many places it had, and the digest of what is kept at them."""
 
     revision: int
     machine: str
@@ -92,6 +92,7 @@ class Log:
         self.name = name.encode()
         channel = grpc.aio.insecure_channel(address, OPTIONS)
         self.store, self.watcher = rpc_pb2_grpc.KVStub(channel), rpc_pb2_grpc.WatchStub(channel)
+        self.cluster = rpc_pb2_grpc.ClusterStub(channel)
         self.is_well = True
 
     async def try_call(self, call: Any, request: Any) -> Any:
@@ -106,6 +107,16 @@ class Log:
             self.is_well = False
             await asyncio.sleep(AGAIN_SECONDS)
             return None
+
+    async def member(self) -> str:
+        """The name of the member of etcd on this machine. It is asked for until there is an answer."""
+        while True:
+            found = await self.try_call(self.cluster.MemberList, rpc_pb2.MemberListRequest())
+            names = [str(each.name) for each in found.members if each.ID == found.header.member_id] if found else []
+            # a member that has not joined yet has no name
+            if any(names):
+                return names[0]
+            await asyncio.sleep(AGAIN_SECONDS)
 
     async def put(self, value: bytes, key: str = "log") -> int | None:
         """The revision at which it is kept; None where that is not known."""
@@ -160,7 +171,7 @@ class Log:
 
 
 def entries_of(told: Any, first: int) -> list[Entry]:
-    """The entries that etcd tells to one who has all before that revision."""
+    """The entries in an answer of etcd to one who has all before that revision."""
     if told.compact_revision:
         raise Fault(f"the log begins at {told.compact_revision} and is wanted from {first}: start from a newer copy")
     if any(event.type != kv_pb2.Event.PUT or event.kv.mod_revision < first for event in told.events):

@@ -1,5 +1,5 @@
-"""One of the machines that hold a desk: it carries the log out on its own desk, adds to the log what was asked for here, and
-answers a command once its own desk has."""
+"""One of the machines that hold a desk. It carries the log out on its own desk, adds to the log what was asked for at this
+machine, and answers a command once its own desk has."""
 
 import asyncio
 import functools
@@ -7,7 +7,7 @@ import itertools
 import json
 import os
 import uuid
-from collections.abc import Callable
+from collections.abc import Callable, Iterable
 from dataclasses import dataclass, replace
 
 from stockdesk_desk import Answer, Desk, Tell, command_message
@@ -15,11 +15,14 @@ from stockdesk_log import Begin, End, Lines, Log, Mark, ToldMark, read_value, va
 from stockdesk_tools import Fault, say
 from stockdesk_walk import Past, Walk
 
-# lines of an entry, and messages that the desk has not answered yet, at most
+# how many lines an entry has, and how many messages the desk has not answered yet, at the most
 ENTRY_LINES, UNANSWERED = 256, 1_000
 
-# how long one entry is tried, and when the others have told of a mark, in seconds
+# how long a machine tries one entry, and after how long the others have said where they stand at a mark, in seconds
 PUT_SECONDS, HEAR_SECONDS = 5, 3
+
+# how many bytes of a value that is no entry are shown
+SHOWN = 60
 
 # a desk that two others contradict ends with this status, and stays down
 ASTRAY = 4
@@ -38,7 +41,7 @@ def tell_nobody(_: Answer) -> None:
 
 @dataclass(slots=True)
 class Ask:
-    """A command that was asked for, when so much of the log had been fed to the desk, or was known to the client."""
+    """A command that was asked for, and how much of the log had then been fed to the desk, or was known to the client."""
 
     line: bytes
     base: int
@@ -47,7 +50,8 @@ class Ask:
 
 
 class Machine:
-    """A machine by its name, which has come so far in the log: up to `revision` it was passed over or fed to the desk."""
+    """A machine by its name, and how far it has come in the log: what stands up to `revision` was passed over or fed to the
+    desk."""
 
     def __init__(self, name: str, log: Log, walk: Walk, desk: Desk, mark_lines: int):
         self.name, self.log, self.walk, self.desk, self.mark_lines = name, log, walk, desk, mark_lines
@@ -73,7 +77,7 @@ class Machine:
     # ---- the log, carried out
 
     async def carry_out(self) -> None:
-        # the mark at which it begins comes again, since it may be the end; another machine may have set one meanwhile
+        # the mark at which this begins comes again, since it may be the end; another machine may have set one meanwhile
         async for entry in self.log.follow(self.first):
             told = read_value(entry.value)
             if isinstance(told, Lines):
@@ -86,6 +90,8 @@ class Machine:
                 await self.set_mark(entry.revision)
             elif isinstance(told, Mark) and told.base >= self.past.mark and not self.has_ended:
                 await self.set_mark(entry.revision)
+            elif told is None:
+                say(f"passes over revision {entry.revision}, which is no entry of the log: {entry.value[:SHOWN]!r}")
             self.revision = entry.revision
             self.moves.set()
             await self.desk.commands.at_most(UNANSWERED)
@@ -103,7 +109,8 @@ class Machine:
         self.lines += len(entry.lines)
 
     def take_answer(self, line: bytes, tell: Tell, answer: Answer) -> None:
-        """An answer of the desk to a command. Fault: it is none, and this machine ends, since the others may have another."""
+        """Takes an answer of the desk to a command. Fault: it is none, and this machine ends, since the others may have another
+        answer."""
         if answer.status not in (200, 400, 409):
             raise Fault(f"the desk answers {answer.status}")
         if answer.status == 200:
@@ -116,23 +123,28 @@ class Machine:
 
     async def set_mark(self, revision: int) -> None:
         await self.desk.commands.at_most(0)
-        # now, since what has stood is forgotten
+        # now, since this forgets where the desk has stood
         self.waiting = self.judged(self.waiting, revision)
+        before = self.past.mark
         self.past.set_mark(revision)
         self.lines = 0
         told = ToldMark(revision, self.name, self.walk.place, self.walk.digest.hex())
-        task = asyncio.create_task(self.compare(told))
+        task = asyncio.create_task(self.compare(told, before))
         self.telling.add(task)
         task.add_done_callback(self.telling.discard)
 
-    async def compare(self, own: ToldMark) -> None:
-        """Tells where this desk stands at a mark, and hears the others. A desk that most of them contradict is ended."""
+    async def compare(self, own: ToldMark, before: int) -> None:
+        """Tells where this desk stands at a mark, and hears the others; the mark before stood at that revision. A desk that most
+        of them contradict is ended."""
         await self.log.tell_mark(own)
         await asyncio.sleep(HEAR_SECONDS)
-        told = [mark for mark in await self.log.marks() if mark.revision == own.revision]
+        marks = await self.log.marks()
+        told = [mark for mark in marks if mark.revision == own.revision]
         others = [mark for mark in told if mark[2:] != own[2:]]
         if others:
             say(f"another desk differs at revision {own.revision}: {own}, {others}")
+        if elsewhere := marks_elsewhere(own, before, marks):
+            say(f"desks are not compared up to revision {own.revision}, since another log may differ: {own}, {elsewhere}")
         if len(others) > len(told) - len(others):
             os._exit(ASTRAY)
 
@@ -163,7 +175,8 @@ class Machine:
         await self.desk.commands.at_most(UNANSWERED)
 
     def judged(self, asks: list[Ask], revision: int) -> list[Ask]:
-        """Those that are waited for and not late so far, as if asked for at this revision. The others are told that they are."""
+        """Those commands for which somebody waits, and which are not late so far, as if they were asked for at this revision. Who
+        asked for a late one is told so."""
         found = []
         for ask in asks:
             if ask.is_gone() or self.past.is_late(ask.line, ask.base):
@@ -226,6 +239,17 @@ class Machine:
         return NO_LOG if await self.log.head() is None else Answer(200, "text/plain", b"ok\n")
 
 
+def marks_elsewhere(own: ToldMark, before: int, marks: Iterable[ToldMark]) -> list[ToldMark]:
+    """What others have told at marks that show another log. In this machine's log its own mark is the next one behind the
+    revision `before`, so a log that has a mark between the two is another one. So may be the log of those who told later marks,
+    where nobody told this machine's. But where this machine told later ones, too, in an earlier run, the others may have begun
+    at its mark without telling it."""
+    others = [mark for mark in marks if mark.machine != own.machine and mark.revision > before]
+    is_newest = all(mark.revision <= own.revision for mark in marks if mark.machine == own.machine)
+    is_alone = is_newest and all(mark.revision != own.revision for mark in others)
+    return [mark for mark in others if mark.revision < own.revision or is_alone]
+
+
 def teller(waiter: "asyncio.Future[Answer]") -> Tell:
-    """Tells one who waits, unless he is gone."""
+    """Gives the answer to one who waits, unless he is gone."""
     return lambda answer: None if waiter.done() else waiter.set_result(answer)

@@ -1,7 +1,7 @@
-"""What clients ask of a machine over HTTP, and what they are told beside the desk's answers.
+"""What clients ask of a machine over HTTP, and what the machine answers beside the desk's answers.
 
-Each answer has the revision that the machine had come to as its header Log-Revision. A client that sends the greatest one that
-it was told before as Asked-After, from 0 on, is safe from copies of its commands that come late on the way to a machine. An
+Each answer has in its header Log-Revision the revision that the machine had come to. A client sends the greatest revision of all
+answers so far as Asked-After, from 0 on. Then no copy of its commands that comes late on the way to a machine does harm. An
 answer 503 says in Retry-After when to ask again."""
 
 import json
@@ -35,7 +35,7 @@ def line_of(body: bytes) -> bytes | None:
 
 
 def known_of(request: web.BaseRequest) -> int | None:
-    """What a client knows of the log; 0 where it says what is no revision."""
+    """How much of the log a client knows: the revision that it says, or 0 where it says something else."""
     told = request.headers.get("Asked-After")
     return None if told is None else int(told) if REVISION.fullmatch(told) else 0
 
@@ -65,7 +65,7 @@ class Http:
 
 
 def is_gone(request: web.BaseRequest) -> Callable[[], bool]:
-    """Tells whether the client does not wait any more."""
+    """A function that says whether the client no longer waits."""
     return lambda: request.transport is None or request.transport.is_closing()
 
 

@@ -1,5 +1,5 @@
-"""A desk that is asked over HTTP: directly, or through its front over TLS. What has no answer is asked again: each command has a
-key, so it is done once."""
+"""A desk that is asked over HTTP: directly, or through its front over TLS. Where no answer comes, the message is sent again: each
+command has a key, so it is done once."""
 
 import argparse
 import base64
@@ -15,16 +15,16 @@ from typing import Any
 
 from stockdesk_tools import Fault
 
-# statuses that say nothing of whether it was done
+# statuses that do not say whether the command was done
 AGAIN = {408, 429, 500, 502, 503, 504}
 
 # statuses of a front that does not let the caller through
 REFUSED = {401: "knows no such user and password", 403: "does not let this user do what deals need"}
 
-# what a resolver says that knows no such name, and not that it was not reached
+# what a resolver says where it knows no such name, rather than that it was not reached
 UNKNOWN = {socket.EAI_NONAME, socket.EAI_NODATA}
 
-# the seconds that an answer may take, and between two askings
+# how many seconds an answer may take, and how many lie between two tries
 ANSWER_SECONDS = 20
 FIRST_PAUSE, LONGEST_PAUSE = 0.02, 1.0
 
@@ -36,11 +36,11 @@ class NoAnswer(Fault):
 
 
 class NotServed(Fault):
-    """A desk answers, and not as one that serves this caller: the address, the user or the certificate is another's."""
+    """Something answers, but not as a desk that serves this caller: the address, the user or the certificate is wrong."""
 
 
 class Unanswered(Exception):
-    """One asking was in vain."""
+    """One try got no answer."""
 
 
 class Desk(ABC):
@@ -51,7 +51,7 @@ class Desk(ABC):
 
     @abstractmethod
     def ask(self, method: str, target: str, body: str | None = None) -> tuple[int, Told]:
-        """The status and the object of the answer. NoAnswer: there is none in time."""
+        """The status and the object of the answer. NoAnswer: no answer came in time."""
 
     def unfit(self, target: str, status: int, told: Told) -> NotServed:
         return NotServed(
@@ -59,7 +59,7 @@ class Desk(ABC):
         )
 
     def shown(self, target: str) -> Told | None:
-        """What a view shows, or None where nothing is there."""
+        """What a view shows, or None where the desk has no such thing."""
         status, told = self.ask("GET", target)
         if status not in (200, 404):
             raise self.unfit(target, status, told)
@@ -82,7 +82,7 @@ class Desk(ABC):
         raise NotServed(f"{self.name} does not show its open orders: is it an older program?")
 
     def send(self, key: str, command: str) -> Told | None:
-        """Sends a command, and tells the refusal if it is refused."""
+        """Sends a command. Returns the refusal where it is refused."""
         status, told = self.ask("POST", "/v1/commands", json.dumps({"key": key, "command": command}))
         if status not in (200, 409):
             raise self.unfit(command, status, told)
@@ -90,7 +90,7 @@ class Desk(ABC):
 
 
 class HttpDesk(Desk):
-    """A desk at a URL, whose path may begin with a prefix. The user, as NAME:PASSWORD, is told over TLS alone."""
+    """A desk at a URL, whose path may begin with a prefix. The user, as NAME:PASSWORD, is sent over TLS alone."""
 
     def __init__(
         self,
@@ -116,8 +116,8 @@ class HttpDesk(Desk):
         self.connection.close()
 
     def expect_there(self) -> None:
-        """Asks once. NotServed: no desk is there, since a view of what a desk lacks is answered alike by whatever else is. One
-        that does not answer may be a desk."""
+        """Asks once. NotServed: no desk is there. It asks for something that only a desk has, since whatever else is there
+        answers alike about what a desk lacks. What does not answer may be a desk."""
         try:
             status, told = self.ask_once("GET", "/v1/desk", None)
         except Unanswered:
@@ -150,10 +150,10 @@ class HttpDesk(Desk):
         return answer.status, told
 
     def ask(self, method: str, target: str, body: str | None = None) -> tuple[int, Told]:
-        """As above. A desk that has not answered in time is not waited for again."""
+        """As in `Desk`. The next call does not wait for a desk that has not answered in time."""
         latest, pause = time.monotonic() + self.patience, FIRST_PAUSE
         while True:
-            # one that was kept may have been closed meanwhile, which says nothing of the desk
+            # a connection that stayed open may have been closed meanwhile, which says nothing about the desk
             was_kept = self.connection.sock is not None
             try:
                 return self.ask_once(method, target, body)

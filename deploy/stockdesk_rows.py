@@ -1,4 +1,5 @@
-"""A desk as the rows of its file: what stands in it, the commands that make a new desk stand there, and how two desks differ."""
+"""A desk as the rows of its file: what stands in it, the commands that make a new desk stand at the same numbers, and how two
+desks differ."""
 
 import contextlib
 import itertools
@@ -28,12 +29,12 @@ OPEN_ROWS = """SELECT orders.number, kind, until, firm.number IS NOT NULL, way, 
 
 
 class NoDesk(Exception):
-    """A file has the rows of no desk of this version: the program's word for it."""
+    """A file does not have the rows of a desk of this version; the text is the program's word for it."""
 
 
 @dataclass(slots=True)
 class Field:
-    """A field's bounds, its value, and the least and the greatest that its open orders leave."""
+    """The bounds of a field, its value, and its infimum and supremum over the outcomes of its open orders."""
 
     branch: str
     article: str
@@ -50,7 +51,7 @@ class Field:
 
 @dataclass(slots=True)
 class Line:
-    """A line of an order: what it holds on a field, and how much of that it has used."""
+    """An order line: what it holds on a field, and how much of that it has used."""
 
     way: str
     branch: str
@@ -95,7 +96,7 @@ class Counts:
 
 
 class Desk:
-    """The rows of a desk that nobody changes: of the file alone, or with the log that lies beside it."""
+    """The rows of a desk that nobody changes meanwhile: of the file alone, or with the log that lies beside it."""
 
     def __init__(self, path: str, with_log: bool = False):
         name = pathlib.Path(path).absolute().as_uri()
@@ -128,11 +129,11 @@ class Desk:
         return Counts(places, ends[0], fields, sum(ends), ends[1], ends[2], moves, deals)
 
     def fields(self) -> Iterator[Field]:
-        """In the order of their names."""
+        """The fields, in the order of their names."""
         return itertools.starmap(Field, self.database.execute(FIELD_ROWS))
 
     def open_orders(self) -> Iterator[Order]:
-        """In the order of their numbers; no more of them in memory than one."""
+        """The open orders, in the order of their numbers; only one of them is in memory at a time."""
         found = self.database.execute(OPEN_ROWS)
         for (number, kind, until, is_firm), rows in itertools.groupby(found, lambda row: row[:4]):
             lines = [Line(WAYS[row[4]], *row[5:]) for row in rows]
@@ -153,20 +154,20 @@ def desk_in(path: str, with_log: bool = False) -> Iterator[Desk]:
 
 
 def taken_over(order: Order) -> Order:
-    """The order as a new desk has it: what a firm one has used is settled, so that it holds the rest; and lines that hold nothing
-    are left out, since an order is opened with none."""
+    """The order as a new desk has it. What a firm order has used is settled, so it holds the rest. Lines that hold nothing are
+    left out, since no order can be opened with one."""
     lines = [replace(line, held=line.held - line.used, used=0) for line in order.lines] if order.is_firm else order.lines
     return replace(order, lines=[line for line in lines if line.held > 0])
 
 
 def all_taken_over(desk: Desk) -> Iterator[Order]:
-    """Its open orders as a new desk has them, those left out that hold nothing at all."""
+    """The open orders of a desk as a new desk has them, without those that hold nothing at all."""
     return (order for order in map(taken_over, desk.open_orders()) if order.lines)
 
 
 @dataclass(slots=True)
 class Roll:
-    """What goes over to a new desk, and what of the open orders stays behind."""
+    """What goes over to a new desk, and which open orders stay behind."""
 
     commands: int
     orders: int = 0
@@ -180,7 +181,7 @@ class Roll:
     hindrance: str | None = None
 
     def places(self) -> int:
-        """What a new desk takes and sets aside."""
+        """How many places the new desk takes and sets aside."""
         return self.commands + self.orders
 
     def take(self, order: Order, clock: int) -> None:
@@ -202,7 +203,7 @@ class Roll:
 
 
 def hindrance_of(order: Order, clock: int) -> str | None:
-    """Why no commands make an order stand in a new desk. None that commands have made is hindered."""
+    """Why no commands make an order stand in a new desk; None for every order that commands have made."""
     if order.until <= clock and not order.is_firm:
         return f"order {order.number} is open and its moment has come: `expire {clock}` on the old desk aborts it"
     if order.until == 0:
@@ -221,7 +222,7 @@ def roll_of(desk: Desk) -> Roll:
 
 
 def parts_of(pieces: int) -> list[int]:
-    """That many pieces, a part for each command."""
+    """So many pieces, in parts of which each fits into one command."""
     whole, rest = divmod(pieces, PIECES)
     return [PIECES] * whole + [rest] * (rest > 0)
 
@@ -231,19 +232,19 @@ def count_of_parts(pieces: int) -> int:
 
 
 def lines_to_use(order: Order) -> list[Line]:
-    """A use on one line of a transfer is on both."""
+    """The lines that get a use of their own: a use on one line of a transfer acts on both."""
     return order.lines[:1] if order.kind == "transfer" else order.lines
 
 
 def count_of_commands(order: Order) -> int:
-    """As many as `order_commands` has, also where these are too many to be made."""
+    """How many commands `order_commands` gives; this also counts where they are too many to be made."""
     mores = sum(count_of_parts(line.held) - 1 for line in order.lines)
     uses = sum(count_of_parts(line.used) for line in lines_to_use(order))
     return 1 + mores + uses + order.is_firm
 
 
 def opening(order: Order) -> str:
-    """With the first part of each line."""
+    """The command that opens the order, with the first part of each line."""
     words = f"{order.number} {order.until}"
     if order.kind == "transfer":
         source, target = order.lines
@@ -253,7 +254,7 @@ def opening(order: Order) -> str:
 
 
 def order_commands(order: Order) -> list[str]:
-    """Those that make one order. The mark comes last, since a firm order gets no more."""
+    """The commands that make one order. `firm` comes last, since a firm order can hold no more."""
     number, lines = order.number, order.lines
     mores = [f"more {number} {line.way} {line.name()} {part}" for line in lines for part in parts_of(line.held)[1:]]
     uses = [f"use {number} {line.name()} {part}" for line in lines_to_use(order) for part in parts_of(line.used)]
@@ -261,8 +262,8 @@ def order_commands(order: Order) -> list[str]:
 
 
 def commands(desk: Desk) -> Iterator[str]:
-    """Those that make a new desk stand where this one stands. Each field begins at its value, so each hold is granted that is
-    granted here; the clock comes last, since nothing is opened for a moment that it has passed."""
+    """The commands that make a new desk stand where this one stands. Each field begins at its value, so every hold that was
+    granted here is granted there. The clock comes last, since no order is opened for a moment that it has passed."""
     for field in desk.fields():
         yield f"field {field.branch} {field.article} {field.lo} {field.hi} {field.value}"
     yield from itertools.chain.from_iterable(map(order_commands, all_taken_over(desk)))

@@ -1,4 +1,4 @@
-"""A machine as a process: it starts the desk, finds its place in the log, serves, and ends at the first fault."""
+"""A machine as a process: it starts the desk, finds the desk's place in the log, serves, and ends at the first fault."""
 
 import argparse
 import asyncio
@@ -19,10 +19,23 @@ from stockdesk_tools import Fault
 from stockdesk_walk import Walk
 
 
+# a machine whose name is not that of its member of etcd ends with this status, as behind other words, and stays down
+MISNAMED = 2
+
+
+async def judge_name(name: str, log: Log) -> None:
+    """Ends this machine where its name is not that of its member of etcd. Of two machines with one name, the one would tell its
+    marks over those of the other, whose desk would then not be compared; the names of members differ."""
+    member = await log.member()
+    if name != member:
+        tools.say(f"MACHINE is {name!r}, but the name of the member of etcd on this machine is {member!r}: give that name")
+        os._exit(MISNAMED)
+
+
 async def start(options: argparse.Namespace) -> Machine:
     """The machine, whose desk was started while its rows were read in a copy."""
     program, path = tools.find_program(options.program), os.path.abspath(options.file)
-    held = stockdesk_desk.lock(path + ".lock")
+    held = stockdesk_desk.lock(path)
     with tools.workplace(os.path.dirname(path)) as place:
         copy = os.path.join(place, "desk.db")
         tools.copy_desk(path, copy)
@@ -47,22 +60,33 @@ async def listen(options: argparse.Namespace, machine: Machine) -> None:
     tools.say(f"{machine.name} serves {machine.walk.place} places, from {began} to {head} of the log")
 
 
-async def begin(options: argparse.Namespace) -> None:
-    """Has a log begin with this desk. Fault: it has begun, or etcd does not answer."""
-    path = os.path.abspath(options.file)
-    stockdesk_desk.lock(path + ".lock")
+def digests_in(path: str) -> list[bytes]:
+    """The digest behind each place of a desk that nobody writes."""
     with tools.workplace(os.path.dirname(path)) as place:
         copy = os.path.join(place, "desk.db")
         tools.copy_desk(path, copy)
-        digests = stockdesk_walk.digests_of(stockdesk_walk.kept_lines(copy))
-    log = Log(options.etcd, options.log)
-    if await log.head() != 0 or not await log.put(f"begin {len(digests) - 1} {digests[-1].hex()}".encode()):
-        raise Fault("the log has begun, or cannot be reached")
+        return stockdesk_walk.digests_of(stockdesk_walk.kept_lines(copy))
+
+
+async def begin(options: argparse.Namespace) -> None:
+    """Has a log begin with this desk. Fault: a program has the desk open, or the log has begun, or etcd does not answer."""
+    path = os.path.abspath(options.file)
+    stockdesk_desk.lock(path, waits=False)
+    with tools.kept_shut(path):
+        digests, log = digests_in(path), Log(options.etcd, options.log)
+        head = await log.head()
+        if head is not None:
+            await judge_name(options.machine, log)
+        if head:
+            raise Fault(f"the log {options.log} has begun")
+        if head is None or not await log.put(f"begin {len(digests) - 1} {digests[-1].hex()}".encode()):
+            raise Fault("etcd does not answer, so nobody knows whether the log has begun: call again")
     tools.say(f"the log {options.log} begins with {len(digests) - 1} places")
 
 
 async def serve(options: argparse.Namespace) -> None:
     machine = await start(options)
+    await judge_name(options.machine, machine.log)
     await machine.find_mark()
     works: list[Coroutine[Any, Any, None]] = [machine.desk.hear(), machine.carry_out(), machine.add(), machine.look()]
     tasks = [asyncio.create_task(each) for each in [*works, listen(options, machine)]]

@@ -1,5 +1,5 @@
-"""What the tools for a desk have in common: how they end, the program and what it says of a file, locks, copies, syncs and names.
-A desk is a FILE and its log FILE-wal."""
+"""What the tools for a desk have in common: how they end, the program and what it says about a file, locks, copies, syncs and
+names. A desk is a FILE and its log FILE-wal."""
 
 import argparse
 import contextlib
@@ -25,23 +25,23 @@ LOG = "-wal"
 # what may lie beside a database and belong to it
 BESIDE = [LOG, "-shm", "-journal"]
 
-# the head of a log is another one behind each time that its pages were copied into the file
+# each time that its pages were copied into the file, a log begins with another head
 LOG_HEAD = 32
 
 # the least bytes of a log that holds a page: behind its head a page's head, and the smallest page there is
 LOG_WITH_A_PAGE = LOG_HEAD + 24 + 512
 
-# so much is asked of the system at once, in bytes
+# how many bytes the system is asked for at once
 CHUNK = 1 << 30
 
-# how often a desk in use is copied anew, and how many seconds lie between
+# how often a desk in use is copied again, and how many seconds lie between two tries
 READINGS = 20
 PAUSE = 0.05
 
-# folders of runs, which hold what has no name yet
+# folders of runs, for files that have no name yet
 WORKPLACE = ".stockdesk-"
 
-# how long another run may hold a lock, in seconds, and how often is looked
+# how long another run may hold a lock, and how often this one looks, in seconds
 LOCK_SECONDS = 60
 LOOK_SECONDS = 0.0002
 
@@ -51,7 +51,7 @@ LOCK = "hhqqi0q"
 # of `renameat2`
 THIS_FOLDER, NO_REPLACE = -100, 1
 
-# what the program tells of a file, in other words
+# what the program says about a file, in other words
 FAULTS = {
     "not a desk": "it is no desk",
     "old version": "it is of version 1: `stockdesk upgrade` makes it one of version 2",
@@ -72,8 +72,8 @@ def say(text: str) -> None:
 
 
 def end(act: Callable[[argparse.Namespace], int | None], options: argparse.Namespace, failed: str) -> NoReturn:
-    """Runs a tool and ends the process: with the status that it gives, or 0, or with 1 and a line that says what failed and names
-    the cause."""
+    """Runs a tool and ends the process: with the status that the tool gives, or 0; or with 1 and a line that says what failed and
+    why."""
     # whoever breaks it off finds what a kill leaves
     signal.signal(signal.SIGINT, signal.SIG_DFL)
     try:
@@ -97,7 +97,7 @@ def find_program(name: str) -> str:
 
 
 def fault_of(run: subprocess.Popen | subprocess.CompletedProcess, errors: str) -> str | None:
-    """Why the program did not end well, if so; `errors` is what it wrote to standard error."""
+    """Why the program did not end well, or None where it did; `errors` is what it wrote to standard error."""
     if run.returncode == 0 and not errors:
         return None
     if run.returncode < 0:
@@ -107,8 +107,8 @@ def fault_of(run: subprocess.Popen | subprocess.CompletedProcess, errors: str) -
 
 
 def open_desk(program: str, path: str, name: str) -> None:
-    """Has the program open the desk in a file and close it again: it judges the rows, and copies the log into the file. Fault: it
-    does not; `name` is what the file is called then."""
+    """Has the program open the desk in a file and close it again: so the program judges the rows, and copies the log into the
+    file. Fault: it does not; `name` is what the fault calls the file."""
     words, folder = [program, "run", os.path.basename(path)], os.path.dirname(path)
     run = subprocess.run(words, cwd=folder, stdin=subprocess.DEVNULL, capture_output=True, check=False)
     fault = fault_of(run, run.stderr.decode(errors="replace"))
@@ -119,8 +119,8 @@ def open_desk(program: str, path: str, name: str) -> None:
 
 
 def places_in(path: str, name: str) -> int:
-    """How many places the desk has taken in a file that nobody writes, without the log. Fault: another SQLite, which looks at the
-    whole of it, finds something wrong."""
+    """How many places the desk has taken, in a file that nobody writes, without the log. Fault: another SQLite looks at the whole
+    of the file and finds something wrong."""
     # so it neither locks the file nor makes others beside it
     uri = pathlib.Path(path).absolute().as_uri() + "?immutable=1"
     try:
@@ -135,8 +135,9 @@ def places_in(path: str, name: str) -> int:
 
 
 def settle(program: str, path: str, name: str) -> int:
-    """Makes the desk in a file that nobody else uses one file without a log, judged by the program and by another SQLite, synced
-    with its folder. How many places it has taken. Fault: it is no good desk; `name` is what the file is called then."""
+    """Makes the desk in a file that nobody else uses one file without a log. The program and another SQLite judge it, and it is
+    synced with its folder. Returns how many places it has taken. Fault: it is no good desk; `name` is what the fault calls the
+    file."""
     sync(path)
     open_desk(program, path, name)
     with contextlib.suppress(FileNotFoundError):
@@ -156,7 +157,7 @@ def has_pages(log: str) -> bool:
 
 
 def head_of_log(path: str) -> bytes:
-    """As long as the log of a desk has it, what was written since stands in the log, too."""
+    """The head of a desk's log. As long as the log has this head, it also has what was written since."""
     with contextlib.suppress(FileNotFoundError), open(os.path.realpath(path) + LOG, "rb", 0) as file:
         return file.read(LOG_HEAD)
     return b""
@@ -166,7 +167,7 @@ def head_of_log(path: str) -> bytes:
 
 
 def opened(path: str) -> BinaryIO:
-    """A file to be read; no waiting for what is none. Fault: it is none."""
+    """Opens a file to be read; never waits for what is no file. Fault: it is none."""
     try:
         is_file = stat.S_ISREG(os.stat(path).st_mode)
     except FileNotFoundError:
@@ -177,20 +178,20 @@ def opened(path: str) -> BinaryIO:
 
 
 def lock_of(kind: int) -> bytes:
-    """A lock on a whole file, as the system wants it told."""
+    """A lock on a whole file, in the form in which the system takes it."""
     return struct.pack(LOCK, kind, os.SEEK_SET, 0, 0, 0)
 
 
 def is_in_use(file: BinaryIO) -> bool:
-    """Whether the program, or another SQLite, has a lock of any kind on the file. To ask takes none."""
+    """Whether the program, or another SQLite, has a lock of any kind on the file. Asking takes none."""
     answer = fcntl.fcntl(file, fcntl.F_OFD_GETLK, lock_of(fcntl.F_WRLCK))
     return struct.unpack(LOCK, answer)[0] != fcntl.F_UNLCK
 
 
 @contextlib.contextmanager
 def kept_shut(path: str) -> Iterator[None]:
-    """Lets no program open the desk meanwhile, by a lock for reading, which changes nothing and ends with this process. Fault:
-    one has it open. Another SQLite that writes to the log may have no more than such a lock itself, so it is looked for."""
+    """Lets no program open the desk meanwhile, by a lock for reading, which changes nothing and ends with this process. Fault: a
+    program has it open. Another SQLite that writes to the log may itself have no more than such a lock, so this looks for one."""
     with opened(path) as file:
         try:
             fcntl.fcntl(file, fcntl.F_OFD_SETLK, lock_of(fcntl.F_RDLCK))
@@ -207,9 +208,9 @@ def kept_shut(path: str) -> Iterator[None]:
 
 def copy(source: str, target: str) -> None:
     """Copies a file's bytes and rights over those of another, or into a new one, by the fastest means that the system has for the
-    two. Its owner may write it. It is not synced."""
+    two. The owner of the copy may write it. The copy is not synced."""
     with open(source, "rb", 0) as old, open(os.open(target, os.O_WRONLY | os.O_CREAT, 0o600), "wb", 0) as new:
-        # where a file system cannot, or two of them, the next call goes on; it also tells of a full disk
+        # where a file system, or a pair of them, cannot do so, the next call goes on; that call also reports a full disk
         with contextlib.suppress(OSError):
             while os.copy_file_range(old.fileno(), new.fileno(), CHUNK):
                 pass
@@ -220,7 +221,8 @@ def copy(source: str, target: str) -> None:
 
 
 def copy_desk(path: str, target: str) -> None:
-    """Copies a desk and the log that lies beside it, as beside the file that a link leads to; a log of the target's goes."""
+    """Copies a desk and the log that lies beside it; where a link leads to the desk, the log beside the file that it leads to. A
+    log of the target is removed."""
     source = os.path.realpath(path)
     copy(source, target)
     with contextlib.suppress(FileNotFoundError):
@@ -230,15 +232,15 @@ def copy_desk(path: str, target: str) -> None:
 
 
 def is_copy_of_a_moment(path: str, target: str) -> bool:
-    """Whether the file stood still, from before its log was read to behind that, and the log was not begun anew: then the copy is
-    what a stop of the program would have left."""
-    # what was found of files of the same size and time is not asked for
+    """Whether the file stood still, from before its log was read until after that, and the log was not begun anew. Then the copy
+    is what a stop of the program would have left."""
+    # what was found out about a file of the same size and time is not asked for again
     filecmp.clear_cache()
     return filecmp.cmp(os.path.realpath(path), target, shallow=False) and head_of_log(path) == head_of_log(target)
 
 
 def copy_desk_in_use(path: str, target: str) -> None:
-    """Copies a desk that may change meanwhile, without a lock or a signal to anybody. Fault: it changes too fast."""
+    """Copies a desk that may change meanwhile, without a lock or a signal to anybody. Fault: the desk changes too fast."""
     opened(path).close()
     for _ in range(READINGS):
         copy_desk(path, target)
@@ -261,8 +263,8 @@ def sync(path: str) -> None:
 
 
 def refuse_what_is_there(path: str) -> None:
-    """Fault: a new desk of that name would take the place of something, or find beside it what would be taken for its part, or
-    has no folder."""
+    """Fault: a new desk of that name would take the place of something, or would find beside it what would be taken for a part of
+    it, or has no folder."""
     there = [name for name in [path, *(path + end for end in BESIDE)] if os.path.lexists(name)]
     if there:
         raise Fault(f"{there[0]} is there already")
@@ -272,7 +274,8 @@ def refuse_what_is_there(path: str) -> None:
 
 
 def rename_in_one_step(source: str, target: str) -> None:
-    """So the file never has two names, with which the program opens none. FileExistsError: something has that name."""
+    """Renames a file so that it never has two names, with which the program does not open it. FileExistsError: something has that
+    name."""
     library = ctypes.CDLL(None, use_errno=True)
     if library.renameat2(THIS_FOLDER, os.fsencode(source), THIS_FOLDER, os.fsencode(target), NO_REPLACE):
         number = ctypes.get_errno()
@@ -280,8 +283,8 @@ def rename_in_one_step(source: str, target: str) -> None:
 
 
 def rename_new(source: str, target: str) -> None:
-    """Gives a file another name, never that of a thing that is there. On a file system that cannot do so in one step a stop
-    between two leaves both names. FileExistsError: one is there."""
+    """Gives a file another name, but never the name of a thing that is there. Where a file system cannot do so in one step, a
+    stop between the two steps leaves both names. FileExistsError: something has that name."""
     try:
         rename_in_one_step(source, target)
     except OSError as fault:
@@ -292,8 +295,8 @@ def rename_new(source: str, target: str) -> None:
 
 
 def give_name(source: str, target: str) -> None:
-    """Gives a desk in one file, which is whole and on the disk, its name, where nothing is: a stop leaves all of it there, or
-    nothing. Fault: something is there."""
+    """Gives a desk in one file, which is whole and on the disk, its name, where nothing is. A stop leaves the whole desk there,
+    or nothing. Fault: something is there."""
     refuse_what_is_there(target)
     try:
         rename_new(source, target)
@@ -310,7 +313,7 @@ def give_name(source: str, target: str) -> None:
 
 
 def wait_until(fact: Callable[[], bool], seconds: float) -> bool:
-    """Whether that becomes so within these seconds."""
+    """Waits until the fact is so, for so many seconds at most. Returns whether it is."""
     latest = time.monotonic() + seconds
     while not (found := fact()) and time.monotonic() < latest:
         time.sleep(LOOK_SECONDS)
@@ -318,8 +321,8 @@ def wait_until(fact: Callable[[], bool], seconds: float) -> bool:
 
 
 def has_locked(handle: int) -> bool:
-    """Whether an open file or folder could be locked for this process and those that it forks, until all of them have closed
-    it. It is another lock than the program's own."""
+    """Whether an open file or folder could be locked for this process and for those that it forks, until all of them have closed
+    it. This lock is another than the program's own."""
     try:
         fcntl.flock(handle, fcntl.LOCK_EX | fcntl.LOCK_NB)
         return True
@@ -329,7 +332,7 @@ def has_locked(handle: int) -> bool:
 
 @contextlib.contextmanager
 def locked(path: str) -> Iterator[None]:
-    """Within it no other run has this file or folder locked. Fault: one keeps it for a minute."""
+    """While this lasts, no other run has this file or folder locked. Fault: another run keeps it for a minute."""
     handle = os.open(path, os.O_RDONLY)
     try:
         if not wait_until(lambda: has_locked(handle), LOCK_SECONDS):
@@ -340,7 +343,7 @@ def locked(path: str) -> Iterator[None]:
 
 
 def remove_left(path: str) -> None:
-    """Removes the folder of a run that is gone: a run that goes on has its own locked."""
+    """Removes the folder of a run that is gone; a run that goes on has its own folder locked."""
     handle = os.open(path, os.O_RDONLY)
     try:
         if has_locked(handle):
@@ -351,8 +354,8 @@ def remove_left(path: str) -> None:
 
 @contextlib.contextmanager
 def workplace(folder: str) -> Iterator[str]:
-    """The path of a new folder in that one, for what has no name yet; it is removed behind it. What runs that were killed left
-    there is removed first."""
+    """The path of a new folder inside that one, for files that have no name yet; it is removed at the end. Before, what killed
+    runs left there is removed."""
     with contextlib.ExitStack() as stack:
         # so no other run finds it before it is locked
         with locked(folder):

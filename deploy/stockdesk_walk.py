@@ -1,9 +1,10 @@
-"""Where a desk stands in the log, and which of the log's lines are late. Both are found by the log and the desk's rows alone, so
-all machines find the same.
+"""Where a desk stands in the log, and which lines of the log are late. Both follow from the log and the desk's rows alone, so all
+machines find the same.
 
-A desk that was stopped has so many places. Of the log's lines behind a mark at which the desk has stood, each that is word for
-word the next row has taken that row's place; the others behind which rows are left were refused, or repeated. So all of them are
-passed over, and what stands behind the line of the last row is carried out. A line that is late counts in neither."""
+A desk that was stopped has so many places. Take the log's lines behind a mark at which the desk has stood. A line that is word
+for word the next row has taken that row's place; a line between, while rows are left, was refused or repeated. So all these lines
+are passed over, and what stands behind the line of the last row is carried out. A late line counts neither as the one nor as the
+other."""
 
 import contextlib
 import hashlib
@@ -33,12 +34,12 @@ def link(digest: bytes, line: bytes) -> bytes:
 
 
 def digests_of(rows: Iterable[bytes]) -> list[bytes]:
-    """The digest behind each place, from none on."""
+    """The digest behind each place; the first one is that of no places."""
     return list(itertools.accumulate(rows, link, initial=b""))
 
 
 def has_place(digests: list[bytes], place: int, digest: str) -> bool:
-    """Whether of the rows of these digests the first ones, so many, have this one."""
+    """Whether the first so many of the rows with these digests have this digest."""
     return place < len(digests) and digests[place].hex() == digest
 
 
@@ -51,7 +52,7 @@ class Walk:
         self.place, self.digest = 0, b""
 
     def go_to_mark(self, marks: Iterable[ToldMark]) -> int:
-        """Goes to the newest mark at which a desk had the first of these rows and no others, and returns its revision, or 0."""
+        """Goes to the newest mark at which a desk had exactly the first of these rows, and returns its revision, or 0."""
         digests = digests_of(self.rows)
         fitting = [mark for mark in sorted(marks) if has_place(digests, mark.place, mark.digest)]
         if not fitting:
@@ -60,7 +61,7 @@ class Walk:
         return fitting[-1].revision
 
     def begin(self, places: int, digest: str) -> None:
-        """Goes to where the log began. Fault: the desk is none that it began with."""
+        """Goes to where the log began. Fault: this desk is not the one with which it began."""
         digests = digests_of(self.rows)
         if not has_place(digests, places, digest):
             raise Fault(f"the log begins with {places} places that the desk has not: start from a copy of another machine's")
@@ -72,8 +73,8 @@ class Walk:
             self.rows.popleft()
 
     def passes_over(self, line: bytes) -> bool:
-        """Whether the desk has carried a line out: so it has as long as rows are left, of which each was the first such line
-        behind the one before."""
+        """Whether the desk has carried a line out. It has, as long as rows are left: the line of each row was the first such line
+        behind the line of the row before."""
         if not self.rows:
             return False
         if self.rows[0] == line:
@@ -86,8 +87,8 @@ class Walk:
 
 
 class Past:
-    """What of the log decides which lines are late: those that were asked for before the last mark, and those whose key stood in
-    a line that was not late behind what was known when they were asked for."""
+    """What of the log decides which lines are late. Late are lines that were asked for before the last mark; and lines whose key
+    stood in another line, which was not late, behind what was known when they were asked for."""
 
     def __init__(self) -> None:
         self.mark = 0

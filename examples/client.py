@@ -2,8 +2,8 @@
 """client.py DESK COMMANDS JOURNAL sends each line of COMMANDS to a desk, as 127.0.0.1:8080 or HOST/north, and writes answers.
 
 JOURNAL keeps the name of the list, which is made once and begins each key, and then each answer. A client that was cut off and
-is called again goes on behind the last answer, under the same keys, so what was done is not done twice. Where a front is asked,
-over TLS, DESK_USER in the environment is NAME:PASSWORD. Of several machines that hold the desk all are named, with commas."""
+is called again goes on after the last answer, under the same keys, so what was done is not done twice. With DESK_USER in the
+environment, NAME:PASSWORD, it asks a front, over TLS. Where several machines hold the desk, DESK is all, with commas between."""
 
 import base64
 import http.client
@@ -19,7 +19,7 @@ Connection = http.client.HTTPSConnection if USER else http.client.HTTPConnection
 
 
 def ask(desks, key, command):
-    """Status and body. Without an answer nobody knows whether it was done: it is asked again, under the same key."""
+    """Status and body. Without an answer nobody knows whether the command was done, so it is asked again, under the same key."""
     for _ in range(10 * len(desks)):
         host, slash, name = desks[0].partition("/")
         connection = Connection(host, timeout=10)

@@ -1,11 +1,11 @@
-"""python3 tests [-k NAME].. [OPTION]..: runs the tests, or those whose names have such a part, each told on a line, the slow ones
-with their time. The options are those of `python3 -m unittest discover -s tests`, which runs the same."""
+"""python3 tests [-k NAME].. [OPTION]..: runs the tests, or those whose names contain one of these; each is reported on a line,
+slow ones with their time. The options are those of `python3 -m unittest discover -s tests`, which runs the same tests."""
 
 import os
 import sys
 import unittest
 
-# no folder of compiled modules beside the sources
+# no folder of compiled modules is made beside the sources
 sys.dont_write_bytecode = True
 
 from support.results import TimedRunner

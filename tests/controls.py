@@ -1,9 +1,9 @@
-"""The controls of the wrong bodies: `tests/controls.py [CRATE..] [-- WORD..]` tries those of these crates, or of all, and with
-words the controls of the edits whose names have one of them.
+"""The controls of the wrong bodies: `tests/controls.py [CRATE..] [-- WORD..]` tries those of these crates, or of all crates; with
+words, only the controls of the edits whose names contain one of them.
 
-A wrong body shows something only where the right meaning at the same place, in other words, is proved. So each edit, of
-must-fail/ and of more-edits/, has behind each `new: TEXT` a line `control: TEXT`, which is put in place of the old text in a copy
-of the tree: the crate must be proved with it. An edit without a control is named and fails, and so does a control that is not
+A wrong body that is refused shows something only where a right body at the same place, in other words, is proved. So each edit,
+in must-fail/ and in more-edits/, has after each `new: TEXT` a line `control: TEXT`, which is put in place of the old text in a
+copy of the tree; the crate must then be proved. An edit without a control is named and fails, and so does a control that is not
 proved, for whatever cause."""
 
 import glob
@@ -19,15 +19,15 @@ from dataclasses import dataclass
 from queue import SimpleQueue
 from typing import NoReturn
 
-# no folder of compiled modules beside the sources
+# no folder of compiled modules is made beside the sources
 sys.dont_write_bytecode = True
 
 from support import TOP
 
 LINE = re.compile(r"(file|old|new|control): ?(.*)")
-# where the edits of a crate lie
+# where a crate's edits are
 FOLDERS = ["must-fail", "more-edits"]
-# the largest crate takes 8 GB
+# checking the largest crate takes 8 GB
 MOST_COPIES = int(os.environ.get("RT_JOBS", "3"))
 
 
@@ -47,7 +47,7 @@ class Swap:
 
 @dataclass
 class Edit:
-    """A wrong body, and its control."""
+    """A wrong body and its control."""
 
     crate: str
     name: str
@@ -62,7 +62,7 @@ class Edit:
 
 
 def swaps_of(text: str) -> list[Swap]:
-    """The swaps of an edit file; a line of another kind is a remark."""
+    """The replacements that an edit file asks for; lines of another kind are remarks."""
     file, swaps = "", []
     for line in text.splitlines():
         kind, value = found.groups() if (found := LINE.match(line)) else ("", "")
@@ -84,7 +84,7 @@ def edits_in(crate: str, folder: str) -> list[Edit]:
 
 
 def swapped(edit: Edit, kind: str, read: Callable[[str], str]) -> dict[str, str]:
-    """The files that an edit or its control changes, by their paths in the crate; `read` gives a file's text."""
+    """The files that an edit or its control changes, by their paths in the crate; `read` returns a file's text."""
     texts: dict[str, str] = {}
     for swap in edit.swaps:
         text = texts.get(swap.file) or read(swap.file)
@@ -102,7 +102,7 @@ def with_control(edit: Edit, read: Callable[[str], str]) -> dict[str, str]:
 
 
 class Copy:
-    """A copy of the tree, in which one control is tried at a time."""
+    """A copy of the tree, in which one control at a time is tried."""
 
     def __init__(self, room: str):
         self.crates = os.path.join(room, "crates")
@@ -113,7 +113,7 @@ class Copy:
         shutil.copytree(os.path.join(TOP, "crates"), self.crates, ignore=skipped)
 
     def check(self, crate: str) -> list[str]:
-        """What a check of the crate says against it."""
+        """Checks the crate, and returns what the check says against it."""
         command = ["rt", "check", "--jobs", "1"]
         folder = os.path.join(self.crates, crate)
         run = subprocess.run(command, cwd=folder, stdin=subprocess.DEVNULL, capture_output=True, text=True, errors="replace")
@@ -122,7 +122,7 @@ class Copy:
         return (told or lines[-1:]) if run.returncode else []
 
     def attempt(self, edit: Edit) -> str:
-        """What is said against the control, or nothing where it is proved."""
+        """What is said against an edit's control; empty where the control is proved."""
         folder = os.path.join(self.crates, edit.crate)
         before: dict[str, str] = {}
 
@@ -158,7 +158,7 @@ def crates_of(order: str) -> list[str]:
 
 
 def attempt_all(edits: list[Edit]) -> int:
-    """Tries the controls, as many crates at a time as there are copies, and gives how many are not proved."""
+    """Tries the controls, as many crates at a time as there are copies. Returns how many are not proved."""
     crates = sorted({edit.crate for edit in edits}, key=lambda crate: -sum(edit.crate == crate for edit in edits))
     count = min(MOST_COPIES, os.cpu_count() or 1, len(crates))
     with tempfile.TemporaryDirectory() as room, ThreadPoolExecutor(max(count, 1)) as pool:

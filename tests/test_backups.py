@@ -1,5 +1,5 @@
-"""Tests of the tool that copies a desk while it is served: many copies under load, while their disk is full and while the tool is
-killed; which copies stay; what is refused."""
+"""Tests of the tool that copies a desk while it is served: many copies under load, on a disk that gets full, and where the tool
+is killed; which copies stay; what is refused."""
 
 import contextlib
 import fcntl
@@ -41,7 +41,7 @@ from support.programs import done, expect, new_desk, note
 from support.service import ask
 from support.tables import rows_of
 
-# copies under load: as they come, on a full disk, killed at any moment, killed while the desk is held
+# copies under load: without a fault, on a full disk, killed at any moment, killed while the desk is held
 ROUNDS = {"whole": 110, "full": 40, "killed": 25, "held": 25}
 
 # the calls by which the tool copies
@@ -52,7 +52,7 @@ COPYING = "copy_file_range,sendfile"
 
 
 class Copies:
-    """Rounds of copies under load, each on the folder for copies or on a small disk, and what is found behind them."""
+    """Rounds of copies under load, each into the folder for copies or onto a small disk, and what is found after them."""
 
     def __init__(self, program: str, load: Load, folder: str, disk: str | None):
         self.program, self.load, self.folder, self.disk = program, load, folder, disk
@@ -71,7 +71,7 @@ class Copies:
         self.longest = max(self.longest, held)
 
     def full(self) -> None:
-        """On a disk with little room left, or with a limit on each file; it may be just enough."""
+        """A copy on a disk with little room left, or with a limit on each file; the room may be just enough."""
         size = sum(os.path.getsize(self.load.desk.file + suffix) for suffix in ["", "-wal"])
         folder, limit = self.folder, None
         if self.disk and self.random.random() < 0.5:
@@ -102,7 +102,7 @@ class Copies:
         self.found[kind] = self.found.get(kind, 0) + fact
 
     def look(self, folder: str) -> None:
-        """At all copies with a name."""
+        """Looks at all copies with a name."""
         sent = list(self.load.sent)
         for name in os.listdir(folder):
             path = os.path.join(folder, name)
@@ -121,8 +121,8 @@ class Copies:
 class Copying(ProgramCase):
     @needs_sqlite
     def test_copies_under_load(self):
-        """200, of which some find a full disk and some are killed: the desk goes on behind each, and each copy that has a name
-        opens and has what was answered before it began."""
+        """200 copies, some of which find a full disk and some of which are killed: the desk goes on after each, and each copy
+        that has a name opens and has what was answered before it began."""
         kinds = [kind for kind, number in ROUNDS.items() for _ in range(number)]
         random.Random(1986).shuffle(kinds)
         copies = os.path.join(self.folder, "copies")
@@ -131,7 +131,7 @@ class Copying(ProgramCase):
             rounds = Copies(self.program, load, copies, disk)
             for kind in kinds:
                 rounds.play(kind)
-            # what the killed ones left is gone with the next one
+            # the next copy has removed what the killed ones left
             copied(rounds.words(copies))
             expect(all(NAME.fullmatch(name) for name in os.listdir(copies)), f"left over: {os.listdir(copies)}")
             found = rounds.found
@@ -155,7 +155,7 @@ class Copying(ProgramCase):
             note(f"{len(load.answered)} commands")
 
     def test_a_backup_that_stands_still_lets_the_desk_go_on(self):
-        """Stopped while it holds the desk: within some ten seconds the desk goes on, and no copy gets a name."""
+        """The tool is stopped while it holds the desk: within some ten seconds the desk goes on, and no copy gets a name."""
         path = new_desk(self.program, self.folder)
         with alone(self.program, path) as service:
             desk = desk_of(service, path)
@@ -177,8 +177,8 @@ class Copying(ProgramCase):
 
     @needs_sqlite
     def test_backups_at_once(self):
-        """Four of one desk into one folder, five times: all copies are made, each with a name of its own. A folder of a run that
-        was killed is removed, and that of one that goes on is not."""
+        """Four runs copy one desk into one folder, five times: all copies are made, each with a name of its own. A folder of a
+        run that was killed is removed, and that of a run that goes on is not."""
         path, copies = new_desk(self.program, self.folder), os.path.join(self.folder, "copies")
         done(self.program, ["run", path], fronts.FIELDS)
         left, alive = (os.path.join(copies, name) for name in [".stockdesk-left", ".stockdesk-alive"])
@@ -202,18 +202,18 @@ class Copying(ProgramCase):
 # ---- which copies stay
 
 
-# days and weeks; the moments of copies, the last of which was just made; which of them stay
+# days and weeks; the moments of copies, the last of which was just made; and which of them stay
 KEPT: list[tuple[int, int, str, str]] = [
-    # the only one; all of its day
+    # the only copy; all copies of its day
     (1, 0, "0301T10", "0301T10"),
     (1, 0, "0301T00 0301T09 0301T10", "0301T00 0301T09 0301T10"),
     # the newest of each of the newest days, whether or not they follow each other
     (3, 0, "0225T09 0226T01 0226T23 0227T12 0227T11 0301T10", "0226T23 0227T12 0301T10"),
     (2, 0, "0101T09 0102T01 0301T10", "0102T01 0301T10"),
-    # then the newest of each week before them: 0219 is a Monday, 0218 the Sunday before it
+    # then the newest copy of each week before them: 0219 is a Monday, 0218 the Sunday before it
     (2, 2, "0210T09 0217T09 0218T09 0219T09 0221T08 0221T09 0229T09 0301T10", "0218T09 0221T09 0229T09 0301T10"),
     (1, 9, "0218T08 0218T09 0219T09 0301T10", "0218T09 0219T09 0301T10"),
-    # a week that is shared by both: 0226 is a Monday
+    # a week that both share: 0226 is a Monday
     (2, 1, "0226T09 0227T09 0228T09 0301T10", "0227T09 0228T09 0301T10"),
     # a clock that was wrong once costs one copy of a day
     (2, 1, "0228T09 0229T09 1231T09 0301T10", "0229T09 1231T09 0301T10"),
@@ -226,7 +226,7 @@ def moments_of(text: str) -> list[datetime]:
 
 
 def backup_module() -> Any:
-    """The tool as a module, which is beside those that it imports."""
+    """The tool as a module, which lies beside those that it imports."""
     loader = SourceFileLoader("stockdesk_backup", BACKUP)
     module = types.ModuleType(loader.name)
     loader.exec_module(module)
@@ -251,7 +251,7 @@ class Keeping(ProgramCase):
         expect(all(moment.isoweekday() == 7 for moment, _ in sorted(kept)[:7]), f"{kept}")
 
     def test_nothing_else_is_removed(self):
-        """Only files with names as those of copies of this desk are removed by its rule."""
+        """The rule removes only files whose names are names of copies of this desk."""
         path, copies = new_desk(self.program, self.folder), os.path.join(self.folder, "copies")
         old = ["desk-20010203T040506Z-7.db", "desk-20010204T040506Z-7.db", "desk-20010204T050506Z-8.db"]
         others = ["desk.db", "desk-20010203T040506Z-7.db-wal", "desk-20010203T040506Z.db", "desk-20019903T040506Z-7.db"]
@@ -287,7 +287,7 @@ def holding(mode: str, path: str) -> subprocess.Popen:
 
 class Refusals(ProgramCase):
     def test_a_backup_of_something_else_is_refused(self):
-        """Another process, one that only reads, another file, no desk, no folder, no program."""
+        """The process is another one, or only reads; it is another file; there is no desk, no folder, no program."""
         path, other, copies = (
             new_desk(self.program, self.folder),
             new_desk(self.program, self.folder, "other.db"),
@@ -320,7 +320,7 @@ class Refusals(ProgramCase):
             expect_refused([BACKUP, pid, path, copies, "--program", self.program], f"process {pid} stands still already")
             service.process.send_signal(signal.SIGCONT)
             copied([BACKUP, pid, path, copies, "--program", self.program])
-            # it waits for its first client all the while
+            # the process waits for its first client all the while
             with contextlib.closing(service.connect()) as connection:
                 status, _, body = ask(connection, "GET", "/v1/fields/N1/A-1")
             expect(status == 404, f"{status}, {body}")
@@ -346,7 +346,7 @@ class Refusals(ProgramCase):
             expect(status == 0 and out.startswith("usage: ") and not told, f"{status}, {told!r}")
 
     def test_a_file_may_have_another_name(self):
-        """A link to the desk's file: its log lies beside the file that is meant, and the copy is called by the link."""
+        """A link leads to the desk's file: its log lies beside the file that is meant, and the copy is named by the link."""
         path, link = new_desk(self.program, self.folder), os.path.join(self.folder, "shop")
         done(self.program, ["run", path], fronts.FIELDS)
         os.symlink(path, link)

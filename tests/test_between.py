@@ -1,6 +1,6 @@
 """Tests of `stockdesk-between` before the built program: deals between two and three desks, at each of whose messages carriers
-and desks are killed. BETWEEN_RUNS in the environment says how many runs there are by chance, beside those by rule, BETWEEN_SEED
-which: `BETWEEN_RUNS=5000 ./check tests between.Deals.test_by_chance` has 5,000."""
+and desks are killed. In the environment BETWEEN_RUNS says how many runs there are by chance, beside those by rule, and
+BETWEEN_SEED which: `BETWEEN_RUNS=5000 ./check tests between.Deals.test_by_chance` has 5,000."""
 
 import os
 from collections.abc import Iterable
@@ -29,11 +29,11 @@ class Deals(ProgramCase):
         return counts
 
     def test_a_deal_that_nobody_disturbs(self):
-        """It has as many messages as the other runs count on."""
+        """The deal has as many messages as the other runs count on."""
         for desks, messages in [(2, 10), (3, 15)]:
             counts = Counts()
             play(self.templates, self.folder, Case("whole", desks=desks), SEED, counts)
-            # the last carrier asks too, who finds that it has ended
+            # the last carrier asks, too, and finds that the deal has ended
             asked = counts.found["messages"] - (4 * desks - 1) - (desks - 1)
             expect(asked == messages, f"{asked} messages between {desks} desks")
             expect(counts.found["runs moved"] == 1, "not moved")
@@ -51,5 +51,5 @@ class Deals(ProgramCase):
         expect(counts.found["runs not moved"], "none was full")
 
     def test_by_chance(self):
-        """Several stops and carriers, others at work, expiries, little stock and room, few places."""
+        """There are several stops and carriers, others at work, expiries, little stock and room, few places."""
         self.play(by_chance(int(os.environ.get("BETWEEN_RUNS", RUNS)), SEED))

@@ -1,5 +1,5 @@
-"""Tests of how `stockdesk-between` is called, before the built program: words, each way that a deal ends, what is taken up, and
-through the front."""
+"""Tests of how `stockdesk-between` is called, before the built program: its words, each way that a deal ends, what it takes up,
+and calls through the front."""
 
 import json
 import os
@@ -28,7 +28,7 @@ TRANSFERS = 16
 URLS = ["http://127.0.0.1:1", "http://127.0.0.1:2"]
 MOVE = ["--move", "A-1", "7", "N0", "N1"]
 
-# words that are wrong, and what is told of them
+# words that are wrong, and what the tool says about them
 NO_WORDS: list[tuple[list[str], str]] = [
     ([], "no number of a deal"),
     (["899999999", *URLS, *MOVE], "no number of a deal"),
@@ -93,7 +93,7 @@ REFUSED = [
 
 
 def called(*words: str, environment: dict[str, str] | None = None) -> tuple[int, str]:
-    """The status of a call, and what it tells."""
+    """The status of a call, and what it writes."""
     ended = subprocess.run(
         [sys.executable, CARRIER, *words], capture_output=True, text=True, timeout=4 * SECONDS, env=environment
     )
@@ -107,7 +107,7 @@ class Words(unittest.TestCase):
             expect(status == 2 and cause in told, f"{words}: {status} {told}")
 
     def test_a_name_that_nobody_has(self):
-        """It is told at once; a name that cannot be asked for now is that of a desk that does not answer."""
+        """The call says so at once. A name that cannot be looked up just now counts as that of a desk that does not answer."""
         for number in (socket.EAI_NONAME, socket.EAI_NODATA, socket.EAI_AGAIN):
             desk = HttpDesk("http://desk.example:8080", 0)
             with mock.patch("socket.getaddrinfo", side_effect=socket.gaierror(number, "as told")):
@@ -140,7 +140,8 @@ class Ends(ProgramCase):
             expect(desks.values() == [40, 40], "something is moved")
 
     def test_a_deal_that_is_held(self):
-        """It goes on when it is called again, or is taken up and given back; until then it can be promised to nobody else."""
+        """A held deal goes on when it is called again, or is taken up and given back; until then nobody else gets what it
+        holds."""
         with chain(self.program, self.folder) as desks:
             for number, last, status, value in [(NUMBER, MOVE, 0, 33), (NUMBER + 1, [], 1, 33)]:
                 held = called(str(number), *desks.urls(), *MOVE, "--until", "500", "--hold")
@@ -150,7 +151,8 @@ class Ends(ProgramCase):
                 expect(found[0] == status and desks.values()[0] == value and desks.free(), f"{found}")
 
     def test_other_hands(self):
-        """Before the decision any of them only gives the deal up; where something was decided, nothing more is done."""
+        """Somebody else uses the deal's number. Before the decision that only gives the deal up; where something was decided,
+        nothing more is done."""
         for number, ((desk, command), status, cause) in enumerate(OTHER_HANDS, NUMBER):
             with chain(self.program, self.folder_of(number)) as desks:
                 called(str(number), *desks.urls(), *MOVE, "--until", "500", "--hold")
@@ -168,7 +170,7 @@ class Ends(ProgramCase):
         return path
 
     def test_a_desk_that_does_not_answer(self):
-        """The call ends, and the same call goes on when the desk is there again; so does one that waits for it."""
+        """The call ends, and the same call goes on when the desk is there again; a call that waits for the desk goes on, too."""
         with chain(self.program, self.folder) as desks:
             urls, port = desks.urls(), desks.services[1].port
             desks.stop(1)
@@ -185,7 +187,7 @@ class Ends(ProgramCase):
             expect(called(str(NUMBER), *desks.urls()) == (1, f"{NUMBER} not moved: no desk has begun it\n"), "another end")
 
     def test_a_desk_that_is_misspelt(self):
-        """It is told at once which, and nothing is begun; also where the other desk is away."""
+        """The call says at once which desk that is, and begins nothing; also where the other desk is away."""
         with chain(self.program, self.folder) as desks:
             first, other = desks.urls()
             for pair in ([f"{first}/north", other], [first, f"{other}/north"]):
@@ -201,7 +203,7 @@ class Ends(ProgramCase):
             expect(time.monotonic() - began < SECONDS / 2, "another one was waited for")
 
     def test_desks_in_any_order_are_taken_up(self):
-        """But not begun anew: with words the first is the one that decides."""
+        """Deals are taken up so, but not begun: where words say what to do, the first desk is the one that decides."""
         with chain(self.program, self.folder) as desks:
             words = [*MOVE, "--until", "500", "--hold"]
             called(str(NUMBER), *desks.urls(), *words)
@@ -233,11 +235,11 @@ STAGES = {"opened": "aborted", "used": "committed", "decided": "committed", "giv
 
 
 class All(ProgramCase):
-    """What is taken up where all that is open is."""
+    """Tests of what is taken up where all open deals are to be."""
 
     def test_all_that_is_open_is_taken_up(self):
-        """More than a view shows at once, in each stage; by two at once, one of which is killed, and whatever the order of the
-        desks, of which one has no deal. Then nothing is open, and nothing is lost."""
+        """There are more deals than a view shows at once, in each stage; two calls take them up at once, one of which is killed,
+        with the desks in any order, one of which has no deal. Then nothing is open, and nothing is lost."""
         with chain(self.program, self.folder, 3, start=400, room=900) as desks:
             numbers = dict(zip(range(NUMBER, NUMBER + LEFT), LEFT * list(STAGES)))
             for number, stage in numbers.items():
@@ -246,7 +248,7 @@ class All(ProgramCase):
             words = [sys.executable, CARRIER, "--resume-all", *urls, "--idle", "0"]
             pipe = subprocess.PIPE
             with subprocess.Popen(words, stdout=pipe) as first, subprocess.Popen(words, stdout=pipe) as second:
-                # when it has told of some
+                # when it has written about some
                 lines = [first.stdout and first.stdout.readline() for _ in range(10)]
                 first.kill()
                 second.communicate(timeout=4 * SECONDS)
@@ -264,7 +266,7 @@ class All(ProgramCase):
             note(f"{told.count(' moved')} of {LEFT} deals were left to the last")
 
     def test_what_is_held_or_under_way_is_left(self):
-        """A deal that waits for a moment, unless it is asked for, and one at which somebody is."""
+        """What is left is a deal that waits for a moment, unless it is asked for, and a deal at which somebody is at work."""
         with chain(self.program, self.folder) as desks:
             left(desks, NUMBER, "held")
             left(desks, NUMBER + 1, "opened")
@@ -281,7 +283,8 @@ class All(ProgramCase):
             expect(status == 0 and f"{NUMBER} not moved" in text and desks.free(), f"{status} {text}")
 
     def test_a_desk_that_is_away_keeps_nobody(self):
-        """What is open between the others is taken up; of its own deals the others are left with nothing that they may end."""
+        """The deals that are open between the other desks are taken up; of the absent desk's deals, the others keep nothing that
+        they may end."""
         with chain(self.program, self.folder, 3) as desks:
             for number, stage in enumerate(STAGES, NUMBER):
                 left(desks, number, stage)
@@ -302,7 +305,8 @@ class All(ProgramCase):
             expect([desks.shown(each, "/v1/desk")["open"] for each in range(3)] == [0, 0, 0], "something is open")
 
     def test_other_hands_stop_their_deals_alone(self):
-        """One is committed by hand at its other desk, one made firm there, and an order of such a number opened by hand."""
+        """Somebody has committed one deal by hand at its other desk, has made one firm there, and has opened an order of such a
+        number."""
         with chain(self.program, self.folder) as desks:
             for number in range(NUMBER, NUMBER + 4):
                 left(desks, number, "used")
@@ -317,7 +321,7 @@ class All(ProgramCase):
 
 
 class Fronted(FrontCase):
-    """Through the front of each desk, over TLS, as a user of it."""
+    """Calls through the front of each desk, over TLS, as a user of it."""
 
     def setUp(self) -> None:
         super().setUp()
@@ -359,7 +363,7 @@ class Fronted(FrontCase):
         expect(self.values() == [493, 507], f"{self.values()}")
 
     def test_desks_and_carriers_are_killed(self):
-        """Behind the front, at any moment: each transfer is moved whole or not at all."""
+        """Desks behind the front, and carriers, are killed at any moment: each transfer is moved whole or not at all."""
         chance, moved, killed = random.Random(1986), 0, 0
         for number in range(NUMBER, NUMBER + TRANSFERS):
             quantity, turned = chance.randint(1, 9), chance.random() < 0.5

@@ -1,5 +1,6 @@
 """Tests of `stockdesk-between` in threads, before desks by the rules: at each message chance stops, delays and doubles, and has
-others at work. Carriers that are wrong in one thing are found out so. BETWEEN_SCHEDULES in the environment says how many runs."""
+others at work. So carriers that are wrong in one thing are found out. In the environment BETWEEN_SCHEDULES says how many runs
+there are."""
 
 import os
 import unittest
@@ -17,7 +18,8 @@ from stockdesk_deals import Foreign, Line
 from stockdesk_remote import NoAnswer
 
 RUNS = 300
-# within so many runs each wrong carrier is found out, but for one that rare turns find out, and one that another deal does
+# within so many runs each wrong carrier is found out, but for one that only rare turns find out, and one that only another deal
+# finds out
 MOST = 3_000
 RARE = "aborts at another desk before the first's is aborted"
 MIXED = "takes another deal's order for its own"
@@ -31,8 +33,8 @@ STAGES: dict[str, list[tuple[int, str]]] = {
     "decided": [*USED, (0, f"commit {NUMBER}")],
     "given up": [(0, f"abort {NUMBER}")],
 }
-# its states while the last desk is away, behind a carrier that knows the deal and behind one that takes it up, and how it then
-# ends by each
+# the deal's states while the last desk is away, behind a carrier that knows the deal and behind one that takes it up, and how the
+# deal then ends by each
 AWAY: dict[str, tuple[str, str, str, str]] = {
     "opened": ("open open open", "aborted aborted open", "committed", "aborted"),
     "in part used": ("open open open", "aborted aborted open", "committed", "aborted"),
@@ -43,7 +45,7 @@ AWAY: dict[str, tuple[str, str, str, str]] = {
 
 
 def until(run: Run, carrier: Carrier, fact: Callable[[Message], bool]) -> None:
-    """Has one carrier go on alone, until it is about to send such a message."""
+    """Has one carrier go on alone until it is about to send such a message."""
     while carrier.message and not fact(carrier.message):
         turn(run, carrier)
 
@@ -59,7 +61,8 @@ def sends(desk: int, verb: str) -> Callable[[Message], bool]:
 
 
 def play_rare_turns(module: ModuleType) -> Run:
-    """One carrier gives up, since the third desk lacks goods; these come, and another has all used, before the abort comes in."""
+    """One carrier gives up, since the third desk lacks goods. Before its abort comes in, the goods come, and another carrier has
+    all used."""
     run = Run("rare", Counts(), module)
     run.terms, run.desks = [(module.Line("take", f"N{desk}", "A-1", 5),) for desk in range(3)], []
     for desk, start in enumerate([40, 40, 0]):
@@ -81,7 +84,7 @@ def play_rare_turns(module: ModuleType) -> Run:
 
 
 class Direct(Wire):
-    """A desk that answers at once, but while it is away."""
+    """A desk that answers at once, except while it is away."""
 
     def __init__(self, name: str, desk: Places):
         self.name, self.desk, self.is_away = name, desk, False
@@ -93,7 +96,7 @@ class Direct(Wire):
 
 
 class Going(Direct):
-    """One that is away from the first commit on."""
+    """A desk that is away from the first commit on."""
 
     def ask(self, method, target, body=None):
         self.is_away = self.is_away or '"commit ' in (body or "")
@@ -101,7 +104,7 @@ class Going(Direct):
 
 
 class Coming(Direct):
-    """One that is away when it is asked first, and behind whose next asking something is done."""
+    """A desk that is away when it is asked first; when it is asked the next time, something is done."""
 
     def __init__(self, name: str, desk: Places, act: Callable[[], object]):
         super().__init__(name, desk)
@@ -116,7 +119,7 @@ class Coming(Direct):
 
 
 def begun(desks: list[Places], *sides: tuple[int, Line], holds: bool = False, module: ModuleType = deals) -> deals.End:
-    """A deal of that number at some of the desks, carried as far as it goes."""
+    """A deal with that number at some of the desks, carried as far as it goes."""
     lines = [(module.Line(*astuple(line)),) for _, line in sides]
     there = [module.Side(Direct(f"desk {number}", desks[number]), each) for (number, _), each in zip(sides, lines)]
     return module.Deal(NUMBER, there, 500 if holds else deals.LATEST, holds).carry()
@@ -139,7 +142,8 @@ class Schedules(unittest.TestCase):
         note(counts.text())
 
     def test_wrong_carriers_are_found_out(self):
-        """Each within some runs, by what it moves, or since it takes what others do for another hand's."""
+        """Each wrong carrier is found out within some runs: by what it moves, or since it takes what others do for another
+        hand's."""
         for name in WRONG:
             if name in (RARE, MIXED):
                 continue
@@ -159,7 +163,8 @@ class Numbers(unittest.TestCase):
     """A number belongs to one deal."""
 
     def test_a_number_is_not_carried_to_another_desk(self):
-        """While a deal is open, or behind its end: what is at its first desk would be moved to both."""
+        """While a deal is open, or behind its end, carrying its number to another desk would move to both what is at its first
+        desk."""
         for holds in (True, False):
             desks = three_desks()
             take = 0, Line("take", "N0", "A-1", 7)
@@ -182,7 +187,7 @@ class Numbers(unittest.TestCase):
         expect([desk.numbers((f"N{number}", "A-1"))[0] for number, desk in enumerate(desks)] == [33, 47, 47], "not doubled")
 
     def test_a_number_that_another_deal_has_at_one_desk_is_left_alone(self):
-        """Of deals with other first desks each finds the other's order at the desk that they share."""
+        """Two deals have other first desks: each finds the other's order at the desk that they share."""
         desks, add = three_desks(), (1, Line("add", "N1", "A-1", 7))
         begun(desks, (0, Line("take", "N0", "A-1", 7)), add, holds=True)
         with self.assertRaisesRegex(Foreign, "desk 1 is there, but not at the first desk"):
@@ -203,7 +208,8 @@ class Numbers(unittest.TestCase):
         expect(desks[1].orders[NUMBER].state == "open", "something was done")
 
     def test_the_same_words_find_the_same_deal(self):
-        """Also with the other desks in another order, or until another moment, and behind its end, which is told again."""
+        """The words may have the other desks in another order, or another moment, and may come behind the deal's end, which is
+        then told again."""
         sides = [(number, Line("take", f"N{number}", "A-1", number + 1)) for number in range(3)]
         desks = three_desks()
         begun(desks, *sides, holds=True)
@@ -213,7 +219,8 @@ class Numbers(unittest.TestCase):
 
 
 class Away(unittest.TestCase):
-    """A desk that is away leaves the others what is theirs: the end of a deal that is decided, and to give one up that is not."""
+    """Tests of a desk that is away. The other desks still get what is theirs: the end of a deal that is decided, and the abort of
+    one that is not."""
 
     def setUp(self) -> None:
         self.there = [Direct(f"desk {number}", desk) for number, desk in enumerate(three_desks())]
@@ -265,7 +272,7 @@ class Away(unittest.TestCase):
         expect(self.states() == "committed open committed", f"{self.states()}")
 
     def test_a_deal_that_is_begun_while_it_is_looked_for(self):
-        """Another desk's order alone is nobody's fault where that desk was away when the first one had none."""
+        """An order at another desk alone is nobody's fault, where that desk was away when the first desk had none."""
         self.there[1] = Coming("desk 1", self.there[1].desk, lambda: self.begin("opened"))
         self.assertRaisesRegex(NoAnswer, "of desk 1", deals.found_deal, NUMBER, self.there)
 

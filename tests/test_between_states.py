@@ -1,4 +1,4 @@
-"""Tests of what `stockdesk-between` decides, in all states that a deal of up to three desks can be in: it keeps the guards, also
+"""Tests of what `stockdesk-between` decides, in all states in which a deal of up to three desks can be. It keeps the guards, also
 where what it has seen of one desk is older than what it has seen of another; each deal comes to an end; and no guard can be left
 out."""
 
@@ -21,7 +21,7 @@ def seen(orders: Orders) -> list[Order | None]:
 
 
 def due(orders: Orders, goes_on: bool) -> Step | None:
-    """The step that a carrier takes who sees this. Who does not know the deal knows of no desk without an order."""
+    """The step that a carrier takes who sees this. A carrier who does not know the deal knows of no desk without an order."""
     sides = [side for side, order in enumerate(orders) if goes_on or order or side == 0]
     found = seen(orders)
     step = deals.next_step([found[side] for side in sides], goes_on)
@@ -29,7 +29,7 @@ def due(orders: Orders, goes_on: bool) -> Step | None:
 
 
 def ended(orders: Orders, goes_on: bool) -> Orders:
-    """Where a carrier brings a deal that is in this state."""
+    """To which state a carrier brings a deal that is in this state."""
     for _ in range(MOST_STEPS):
         step = due(orders, goes_on)
         if step is None:
@@ -57,8 +57,8 @@ class States(unittest.TestCase):
                 expect(all(has_guards(step, behind) for behind in after(orders)), f"{step} in {orders}")
 
     def test_a_carrier_keeps_the_guards(self):
-        """Where it has seen the others at one moment, then the first desk, and then the others again: it finds no other hand, and
-        what it sends then is right."""
+        """The carrier has seen the others at one moment, then the first desk, and then the others again: it finds no other hand,
+        and what it sends then is right."""
         count = 0
         for desks in (2, 3):
             later = futures(reached(desks)[0])
@@ -75,8 +75,8 @@ class States(unittest.TestCase):
         note(f"{count:,} steps")
 
     def test_each_deal_comes_to_an_end(self):
-        """From every state: who knows the deal moves all, unless it was given up; who does not moves all or nothing; and no order
-        stays open."""
+        """This holds from every state: a carrier who knows the deal moves all, unless it was given up; one who does not know it
+        moves all or nothing; and no order stays open."""
         for desks in (2, 3):
             for orders in reached(desks)[0]:
                 is_over = orders[0] is not None and orders[0][0] == ABORTED

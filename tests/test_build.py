@@ -1,5 +1,5 @@
-"""The first run: each crate is proved once, behind those that it stands on, and told; one that is not proved ends it with what rt
-said. In place of rt stands a script that writes down where it was called, and with which words."""
+"""Tests of the first run: each crate is proved once, after those that it stands on, and a line says so; where a crate is not
+proved, the run ends with what rt said. In place of rt stands a script that notes where it was called, and with which words."""
 
 import os
 import shutil
@@ -36,7 +36,7 @@ class Build(unittest.TestCase):
             file.write(text)
 
     def build(self, refused: str = "", path: str = "bin") -> tuple[End, list[str]]:
-        """How it ends, and the crates whose proofs were begun, in order, each with the word for rt."""
+        """How the run ends, and the crates whose proofs were begun, in order, each with the word for rt."""
         calls = os.path.join(self.folder, "calls")
         env = {**os.environ, "CALLS": calls, "REFUSED": refused, "PATH": f"{self.folder}/{path}:/usr/bin:/bin"}
         run = subprocess.run([os.path.join(self.folder, "build")], env=env, capture_output=True, timeout=60)

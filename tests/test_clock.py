@@ -1,5 +1,5 @@
 """Tests of `stockdesk-clock`, which ends the orders whose moment has come: at their minute, over desks that are out of service,
-runs that are killed or at once, clocks that jump, and whatever is wrong with the file of what was seen."""
+with runs that are killed or at once, with clocks that jump, and with whatever may be wrong with the file of what was seen."""
 
 import contextlib
 import os
@@ -22,7 +22,7 @@ ROUNDS = 10
 GARBAGE = [b"", b"\n", b"now\n", b"29979360", b" 29979360\n", b"-1\n", b"1e9\n", b"4000000001\n", b"029979360\n", b"1\n1\n"]
 GARBAGE += [bytes(range(256)), b"9" * 100_000]
 
-# calls at which a run that begins a minute is killed: those that make, sync and name the file of what was seen
+# the calls at which a run that begins a minute is killed: those that make, sync and name the file of what was seen
 CALLS = ["mkdir:when=1", "fsync:when=1", "rename:when=1", "fsync:when=2", "rmdir:when=1"]
 
 # words that are wrong
@@ -31,7 +31,7 @@ NO_WORDS += [[port, "--seen", "seen"] for port in ["0", "65536", "-1", "x", "", 
 
 
 class ClockCase(ProgramCase):
-    """A desk with two orders: 1 until MINUTE, 2 until the minute behind it. So three places are taken."""
+    """Tests of a desk with two orders: 1 until MINUTE, 2 until the minute after it. So three places are taken."""
 
     def setUp(self):
         super().setUp()
@@ -46,7 +46,7 @@ class ClockCase(ProgramCase):
 
     @contextlib.contextmanager
     def begun(self):
-        """It is served, and a run has seen the minute before MINUTE."""
+        """The desk is served, and a run has seen the minute before MINUTE."""
         with self.served() as desk:
             for number, until in enumerate([MINUTE, MINUTE + 1], 1):
                 desk.open(number, until)
@@ -56,7 +56,7 @@ class ClockCase(ProgramCase):
 
 class Minutes(ClockCase):
     def test_orders_end_at_their_minute_and_no_sooner(self):
-        """A place is spent where something is due and nowhere else, and firm orders stay."""
+        """The tool takes a place where something is due and nowhere else, and firm orders stay."""
         with self.begun() as desk:
             desk.open(3, MINUTE)
             desk.call("M3", "firm 3")
@@ -98,7 +98,7 @@ class Minutes(ClockCase):
             expect(now <= desk.ask("/v1/desk")["clock"] <= now + PATIENCE // 60, "another minute")
 
     def test_more_is_ended_than_a_desk_tells(self):
-        """By one command, of which the tool tells that it ended fifty or more."""
+        """One command ends them; the tool says that it ended fifty or more."""
         with self.served() as desk:
             for number in range(1, 62):
                 desk.open(number, MINUTE - number % 3)
@@ -107,7 +107,7 @@ class Minutes(ClockCase):
             desk.expect(["aborted"] * 61, 1 + 61 + 1, MINUTE)
 
     def test_an_order_may_go_before_it_is_ended(self):
-        """Between question and command it is committed: the command is done, and ends nothing."""
+        """An order is committed between question and command: the command is done, and ends nothing."""
         with self.begun() as desk:
             relay = Relay(desk.port, {2: "late"})
             self.clock.port = relay.server_port
@@ -124,8 +124,8 @@ class Minutes(ClockCase):
 
 class Faults(ClockCase):
     def test_a_run_killed_anywhere_is_harmless(self):
-        """Before the question, between question and command, and before the answer: the next run, of this minute or of the next,
-        ends what is not yet ended, and each once."""
+        """A run is killed before the question, between question and command, or before the answer: the next run, of this minute
+        or of the next, ends what is not ended yet, and each order once."""
         for faults, spent in [({1: "ended"}, 0), ({2: "ended"}, 0), ({2: "killed"}, 1)]:
             for later in [0, 1]:
                 self.desk = Desk(self.program, self.folder, f"{faults}{later}.db")
@@ -168,8 +168,8 @@ class Faults(ClockCase):
             expect_ended(self.clock.run(MINUTE), MINUTE, "1")
 
     def test_many_runs_at_once_are_harmless(self):
-        """Of two minutes, the earlier of which may tell that the clock was set back: each ends well, and all is ended, once for
-        each minute at most."""
+        """Runs of two minutes come at once, the earlier of which may say that the clock was set back. Each ends well, and all is
+        ended, at most once for each minute."""
         spent = 0
         for number in range(ROUNDS):
             self.desk = Desk(self.program, self.folder, f"{number}.db")
@@ -186,7 +186,7 @@ class Faults(ClockCase):
         note(f"{spent} places in {ROUNDS} rounds")
 
     def test_a_clock_that_was_moved_past_it_is_told(self):
-        """Another run of a later minute comes between question and command."""
+        """Another run, of a later minute, comes between question and command."""
         with self.begun() as desk:
             relay = Relay(desk.port, {2: "late"})
             try:
@@ -201,7 +201,7 @@ class Faults(ClockCase):
             desk.expect(["aborted", "aborted"], 4, MINUTE + 1)
 
     def test_a_key_that_others_took_is_told(self):
-        """Nothing is ended; the next minute's run goes on."""
+        """Nothing is ended; the run of the next minute goes on."""
         with self.begun() as desk:
             desk.call(f"clock-{MINUTE}", "writeoff N1 A-1 1")
             expect_fault(self.clock.run(MINUTE), f"`expire {MINUTE}` is refused", "KeyReused")
@@ -209,7 +209,7 @@ class Faults(ClockCase):
             desk.expect(["aborted", "aborted"], 5, MINUTE + 1)
 
     def test_a_desk_that_fails_for_a_while_is_asked_again(self):
-        """It says that it has stopped, does not hear, or its answer is lost: of question and command alike."""
+        """The desk says that it has stopped, does not hear, or its answer is lost: both at the question and at the command."""
         for number, faults in enumerate([{1: "busy", 3: "busy"}, {1: "away", 3: "away"}, {1: "lost", 3: "lost", 4: "busy"}]):
             self.desk = Desk(self.program, self.folder, f"{number}.db")
             with self.begun() as desk, self.subTest(faults=faults):
@@ -222,7 +222,7 @@ class Faults(ClockCase):
                 desk.expect(["aborted", "open"], 4, MINUTE)
 
     def test_without_an_answer_a_run_ends(self):
-        """Nobody listens, or is silent, or no desk answers, or one that has stopped for good."""
+        """Nobody listens, or is silent; or no desk answers, or one that has stopped for good."""
         stopped = b'HTTP/1.1 503 Service Unavailable\r\ncontent-length: 19\r\n\r\n{"error":"stopped"}'
         cut = b'HTTP/1.1 200 OK\r\ncontent-length: 100\r\n\r\n{"orders":['
         older = b'HTTP/1.1 404 Not Found\r\ncontent-length: 16\r\n\r\n{"error":"none"}'
@@ -242,7 +242,7 @@ class Faults(ClockCase):
                 clock.expect_seen(MINUTE)
 
     def test_a_desk_out_of_service_for_two_days_is_no_jump(self):
-        """The runs meanwhile reach no desk and see that the clock goes on, so the first behind them ends what is due."""
+        """The runs meanwhile reach no desk and see that the clock goes on, so the first run after them ends what is due."""
         with self.begun():
             pass
         minutes = [MINUTE, MINUTE + 1_000, MINUTE + 2_000, MINUTE + 2 * DAY]
@@ -261,7 +261,7 @@ class Faults(ClockCase):
 
     @needs_strict_tables
     def test_a_full_desk_is_told(self):
-        """One place is left, and then none beside that of the order's own end."""
+        """One place is left, and then none beside that for the order's own end."""
         desks = Desks(self.program, self.folder)
         for places, is_full in [(199_998, False), (199_999, True)]:
             desks.put([*of_desk(places), *OPEN_ORDER])
@@ -281,7 +281,7 @@ class Faults(ClockCase):
 
 class Jumps(ClockCase):
     def expect_jump(self, minute, *words):
-        """A run is refused and changes nothing; the command that it tells is done, and the next run goes on."""
+        """A run is refused and changes nothing; the command that it proposes is done, and the next run goes on."""
         before, seen = self.desk.ask("/v1/desk"), self.clock.seen()
         found = self.clock.run(minute)
         expect_fault(found, *words, "set the clock, or where `date` is right, run once: stockdesk-clock ")
@@ -292,7 +292,7 @@ class Jumps(ClockCase):
         return run.returncode, run.stdout, run.stderr
 
     def test_a_clock_that_jumps_ends_nothing_before_it_is_told(self):
-        """A day is none, a minute more is one; what was told once is not told again."""
+        """A day is no jump, a minute more is one; once the tool was told that the clock is right, it need not be told again."""
         with self.begun() as desk:
             self.clock.see(MINUTE - DAY)
             expect_ended(self.clock.run(MINUTE), MINUTE, "1")
@@ -301,7 +301,7 @@ class Jumps(ClockCase):
             expect(self.clock.run(MINUTE + DAY + 2) == NOTHING, "another end")
 
     def test_a_clock_that_is_set_right_goes_on_by_itself(self):
-        """It jumped in either direction, and each minute was refused."""
+        """The clock jumped in either direction, and each minute was refused."""
         with self.begun() as desk:
             for minute in [MINUTE + 10 * DAY, MINUTE + 10 * DAY + 1, 0, 1, 4_000_000_000]:
                 expect_fault(self.clock.run(minute), "more than a day away")
@@ -316,7 +316,8 @@ class Jumps(ClockCase):
                     expect_fault(self.clock.run(minute, *options), f"minute {minute}, which no desk knows")
 
     def test_a_clock_that_was_set_back_is_told(self):
-        """It ends what is due by then, nothing twice and nothing early, and a jump is measured from there."""
+        """A clock that was set back ends what is due by then, nothing twice and nothing early, and a jump is measured from
+        there."""
         with self.begun() as desk:
             expect_ended(self.clock.run(MINUTE), MINUTE, "1")
             status, out, errors = self.clock.run(MINUTE - 60)
@@ -330,7 +331,7 @@ class Jumps(ClockCase):
             desk.expect(["aborted", "aborted"], 5, MINUTE + 1)
 
     def test_a_first_run_ends_nothing_before_it_is_told(self):
-        """Where something is due; else it begins."""
+        """This holds where something is due; else the first run just begins."""
         with self.begun() as desk:
             os.remove(self.clock.path)
             expect_ended(self.expect_jump(MINUTE, "orders are due by", "is not there to say"), MINUTE, "1")
@@ -346,7 +347,7 @@ class Jumps(ClockCase):
         expect(self.clock.seen() is None, "something was seen")
 
     def test_a_file_that_says_no_minute_is_refused(self):
-        """It is left as it is until a run is told that the clock is right."""
+        """The file stays as it is until a run is told that the clock is right."""
         with self.begun() as desk:
             for garbage in GARBAGE:
                 with open(self.clock.path, "wb") as file:
@@ -358,13 +359,13 @@ class Jumps(ClockCase):
             expect_ended(self.expect_jump(MINUTE, "does not say when"), MINUTE, "1")
 
     def expect_unkept(self, name, cause):
-        """At the minute of the last run and at the next, told that it is right."""
+        """At the minute of the last run, and at the next, the tool, told that the clock is right, fails so."""
         clock = Clock(self.desk.port, self.folder, name)
         expect_fault(clock.run(MINUTE - 1), cause)
         expect_fault(clock.run(MINUTE, "--jump"), cause)
 
     def test_a_place_where_nothing_can_be_kept_is_refused(self):
-        """No folder, a folder in the file's place, a full disk, one that is only read: nothing is ended."""
+        """There is no folder, a folder in the file's place, a full disk, or one that is only read: nothing is ended."""
         with self.begun() as desk, small_disk(self.folder, 8_192) as disk:
             os.mkdir(os.path.join(self.folder, "folder"))
             self.expect_unkept("none/seen", "No such file")

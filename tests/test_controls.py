@@ -1,5 +1,5 @@
-"""The look for controls: an edit that lacks one is named and counted as failed, in whichever folder it lies; where each has one
-that is proved, nothing fails. In place of rt stands a script that proves everything."""
+"""Tests of the look for controls. An edit that lacks one is named and counted as failed, in whichever folder it lies; where each
+edit has a control that is proved, nothing fails. In place of rt stands a script that proves everything."""
 
 import contextlib
 import io
@@ -26,7 +26,7 @@ def write(folder: str, path: str, text: str) -> str:
 
 
 def told(edits: dict[str, str], *words: str) -> tuple[list[str], int]:
-    """What is told of a crate with these edits, and whether something failed."""
+    """What is written about a crate with these edits, and whether something failed."""
     with tempfile.TemporaryDirectory() as folder, contextlib.redirect_stdout(io.StringIO()) as out:
         write(folder, "crates.txt", "small:\n")
         write(folder, "HANDLES", "Handles allowed: none.\n")
@@ -59,13 +59,13 @@ class Controls(unittest.TestCase):
         expect(told(edits, "small", "--", "b.edit") == ([lines[1], "1 passed, 0 failed"], 0), "a part of a name is not heeded")
 
     def test_a_control_that_says_nothing_fails(self):
-        """One that is the old text, or the new one."""
+        """A control fails that is the old text, or the new one."""
         for control in ["1 + 1", "1 + 2"]:
             lines, failed = told({"more-edits/a.edit": WITH.replace("control: 2", f"control: {control}")})
             expect(failed and "NOT PROVED" in lines[0], f"{control}: {lines}")
 
     def test_a_look_at_nothing_is_refused(self):
-        """As a crate is named that is not there, or a part of no edit's name."""
+        """A crate is named that is not there, or a part of no edit's name."""
         for words in [["none"], ["small", "none"], ["small", "--", "none"]]:
             with contextlib.redirect_stderr(io.StringIO()) as why:
                 found = told({"must-fail/a.edit": WITH}, *words)

@@ -28,7 +28,7 @@ Done = tuple[int, str, str]
 
 
 def commands_of(client: int) -> list[tuple[str, str]]:
-    """What a client tells, with the user: shops open, use and end orders, the warehouse delivers and writes off."""
+    """What a client sends, with its user: shops open, use and end orders, the warehouse delivers and writes off."""
     generator = random.Random(client)
     told: list[tuple[str, str]] = []
     while len(told) < COMMANDS // CLIENTS + 1:
@@ -44,7 +44,7 @@ def commands_of(client: int) -> list[tuple[str, str]]:
 
 
 class Client:
-    """A client with a kept connection, which asks again under the same key where there is no answer."""
+    """A client with a connection that stays open; where there is no answer, it asks again under the same key."""
 
     def __init__(self, front: Front):
         self.front, self.connection, self.lost = front, front.connect(), 0
@@ -63,7 +63,7 @@ class Client:
 
 
 def told_by(front: Front, client: int, is_patient: bool) -> tuple[list[Done], int]:
-    """What was done for a client, each with its place, its key and its spelling, and how many answers were lost on the way."""
+    """What was done for a client, each with its place, its key and its spelling, and how many answers were lost."""
     asks, found = Client(front), []
     for nr, (user, command) in enumerate(commands_of(client)):
         key = f"C{client}-{nr}"
@@ -85,7 +85,7 @@ def all_told(front: Front, meanwhile: Callable[[], None], is_patient: bool = Fal
 
 
 def expect_same_rows(program: str, folder: str, front: Front, accepted: list[Done]) -> None:
-    """The tables are those of the same commands by script in the order of their places."""
+    """The tables are those of a script with the same commands, in the order of their places."""
     front.desk_kill()
     played = new_desk(program, folder, "played.db")
     places = [place for place, _, _ in accepted]
@@ -99,7 +99,7 @@ def expect_same_rows(program: str, folder: str, front: Front, accepted: list[Don
 
 
 def delivered(front: Front, over: threading.Event) -> list[int]:
-    """What was answered to deliveries, each on a connection of its own, until it is over."""
+    """The answers to deliveries, each on a connection of its own, until `over` is set."""
     found = []
     while not over.is_set():
         found.append(front.tell(WAREHOUSE, "deliver N1 A-2 1")[0])
@@ -108,7 +108,7 @@ def delivered(front: Front, over: threading.Event) -> list[int]:
 
 class Crowds(FrontCase):
     def test_many_clients_outlive_a_killed_desk(self):
-        """64 clients of two groups, the desk killed three times in the middle and started again: each command is answered."""
+        """64 clients of two groups; the desk is killed three times in the middle and started again: each command is answered."""
         with Front(self.program, self.folder) as front:
 
             def kill():
@@ -126,8 +126,8 @@ class Crowds(FrontCase):
             expect_same_rows(self.program, self.folder, front, accepted)
 
     def test_a_single_command_outlives_a_killed_desk(self):
-        """Sent on a kept connection to a desk that stands still, is killed and starts two seconds later: it is answered, done
-        once."""
+        """The command is sent on an open connection to a desk that stands still, is killed, and starts two seconds later: it is
+        answered, and done once."""
         with Front(self.program, self.folder) as front:
             for number in range(3):
                 front.value()
@@ -143,7 +143,7 @@ class Crowds(FrontCase):
                 expect(front.value() == 501 + number, "not done once")
 
     def test_clients_outlive_a_front_that_stops(self):
-        """The front stopped and started again under load: who asks again under the same key has each command done once."""
+        """The front is stopped and started again under load: who asks again under the same key has each command done once."""
         with Front(self.program, self.folder) as front:
 
             def stop():
@@ -159,7 +159,7 @@ class Crowds(FrontCase):
             expect_same_rows(self.program, self.folder, front, accepted)
 
     def test_a_front_reads_its_files_anew(self):
-        """At SIGUSR2, under load: whoever comes is answered, and the shops' orders are those that stand in the file now."""
+        """At SIGUSR2, under load: whoever comes is answered, and the shops' orders are those that the file has now."""
         with Front(self.program, self.folder, shops=["n2 1"]) as front:
             front.stop()
             front.words.append("-W")
@@ -202,7 +202,7 @@ def send_slowly(front: Front, over: threading.Event) -> None:
 
 
 def unread(front: Front, count: int) -> ssl.SSLSocket:
-    """A client that asks for a long sheet so many times in a row, with little room for it, and never reads."""
+    """A client that asks so many times in a row for a long sheet, with little room for it, and never reads."""
     plain = socket.socket()
     plain.setsockopt(socket.SOL_SOCKET, socket.SO_RCVBUF, 4_096)
     plain.connect(("127.0.0.1", front.port))
@@ -212,7 +212,7 @@ def unread(front: Front, count: int) -> ssl.SSLSocket:
 
 
 def sessions_at_desk(front: Front) -> float:
-    """How many messages are at the desk, or their answers on the way from it."""
+    """How many messages are at the desk, or have their answers on the way from it."""
     _, page = front.ask(OFFICE, "GET", "/metrics")
     start = 'haproxy_server_current_sessions{proxy="desk",server="desk"}'
     [line] = [line for line in page.splitlines() if line.startswith(start)]
@@ -220,7 +220,7 @@ def sessions_at_desk(front: Front) -> float:
 
 
 def median_of_asks(front: Front) -> float:
-    """How many milliseconds an ask takes on a kept connection: the one in the middle of 41."""
+    """How many milliseconds a view takes on an open connection: the median of 41."""
     connection, took = front.connect(), []
     for _ in range(41):
         began = time.time()
@@ -234,8 +234,8 @@ def median_of_asks(front: Front) -> float:
 
 class SlowClients(FrontCase):
     def test_slow_clients_hold_nobody_up(self):
-        """100 idle clients, 20 that send a byte a second and 20 that never read a long sheet: an ask takes no longer than 50
-        ms."""
+        """There are 100 idle clients, 20 that send a byte a second, and 20 that never read a long sheet: a view takes no longer
+        than 50 ms."""
         script = fronts.FIELDS + "".join(f"S{n} field N2 B-{n} 0 9 9\n" for n in range(2_000))
         with Front(self.program, self.folder, more=SMALL_BUFFERS, script=script) as front:
             alone = median_of_asks(front)
@@ -257,8 +257,8 @@ class SlowClients(FrontCase):
             expect(front.value() == 500, "a message that was cut short was done")
 
     def test_one_user_keeps_few_connections(self):
-        """60 clients of a user who never read: what may be under way at once keeps a connection to the desk each, the others
-        are told, and whoever else asks is answered as ever."""
+        """60 clients of one user never read. As many messages as a user may have under way keep a connection to the desk each,
+        the other clients get 429, and whoever else asks is answered as ever."""
         script = fronts.FIELDS + "".join(f"S{n} field N2 B-{n} 0 9 9\n" for n in range(9_000))
         limits = {**fronts.NO_LIMITS, "UNDER_WAY_BY_USER": "20"}
         with Front(self.program, self.folder, limits, SMALL_BUFFERS, script) as front:
@@ -274,8 +274,8 @@ class SlowClients(FrontCase):
                 client.close()
 
     def test_a_message_may_come_in_pieces(self):
-        """One byte, then the head but for its end, then half of the body, then the rest: it is answered as one that comes at
-        once."""
+        """One byte, then the head but for its end, then half of the body, then the rest: the answer is that of a message that
+        comes at once."""
         body = message("PIECES", "deliver N1 A-1 5").encode()
         whole = head_of(WAREHOUSE, "/v1/commands", len(body)) + body
         cuts = [0, 1, len(whole) - len(body) - 1, len(whole) - len(body) // 2, len(whole)]
@@ -287,7 +287,8 @@ class SlowClients(FrontCase):
             expect(found.startswith(b"HTTP/1.1 200 ") and found.endswith(b'{"place":9}'), f"{found!r}")
 
     def test_clients_may_go_away(self):
-        """In mid-message, with a farewell or without: nothing is done. Behind the whole of it: it is done, once, whoever asks."""
+        """A client leaves within a message, by a proper close or without: nothing is done. Behind a whole message: the command is
+        done, once, whoever asks again."""
         body = message("GONE", "deliver N1 A-1 5").encode()
         whole = head_of(WAREHOUSE, "/v1/commands", len(body)) + body
         with Front(self.program, self.folder) as front:

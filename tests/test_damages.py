@@ -1,5 +1,5 @@
-"""Tests of the built program on files whose rows another SQLite has put there: those of a good ledger are opened, and shown as
-they stand; after each single breach of the rules for them the file is damaged, and is left as it was."""
+"""Tests of the built program on files into which another SQLite has put rows. Rows of a good ledger are opened, and shown as they
+stand; after each single breach of the rules for them, the file is damaged, and stays as it was."""
 
 import random
 import unittest
@@ -12,7 +12,7 @@ from support.rows import desk_of, faults, tables_by
 from support.rules import ABORTED, ADD, COMMITTED, FIRM, OPEN, PLAIN, TAKE, Field, Line, Order, Rules
 from support.tables import lines_of_rows, rows_of, tables_in
 
-# what a desk with a place for nothing but the end of that order answers
+# what a desk answers that has a place for nothing but the end of that order
 FULL = [
     ("Z1 deliver N1 A-1 1", "Z1 refused 2 Full 0"),
     ("Z1 expire 120", "Z1 refused 2 Full 0"),
@@ -20,7 +20,7 @@ FULL = [
     ("Z1 commit 7", "Z1 done 200000"),
     ("? order 7", "? order 7 plain 120 committed take N1 A-1 5 0"),
     ("? field N1 A-1", "? field N1 A-1 lo 0 hi 100 value 40 inf 40 sup 40"),
-    # the end of an order is never refused as too much, only for what it is
+    # the end of an order is never refused as too much, only for another reason
     ("Z2 commit 7", "Z2 refused 8 Ended 0"),
     ("Z2 firm 7", "Z2 refused 2 Full 0"),
     ("Z2 deliver N1 A-1 1", "Z2 refused 2 Full 0"),
@@ -60,7 +60,7 @@ def full_rows():
 
 
 def rows_beyond():
-    """One row more than that, or a place set aside."""
+    """One row more than that, or one place set aside more."""
     return [of_desk(200_001), [*of_desk(200_000), *OPEN_ORDER], of_fields(10_001), of_orders(100_001), of_lines(65)]
 
 
@@ -84,7 +84,7 @@ class Damages(ProgramCase):
                     raise AssertionError(f"{change}: {fault}") from fault
 
     def test_numbers_at_the_ends_of_their_columns_are_damaged(self):
-        """The least and the greatest number of 64 bits in place of each number of the good rows."""
+        """The least and the greatest number of 64 bits stand in place of each number of the good rows."""
         desks = Desks(self.program, self.folder)
         rows = GOOD.split("\n")
         for index, row in enumerate(rows):
@@ -111,7 +111,7 @@ class Damages(ProgramCase):
         desks.expect_replies([*rows, "firm,7"], FULL_OF_A_FIRM_ORDER)
 
     def test_the_numbers_of_fields_are_plain_sums(self):
-        """Each field and each sheet of a large desk shows them."""
+        """Each field and each sheet of a large desk shows plain sums."""
         desks, desk = Desks(self.program, self.folder), large_desk()
         asks = [f"? field {' '.join(name)}" for name in desk.fields]
         desks.expect_replies(lines_of_rows(tables_by(desk), ","), [(ask, desk.reply(ask)) for ask in asks])
@@ -122,7 +122,7 @@ class Damages(ProgramCase):
 
 class ByTheRules(unittest.TestCase):
     def test_the_rules_in_python_find_what_is_wrong_with_rows(self):
-        """With each single breach, and with nothing else; the good rows are those of the desk that they tell."""
+        """The rules find each single breach, and nothing else; the good rows are those of the desk that they describe."""
         for change in [(), *STILL_GOOD]:
             tables = tables_in(filter(None, changed(change)))
             expect(faults(tables) == [], f"{change}: {faults(tables)}")

@@ -21,7 +21,7 @@ KILLED = -9
 
 
 def words_of(front: Chain, *desks: str) -> list[str]:
-    """The desks as the carrier is told them, and how it knows the front."""
+    """The words that name the desks to the carrier, and how it knows the front."""
     urls = [f"https://localhost:{front.port}/{desk}" for desk in desks]
     return [*urls, "--certificate", os.path.join(front.folder, "certificate")]
 
@@ -45,8 +45,8 @@ def values(front: Chain) -> list[int]:
 
 class DealsFront(FrontCase):
     def test_who_is_let_in(self):
-        """The group between at both desks; the office, a shop, and who is at one desk alone begin nothing, nor does a misspelt
-        desk."""
+        """The group between is let in at both desks. The office, a shop, and a user who is at one desk alone begin nothing, nor
+        does a call with a misspelt desk."""
         with Chain(self.program, self.folder, users=["b2 between", "b3 between"], at=["b2 north"]) as front:
             words = [*words_of(front, *DESKS), "--move", "A-1", "7", *DESKS.values()]
             for user in ["ho", "n1", "w1", "b2", "b3", "nobody"]:

@@ -37,7 +37,7 @@ def clauses_of(path):
 
 
 def rows_of_promises():
-    """Each row of the promises: its calls and its definitions."""
+    """Each row of the promises: the promise, its calls and its definitions."""
     for line in text_of(os.path.join(TOP, "docs", "PROMISES.md")).splitlines():
         if line.startswith("|") and not line.startswith(("|promise|", "|---|")):
             cells = line[1:-1].split("|")
@@ -76,12 +76,34 @@ def check_definitions(text, path):
         )
 
 
+def proofs_told():
+    """What is told of proofs, line by line: the crates that the line, or the one that it stands below, names, and the text."""
+    crates = []
+    for line in text_of(os.path.join(TOP, "docs", "PROOFS.md")).splitlines():
+        head, _, text = line.partition("**: ")
+        if line.startswith("- **"):
+            crates = NAME.findall(head)
+            yield crates, text
+        elif line.startswith("  - ") and crates:
+            yield crates, line
+        else:
+            crates = []
+
+
 def check_items(text, path):
-    """What a link to a file of code names beside the file itself: functions, or the type that they are of."""
+    """What a link to a file of code names beside the file itself: functions, or the type to which they belong."""
     source = text_of(path)
     for name in NAME.findall(text):
         item = name.split("::")[-1]
         expect(re.search(rf"\b(fn|trait|struct|enum|const|type) {item}\b", source), f"there is no {name} in {path}")
+
+
+def edits_shown(path):
+    """Each edit that a document shows in a block of code: the file to which the document links last before it, and the text."""
+    text = text_of(path)
+    for block in re.finditer(r"^```text\n(file: .*?)^```$", text, re.MULTILINE | re.DOTALL):
+        links = [target for _, target in LINK.findall(text[: block.start()]) if target.endswith(".edit")]
+        yield os.path.join(os.path.dirname(path), links[-1]), block[1]
 
 
 class Documents(unittest.TestCase):
@@ -106,16 +128,19 @@ class Documents(unittest.TestCase):
                     expect(found or name in CRATES, f"no {name} in {line}")
 
     def test_the_proofs_are_where_they_are_said_to_be(self):
-        for line in text_of(os.path.join(TOP, "docs", "PROOFS.md")).splitlines():
-            if line.startswith("- **"):
-                head, _, rest = line.partition("**: ")
-                crates = NAME.findall(head)
-                for name in NAME.findall(rest):
-                    files = [os.path.join(TOP, "crates", crate, "proofs", f"{name}.antt") for crate in crates]
-                    expect(name[0].islower() or any(map(os.path.exists, files)), f"no {name} among the proofs of {crates}")
+        for crates, text in proofs_told():
+            for name in NAME.findall(text):
+                files = [os.path.join(TOP, "crates", crate, "proofs", f"{name}.antt") for crate in crates]
+                expect(name[0].islower() or any(map(os.path.exists, files)), f"no {name} among the proofs of {crates}")
 
     def test_the_promises_name_what_is_there(self):
         rows = list(rows_of_promises())
         expect(len(rows) > 50, "the promises were not found")
         for promise, calls, _definitions in rows:
             check_calls(promise, calls)
+
+    def test_an_edit_that_is_shown_is_that_file(self):
+        shown = list(edits_shown(os.path.join(TOP, "CONTRIBUTING.md")))
+        expect(len(shown) == 1, f"{len(shown)} edits are shown")
+        for path, text in shown:
+            expect(text == text_of(path), f"{path} has another text")

@@ -1,5 +1,5 @@
-"""The examples: a day of two shops, files of requests, and two clients, one in Python and one with curl. The answers follow from
-the rules. Between a client and the desk stands a relay that loses answers, or sends the client away."""
+"""Tests of the examples: a day of two shops, files of requests, two clients, one in Python and one with curl, and a till. The
+answers follow from the rules. Between a client and the desk stands a relay that loses answers, or kills the client."""
 
 import os
 import re
@@ -11,6 +11,7 @@ import sys
 from support import TOP
 from support.blocks import PORT, Shell, blocks_of, free_port
 from support.cases import ProgramCase, needs
+from support.fronts import Front
 from support.relays import Relay
 from support.service import Service
 
@@ -46,7 +47,7 @@ R1 done 18
 ? field N1 BOOT-42 lo 5 hi 60 value 13 inf 13 sup 13
 """
 
-# each file of requests behind it, with its answers; then all again
+# each file of requests, with its answers; then all of them again
 FILES = [
     ("orders", "G1 done 19\nG2 refused 13 TooLittle 1\n"),
     ("deliveries", "D1 done 20\nD2 refused 14 TooMuch 0\n"),
@@ -93,7 +94,7 @@ SAID = [f"{command} {told} {body}\n" for (command, _, body), told in zip(COMMAND
 KEPT = [f"{status} {body}" for _, status, body in COMMANDS]
 FOUND = "? field N1 TEA lo 5 hi 60 value 46 inf 45 sup 46\n"
 
-# a user of a front, and how a message shows that
+# a user of a front, and how a message shows the user
 USER, SHOWN = "n1:n1", "Basic bjE6bjE="
 
 CLIENTS = {"py": [sys.executable, "client.py"], "sh": ["sh", "client.sh"]}
@@ -112,7 +113,7 @@ class Examples(ProgramCase):
         return path
 
     def test_a_day_of_two_shops(self) -> None:
-        """The script, each file of requests, twice, and the sheets behind them."""
+        """The script, each file of requests, twice, and the sheets after them."""
         path = self.new_desk("day.db")
         with open(os.path.join(EXAMPLES, "two_shops.script"), encoding="ascii") as file:
             self.assertEqual(self.done(["run", path], file.read()), DAY)
@@ -122,7 +123,7 @@ class Examples(ProgramCase):
             self.assertEqual(self.done([kind, path, name]), sheet, name)
 
     def test_the_commands_that_are_shown(self) -> None:
-        """Each block of the examples' README, in the folder of the examples."""
+        """Each block of the examples' README is played in the folder of the examples."""
         copy, path = os.path.join(self.folder, "examples"), os.path.join(self.folder, "path")
         shutil.copytree(EXAMPLES, copy)
         os.mkdir(path)
@@ -132,13 +133,15 @@ class Examples(ProgramCase):
         shell = Shell(path, copy)
         self.addCleanup(shell.end)
         blocks = blocks_of("examples/README.md")
-        for number, want in enumerate([day, f"listening {port}\n" + "".join(SAID)]):
+        till = (blocks[-1][1] or "").replace(PORT, port)
+        self.assertEqual(till.count("\n"), 5, "what the till writes was not found")
+        for number, want in enumerate([day, f"listening {port}\n" + "".join(SAID), till]):
             commands, _ = blocks[number]
             self.assertEqual(shell.play(number, commands.replace(PORT, port), want), want, commands)
-        self.assertEqual(len(blocks), 2)
+        self.assertEqual(len(blocks), 3)
 
     def test_each_key_of_the_day_is_told(self) -> None:
-        """The keys of the script stand in the story, or between two that do."""
+        """The story has the keys of the script, each by itself or as one between two keys."""
         with open(os.path.join(EXAMPLES, "README.md"), encoding="utf-8") as file:
             story = re.findall(r"^\| ([A-Z]\d.*?) \|", file.read(), re.MULTILINE)
         told = set()
@@ -167,7 +170,7 @@ class Examples(ProgramCase):
         return client.returncode, out, errors
 
     def expect_all_once(self, kind: str, faults: dict[int, str], connections: int) -> None:
-        """Whatever befalls its messages, a client that is called until it is done gets every answer, and each command is done
+        """Whatever happens to its messages, a client that is called until it is done gets every answer, and each command is done
         once."""
         with self.subTest(kind=kind, faults=faults):
             name = f"{kind}-{'-'.join(faults.values())}"
@@ -199,11 +202,11 @@ class Examples(ProgramCase):
         self.expect_all_once(kind, {4: "lost", 5: "lost"}, whole + 2)
         # neither of these reaches the desk
         self.expect_all_once(kind, {1: "away", 3: "busy"}, whole)
-        # the client is killed when the delivery is done, and before it has the answer
+        # the client is killed when the delivery is done, before it has the answer
         self.expect_all_once(kind, {4: "killed"}, whole + 1)
 
     def expect_end(self, kind: str, commands: str, asked: str, want: str) -> None:
-        """It ends with status 1, and says why."""
+        """The client ends with status 1, and says why."""
         list_of = os.path.join(self.folder, "list.txt")
         with open(list_of, "w", encoding="ascii") as file:
             file.write(commands)
@@ -221,7 +224,7 @@ class Examples(ProgramCase):
         self.assertRegex(run.stderr, want)
 
     def expect_ends(self, kind: str) -> None:
-        """What is no command, and a desk that is not there."""
+        """Where a line is no command, and where no desk is there, the client ends so."""
         service = Service(self.program, self.new_desk(f"{kind}.db"), 1)
         try:
             asked = f"127.0.0.1:{service.port}"
@@ -248,7 +251,7 @@ class Examples(ProgramCase):
 
     @needs("curl", "openssl")
     def test_each_client_asks_a_front(self) -> None:
-        """Over TLS, with a certificate of its own, and as a user."""
+        """The clients ask over TLS, with a certificate of the front's own, and as a user."""
         key, certificate = (os.path.join(self.folder, name) for name in ["front.key", "front.pem"])
         words = (
             "openssl req -x509 -newkey rsa:3072 -nodes -days 2 -subj /CN=localhost -addext subjectAltName=DNS:localhost".split()
@@ -271,3 +274,61 @@ class Examples(ProgramCase):
                     service.expect_end()
                 self.assertEqual(end, (0, "".join(SAID), ""))
                 self.assertEqual(relay.shown, [SHOWN] * len(COMMANDS))
+
+    def till(self, asked: str, relay: Relay | None, *words: str, **more: str) -> tuple[int, str, str]:
+        """How a call of the till ends, as `play`."""
+        journal = os.path.join(self.folder, "till.journal")
+        if not os.path.exists(journal):
+            with open(journal, "w", encoding="ascii") as file:
+                file.write("300000\n")
+        client = subprocess.Popen(
+            [sys.executable, "till.py", asked, journal, *words],
+            cwd=EXAMPLES,
+            env={**os.environ, "DESK_USER": "", **more},
+            stdout=subprocess.PIPE,
+            stderr=subprocess.PIPE,
+            text=True,
+        )
+        if relay:
+            relay.client = client
+        out, errors = client.communicate(timeout=SECONDS)
+        return client.returncode, out, errors
+
+    def test_the_till_loses_nothing(self) -> None:
+        """Its first number is another's, answers are lost, and it is killed before it has one."""
+        with open(os.path.join(EXAMPLES, "till.py"), encoding="utf-8") as file:
+            self.assertLessEqual(len(file.readlines()), 60)
+        path = self.new_desk("till.db")
+        self.done(["run", path], "F field N1 TEA 5 60 15\nX open 300000 40000000 take N1 TEA 1\n")
+        service = Service(self.program, path, 6)
+        relay = Relay(service.port, {2: "lost", 4: "away", 5: "busy", 7: "killed"})
+        asked = f"127.0.0.1:{relay.server_port}"
+        opening = ["open", "120", "take", "N1", "TEA", "3"]
+        taken = 'open 300000 is refused, 409: {"code":6,"line":0,"refused":"OrderThere"}\n'
+        try:
+            self.assertEqual(self.till(asked, relay, *opening), (0, taken, ""))
+            self.assertEqual(self.till(asked, relay, *opening), (0, 'open 300001 is done: {"place":3}\n', ""))
+            self.assertEqual(
+                self.till(asked, relay, *"use 300001 N1 TEA 2".split()), (0, 'use 300001 is done: {"place":4}\n', "")
+            )
+            self.assertEqual(self.till(asked, relay, "commit", "300001")[0], -9)
+            self.assertEqual(self.till(asked, relay), (0, 'commit 300001 is done: {"place":5}\n', ""))
+        finally:
+            relay.end()
+            service.expect_end()
+        self.assertEqual(self.done(["run", path], "? field N1 TEA\n"), "? field N1 TEA lo 5 hi 60 value 13 inf 12 sup 13\n")
+
+    @needs("haproxy", "openssl")
+    def test_the_till_asks_a_front(self) -> None:
+        """As a user of the shops, over TLS; what such a user may not send is refused, and so is another password."""
+        with Front(self.program, self.folder) as front:
+            asked, certificate = f"localhost:{front.port}", os.path.join(self.folder, "certificate")
+            user = {"DESK_USER": USER, "SSL_CERT_FILE": certificate}
+            opening = ["open", "120", "take", "N1", "A-1", "3"]
+            self.assertEqual(self.till(asked, None, *opening, **user), (0, 'open 300000 is done: {"place":9}\n', ""))
+            refused = 'firm 300000 is refused, 403: {"error":"group"}\n'
+            self.assertEqual(self.till(asked, None, "firm", "300000", **user), (0, refused, ""))
+            told = "no such user or password: call again\n"
+            other = {**user, "DESK_USER": "n1:other"}
+            self.assertEqual(self.till(asked, None, "commit", "300000", **other), (1, "", told))
+            self.assertEqual(self.till(asked, None, **user), (0, 'commit 300000 is done: {"place":10}\n', ""))

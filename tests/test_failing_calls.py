@@ -1,5 +1,5 @@
-"""Tests of the built program of which one read or write fails, or one call of its store, where all behind it would succeed: none
-is tried again. It ends with the fault behind a beginning of its answer, and what was told is kept."""
+"""Tests of the built program where one read or write fails, or one call of its store, and all calls behind it would succeed. The
+program tries none again. It ends with the fault behind a beginning of its answer, and what it answered is kept."""
 
 import contextlib
 import errno
@@ -20,8 +20,8 @@ WRITE_ERRORS = [*READ_ERRORS, 0]
 
 CSV: End = (4, b"", b"stockdesk: csv\n")
 PIECE = 512
-# how many messages two connections bring, each of which adds a piece to a field; and which calls leave nothing untold where they
-# fail: the reads that find the ends of these
+# How many messages two connections bring, each of which adds a piece to a field. And which calls leave every answer written where
+# they fail: the reads that find the ends of the connections.
 FIRST, SECOND = 4, 2
 TOLD = {"read": [FIRST + 1, FIRST + 1 + SECOND + 1], "write": []}
 
@@ -36,7 +36,7 @@ def places(first: int, count: int) -> bytes:
 
 
 def answered_in_turn(port: int, messages: list[bytes]) -> bytes:
-    """What is answered to these messages, each of which waits for the answer to the last."""
+    """What is answered to these messages; each is sent once the one before is answered."""
     found = b""
     with socket.create_connection(("127.0.0.1", port), SECONDS) as connection, contextlib.suppress(ConnectionError):
         for number, text in enumerate(messages, 1):
@@ -57,7 +57,7 @@ def whole_answers(text: bytes) -> int:
 
 
 class Connections:
-    """Services of two connections on copies of a desk with one field, of which reads or writes fail."""
+    """Services of two connections on copies of a desk with one field, where reads or writes fail."""
 
     def __init__(self, failing: Failing, folder: str):
         self.failing, self.program = failing, failing.program
@@ -65,8 +65,8 @@ class Connections:
         done(self.program, ["run", self.desk], "K1 field N1 A-1 0 100 0\n")
 
     def serve(self, failure: Failure) -> tuple[bool, bool]:
-        """Whether something was not told, and whether the call came. A connection of which one fails ends there, and the other is
-        served whole; what was done is told, but for the last answer where a write fails."""
+        """Whether some answer was not written, and whether the call came. A connection with a failing call ends there, and the
+        other connection is served whole. What was done is answered, but for the last answer where a write fails."""
         with self.failing.lane() as lane:
             path = os.path.join(lane, "desk.db")
             copy_desk(self.desk, path)
@@ -104,7 +104,7 @@ class FailingCalls(FailingCase):
         return OnCopies(self.failing, os.path.join(self.folder, str(WORKS.index(work))), work)
 
     def test_a_script_ends_at_a_read_that_fails(self):
-        """The lines that had ended before the piece at which it fails are answered."""
+        """The lines that had ended before the piece at which the read fails are answered."""
         on_copies = self.on_copies(SCRIPT)
         text = on_copies.input
         pieces = range(0, len(text) + PIECE, PIECE)

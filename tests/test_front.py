@@ -1,5 +1,5 @@
-"""Tests of the front that is put before the program: users and what each group may do, a desk that is stopped, limits, the log,
-and what a browser is told."""
+"""Tests of the front that stands before the program: users and what each group may do, a desk that is stopped, limits, the log,
+and what a browser gets."""
 
 import base64
 import glob
@@ -61,7 +61,8 @@ class Users(FrontCase):
                     expect(front.ask(user, "GET", target)[0] == want, f"{user}, {target}")
 
     def test_a_user_is_told_who_he_is(self):
-        """His name, his group, and of a shop what stands behind the name in the list of shops, in any blanks."""
+        """The front answers a user's name, his group, and for a shop what stands behind the name in the list of shops, whatever
+        blanks are between."""
         groups = {SHOP: ("shops", "0"), WAREHOUSE: ("warehouse", ""), OFFICE: ("office", "")}
         groups |= {"n2": ("shops", "1 N2 N3"), "n3": ("shops", ""), "n4": ("shops", "899\tN4")}
         with Front(self.program, self.folder, shops=["n2 1 N2 N3", "n3", "n4 899\tN4"]) as front:
@@ -70,7 +71,8 @@ class Users(FrontCase):
                 expect(json.loads(front.ask(user, "GET", "/user")[1]) == want, user)
 
     def test_nobody_else_is_answered(self):
-        """No user, another password, none, the words of another scheme: 401 for whatever is asked, and nothing is done."""
+        """No user, a wrong password, none, or the words of another scheme: the answer is 401 for whatever is asked, and nothing
+        is done."""
         others = [
             {},
             credentials(SHOP, "other"),
@@ -95,7 +97,7 @@ class Users(FrontCase):
 
     @needs("curl")
     def test_what_is_refused_is_told_over_http2(self):
-        """To a client that is still sending its body, as curl by HTTP/2, each time."""
+        """A client that is still sending its body, as curl does over HTTP/2, gets the refusal, each time."""
         wanted = [("/v1/none", "POST", 404), ("/v1/commands", "PUT", 405), ("/v1/commands", "POST", 413)]
         with Front(self.program, self.folder) as front:
             words = ["curl", "--silent", "--insecure", "--user", "ho:ho", "--output", "/dev/null", "--write-out", "%{http_code}"]
@@ -106,8 +108,8 @@ class Users(FrontCase):
                 expect(found == [str(want)] * 25, f"{method} {target}: {found}")
 
     def test_a_stopped_desk_may_start_again(self):
-        """A file that may not grow stops the desk. It is told, and the desk ends by itself; started again it does the same
-        command once."""
+        """A file that may not grow stops the desk. The answer says so, and the desk ends by itself; started again, it does the
+        same command once."""
         with Front(self.program, self.folder) as front:
             front.desk_kill()
             size = os.path.getsize(front.file) + 20_000
@@ -133,7 +135,7 @@ class Users(FrontCase):
 
 
 def statuses(front: Front, user: str, count: int) -> dict[int, int]:
-    """How often each status is answered to so many asks at once, on one connection."""
+    """How often each status is the answer to so many views that are asked for at once, on one connection."""
     connection = front.connect()
     found: dict[int, int] = {}
     for _ in range(count):
@@ -212,7 +214,8 @@ class Limits(FrontCase):
             expect(front.value() == 502, "another number was done")
 
     def test_time_and_connections_are_limited(self):
-        """Who is silent within a head or a body is told in some five seconds; an address has so many connections."""
+        """A client that is silent within a head or a body gets its answer in some five seconds; an address may have so many
+        connections."""
         with Front(self.program, self.folder, {**NO_LIMITS, "CONNECTIONS_BY_ADDRESS": "10"}) as front:
             clients = [front.socket(), front.socket()]
             clients[0].sendall(head_of(SHOP, "/user")[:-2])
@@ -238,14 +241,15 @@ class Limits(FrontCase):
 
 
 def policy_of(headers: HTTPMessage) -> dict[str, str]:
-    """Each part of the policy by which a browser takes an answer, by its name."""
+    """Each part of the policy that tells a browser how to take an answer, by its name."""
     parts = [part.split(" ", 1) for part in str(headers["Content-Security-Policy"]).split("; ")]
     return {name: value for name, value in parts}
 
 
 class Configuration(FrontCase):
     def test_the_log_names_the_user(self):
-        """Who asked for what, under which key, and what was answered; no password and no command beyond its verb."""
+        """The log says who asked for what, under which key, and what was answered; it has no password, and of a command only its
+        verb."""
         with Front(self.program, self.folder) as front:
             front.tell(SHOP, "open 1 60 take N1 A-1 5", "KEY-1")
             front.tell(SHOP, "deliver N1 A-1 5", "KEY-2")
@@ -264,7 +268,7 @@ class Configuration(FrontCase):
             expect(all(re.match(r"\d{4}-\d\d-\d\dT\d\d:\d\d:\d\dZ ", line) for line in front.log() if "/v1/" in line), "no time")
 
     def test_a_browser_is_told_to_be_careful(self):
-        """Nothing comes from elsewhere, no script or style stands within the page, and no page has this one in it."""
+        """Nothing comes from elsewhere, no script or style stands within the page, and no other page may hold this one."""
         nothing = ["default-src", "frame-ancestors", "base-uri", "form-action"]
         want = {**dict.fromkeys(nothing, "'none'"), **dict.fromkeys(["connect-src", "style-src", "script-src"], "'self'")}
         targets = [(SHOP, "/"), (SHOP, "/desk.js"), (SHOP, "/v1/sheets/N1"), (SHOP, "/none"), (None, "/"), (SHOP, "/metrics")]
@@ -280,7 +284,7 @@ class Configuration(FrontCase):
                 connection.close()
 
     def test_the_page_is_served_to_users_alone(self):
-        """Each of its files, as it lies there and with its type; nothing else of the folder's name is."""
+        """A user gets each file of the page, as it lies there and with its type, and nothing else of the folder."""
         types = {"html": "text/html; charset=utf-8", "css": "text/css; charset=utf-8", "js": "text/javascript; charset=utf-8"}
         with Front(self.program, self.folder) as front:
             for path in sorted(glob.glob(os.path.join(PAGE, "*"))):

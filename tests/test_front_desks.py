@@ -1,5 +1,5 @@
-"""Tests of a front that several desks have: which desks a user sees, that no desk is held up by another one, the log, the
-figures, and the page of each."""
+"""Tests of a front that stands before several desks: which desks a user sees, that no desk is held up by another one, the log,
+the figures, and the page of each desk."""
 
 import glob
 import json
@@ -32,7 +32,8 @@ TARGETS = ["/", "/user", "/desk.js", "/v1/branches", "/v1/desk", "/v1/orders/7",
 
 class Desks(FrontCase):
     def test_each_user_sees_own_desks_alone(self):
-        """Another desk is 403 with whatever is asked there, one that is not there 404, and all is 403 to who has none."""
+        """At another desk a user gets 403, whatever is asked; at a desk that is not there 404; a user who has no desk gets 403
+        everywhere."""
         with Chain(self.program, self.folder, shops=SHOPS, users=USERS, at=AT) as front:
             for user, desks in DESKS_OF.items():
                 for desk in ["north", "south"]:
@@ -64,7 +65,7 @@ class Desks(FrontCase):
                     expect(told["group"] == {"b": "between", "h": "office", "w": "warehouse"}.get(user[0], told["group"]), user)
 
     def test_each_desk_is_its_own(self):
-        """The same order, under the same key, at each of three desks; what is done at one is not done at another."""
+        """The same order is opened, under the same key, at each of three desks; what is done at one is not done at another."""
         desks = ["north", "south", "east2"]
         with Chain(self.program, self.folder, desks, users=["h2 office"], at=["h2 east2 south north"]) as front:
             for place, desk in enumerate(desks, 1):
@@ -79,7 +80,8 @@ class Desks(FrontCase):
                 expect(branches == [f"{desk[0].upper()}{n}" for n in (1, 2)], f"{desk}: {branches}")
 
     def test_no_desk_holds_another_up(self):
-        """While a desk is away those who ask another one are answered, and who asks for it is answered when it is there again."""
+        """While a desk is away, those who ask another one are answered; who asks the absent desk is answered when it is there
+        again."""
         with Chain(self.program, self.folder) as front:
             front.desk_kill("north")
             command = message("KEY-1", "deliver N1 A-1 5")
@@ -100,7 +102,8 @@ class Desks(FrontCase):
             expect(values == [505, 550], f"{values}")
 
     def test_a_desk_that_stands_still_holds_no_other_up(self):
-        """More wait for it than it has connections; those who ask another one are answered, and in the end all are."""
+        """More messages wait for a desk than it has connections; those who ask another one are answered, and in the end all
+        are."""
         with Chain(self.program, self.folder) as front:
             front.running["north"].send_signal(signal.SIGSTOP)
             waiting = [front.socket() for _ in range(300)]
@@ -116,7 +119,8 @@ class Desks(FrontCase):
                 client.close()
 
     def test_a_desk_more_needs_a_reload(self):
-        """Its lines and a user's are enough. Before them the desk is not there, and meanwhile the others are asked as ever."""
+        """A desk's lines, and a user's, are enough. Before the reload the desk is not there, and meanwhile the others are asked
+        as ever."""
         chain = Chain(self.program, self.folder, users=["h2 office"], at=["h2 north west"])
         chain.words.append("-W")
         with chain as front:
@@ -190,7 +194,8 @@ class Clients(FrontCase):
 
 class Pages(FrontCase):
     def test_each_desk_has_the_page(self):
-        """Behind its name, each file as it lies there; without a name it is the user's first desk's."""
+        """The page is behind each desk's name, each file as it lies there; without a name it is the page of the user's first
+        desk."""
         with Chain(self.program, self.folder, shops=SHOPS, users=USERS, at=AT) as front:
             for path in sorted(glob.glob(os.path.join(PAGE, "*"))):
                 name = os.path.basename(path).replace("desk.html", "")
@@ -211,7 +216,7 @@ class Pages(FrontCase):
                     connection.close()
 
     def test_the_configuration_is_taken_without_a_warning(self):
-        """As it is shipped, and with three desks."""
+        """HAProxy takes the configuration as it is shipped, and with three desks."""
         with Chain(self.program, self.folder, ["north", "south", "west"]) as front:
             for words in [front.words, [*front.words[:-1], SHIPPED]]:
                 told = subprocess.run([*words, "-c"], env=front.environment, capture_output=True, text=True)

@@ -1,4 +1,4 @@
-"""Tests of how full a desk is told to be by `stockdesk-rollover --check`: at nine tenths of each limit, in use, and by itself."""
+"""Tests of how full a desk is, as `stockdesk-rollover --check` says it: at nine tenths of each limit, in use, and by itself."""
 
 import os
 import socket
@@ -15,7 +15,7 @@ from support.rolled import SCRIPT, desk_of, lying, play_and_kill, tool_ended
 
 import stockdesk_tools as tools
 
-# so many rows on both sides of nine tenths of a limit, others beside them, and the status of a look
+# so many rows on both sides of nine tenths of a limit, others beside them, and the status of the check
 NEARLY = [
     (of_desk, 179_999, [], 0),
     (of_desk, 180_000, [], 3),
@@ -33,7 +33,7 @@ fields: 2 of 10000, 0 percent
 orders: 3 of 100000, 0 percent
 """
 
-# what is told by no desk, by one that has stopped, and by what is none
+# answers that do not say how full a desk is: of what is no desk, of a desk that has stopped, or none
 TOLD: list[bytes | None] = [
     b"",
     b"SSH-2.0\r\n",
@@ -44,7 +44,7 @@ TOLD += [b"HTTP/1.1 200 OK\r\n\r\n" + b'{"clock":0,"fields":"x","open":0,"orders
 
 
 def expect_places(program, path, places, words):
-    """A look tells so many places, and these words in its first line; all lies as it lay."""
+    """A check says so many places, and has these words in its first line; all files lie as they lay."""
     found = lying(path)
     status, out, errors = tool_ended(program, ["--check", path])
     told = f"places: {places} taken and 3 set aside of 200000, 0 percent\n" in out.decode()
@@ -62,7 +62,7 @@ def deliver(stdin, over):
 
 
 def look(program, path, replies):
-    """Whether a look at a desk in use told a number of places that it had meanwhile; else it told to try again."""
+    """Whether a check of a desk in use said a number of places that the desk had meanwhile; else it must say to try again."""
     least = len(replies)
     status, out, errors = tool_ended(program, ["--check", path])
     if status == 1:
@@ -98,7 +98,7 @@ class Changing:
 @needs_strict_tables
 class Fullness(ProgramCase):
     def test_a_look_tells_how_full_a_desk_is(self):
-        """On both sides of nine tenths, and nothing is changed or made."""
+        """The desks lie on both sides of nine tenths, and nothing is changed or made."""
         desks = Desks(self.program, self.folder)
         for make, count, others, want in NEARLY:
             desks.put([*make(count), *others])
@@ -110,7 +110,8 @@ class Fullness(ProgramCase):
         expect(found == (0, FULL, b""), f"{found}")
 
     def test_a_desk_that_is_served_is_asked(self):
-        """On both sides of nine tenths; the file that is named beside the port is not read, and need not be there."""
+        """The desks lie on both sides of nine tenths; the file that is named beside the port is not read, and need not be
+        there."""
         desks, none = Desks(self.program, self.folder), os.path.join(self.folder, "none.db")
         for make, count, others, want in NEARLY:
             desks.put([*make(count), *others])
@@ -122,7 +123,7 @@ class Fullness(ProgramCase):
         expect(found == (0, FULL, b""), f"{found}")
 
     def test_where_no_desk_tells_the_file_is_read(self):
-        """Nobody listens, or what does is silent, has stopped, or tells something else."""
+        """Nobody listens there, or who does is silent, has stopped, or says something else."""
         old, _ = desk_of(self.program, self.folder)
         with socket.socket() as nobody:
             nobody.bind(("127.0.0.1", 0))
@@ -134,7 +135,7 @@ class Fullness(ProgramCase):
             expect(found == (0, FULL, b""), f"{told}: {found}")
 
     def test_a_look_reads_the_log(self):
-        """What a desk in use has done is in its log alone at first; it goes on, and so does one whose program was killed."""
+        """What a desk in use has done is at first in its log alone; it goes on, and so does one whose program was killed."""
         old, _ = desk_of(self.program, self.folder)
         found = bytes_of(old)
         session = Session(self.program, old)
@@ -149,8 +150,8 @@ class Fullness(ProgramCase):
         expect_places(self.program, old, 10, ["places"])
 
     def test_a_look_disturbs_nobody(self):
-        """A desk in use, also while it takes commands as fast as it can: what is told was so at some moment, and all is
-        answered."""
+        """The desk is in use, also while it takes commands as fast as it can: what the check says was so at some moment, and all
+        commands are answered."""
         old, _ = desk_of(self.program, self.folder, "K1 field N1 A-1 0 1000000000 0\n")
         pipe = subprocess.PIPE
         with subprocess.Popen([self.program, "run", old], stdin=pipe, stdout=pipe, text=True) as process:
@@ -171,7 +172,8 @@ class Fullness(ProgramCase):
         note(f"{len(replies)} commands, {sum(looks)} of {len(looks)} looks among them told how full the desk was")
 
     def test_a_look_takes_no_copy_of_two_moments(self):
-        """Where the file changes while it is copied, or its log is begun anew, it is copied once more, and at last given up."""
+        """Where the file changes while it is copied, or its log is begun anew, it is copied once more, and at last the tool gives
+        up."""
         old = new_desk(self.program, self.folder)
         play_and_kill(self.program, old, SCRIPT)
         for name, place in [(old, 68), (f"{old}-wal", 16)]:

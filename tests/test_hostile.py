@@ -1,5 +1,5 @@
 """Tests of the built program among peers and on disks that do their worst: a line without an end, clients that are slow, silent
-or gone, heads and bodies at their limits, many connections, a full disk, files that may not be written, one that vanishes."""
+or gone, heads and bodies at their limits, many connections, a full disk, files that may not be written, a file that vanishes."""
 
 import contextlib
 import os
@@ -53,7 +53,8 @@ def expect_bodies(port, text, bodies):
 
 class Lines(ProgramCase):
     def test_a_line_without_an_end_is_not_kept(self):
-        """10,000,000 bytes of it: what is resident stays, the line is bad once, and the next one is answered."""
+        """The line has 10,000,000 bytes: the resident memory stays as it is, the line is bad once, and the next one is
+        answered."""
         session = Session(self.program, new_desk(self.program, self.folder))
         try:
             session.ask(FIELD.rstrip())
@@ -70,7 +71,7 @@ class Lines(ProgramCase):
 
 
 class Peers(ProgramCase):
-    """Of a service with these options."""
+    """Tests of a service with these options."""
 
     options: list[str] = []
 
@@ -78,7 +79,7 @@ class Peers(ProgramCase):
         return Service(self.program, with_field(self.program, self.folder), connections, options=self.options)
 
     def test_heads_and_bodies_have_limits(self):
-        """At the limit a message is answered, and so is the next; over it the connection ends with one answer."""
+        """At the limit a message is answered, and so is the next; over the limit the connection ends with one answer."""
         service = self.serve(4)
         expect_bodies(service.port, head_of(8_192) + GET, [SHOWN, SHOWN])
         expect_bodies(service.port, head_of(8_193) + GET, [UNREADABLE])
@@ -87,8 +88,8 @@ class Peers(ProgramCase):
         service.expect_end()
 
     def test_a_slow_client_is_answered(self):
-        """One byte at a time; another client waits meanwhile, where there is one connection after the other, and is then
-        answered."""
+        """The client sends one byte at a time. Where connections are served one after the other, another client waits meanwhile,
+        and is then answered."""
         service = self.serve(2)
         with socket.create_connection(("127.0.0.1", service.port), SECONDS) as slow:
             other = socket.create_connection(("127.0.0.1", service.port), SECONDS)
@@ -104,7 +105,7 @@ class Peers(ProgramCase):
         service.expect_end()
 
     def test_a_client_that_never_reads_holds_up_no_other(self):
-        """It sends until nothing more is taken, and goes: the next is served."""
+        """The client sends until the service takes nothing more, and leaves: the next client is served."""
         service = self.serve(2)
         with socket.create_connection(("127.0.0.1", service.port), 0.5) as silent:
             sent = 0
@@ -116,7 +117,7 @@ class Peers(ProgramCase):
         service.expect_end()
 
     def test_many_connections_leave_nothing_behind(self):
-        """10,000 one after the other: memory and open files at the end are those of the start."""
+        """10,000 connections come one after the other: memory and open files at the end are those of the start."""
         service = self.serve(CONNECTIONS)
         first = None
         for number in range(CONNECTIONS):
@@ -130,20 +131,20 @@ class Peers(ProgramCase):
 
 
 class PeersTogether(Peers):
-    """Of one that serves many connections at once."""
+    """Tests of a service of many connections at once."""
 
     options = TOGETHER
 
 
 def ended_as_nobody(program, words, text):
-    """How a run ends that may do only what anybody may."""
+    """How a run ends that may do only what anybody may do."""
     run = subprocess.run([program, *words], input=text, capture_output=True, timeout=SECONDS, user=NOBODY, check=False)
     return run.returncode, run.stdout, run.stderr
 
 
 class Disks(ProgramCase):
     def test_a_full_disk_loses_nothing(self):
-        """A script on disks of several sizes, each soon full: what was told is there when there is room again."""
+        """A script is played on disks of several sizes, each soon full: what was answered is there when there is room again."""
         script = FIELD + "".join(f"K{n} deliver N1 A-1 1\n" for n in range(2, 300))
         for size in [65_536, 262_144, 327_680, 524_288, 786_432]:
             with small_disk(self.folder, size) as point:
@@ -168,7 +169,7 @@ class Disks(ProgramCase):
 
     @unittest.skipIf(os.getuid() != 0, "only root can be another user")
     def test_what_may_not_be_written_is_left_alone(self):
-        """The modes of the folder and of the file in it, for one who owns neither."""
+        """The folder and the file in it have such modes, for a user who owns neither."""
         os.chmod(self.folder, 0o755)
         program = shutil.copy(self.program, os.path.join(self.folder, "stockdesk"))
         shop = os.path.join(self.folder, "shop")
@@ -187,7 +188,8 @@ class Disks(ProgramCase):
         expect(os.listdir(shop) == files, f"a file was made: {os.listdir(shop)}")
 
     def test_a_file_that_vanishes(self):
-        """Where it is gone before a run there is no desk; a session goes on with the file that it opened, wherever that lies."""
+        """Where the file is gone before a run, there is no desk; a session goes on with the file that it opened, wherever that
+        lies."""
         path = with_field(self.program, self.folder)
         session = Session(self.program, path)
         try:

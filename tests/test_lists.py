@@ -13,7 +13,7 @@ LAST = 999_999_999
 
 
 def begin(connection: http.client.HTTPConnection, numbers: list[int], untils: dict[int, int]) -> None:
-    """A field, and an order for each number that takes one piece of it."""
+    """Makes a field, and for each number an order that takes one piece of it."""
     commands = ["field N1 A-1 0 1000 1000"] + [f"open {number} {untils[number]} take N1 A-1 1" for number in numbers]
     for place, command in enumerate(commands, 1):
         found = post(connection, f"K{place}", command)
@@ -21,7 +21,7 @@ def begin(connection: http.client.HTTPConnection, numbers: list[int], untils: di
 
 
 def listed(connection: http.client.HTTPConnection, target: str) -> list[int]:
-    """The numbers of the orders that a view lists; each order is what the view of it shows."""
+    """The numbers of the orders that a view lists; each order must be as its own view shows it."""
     status, _, text = ask(connection, "GET", target)
     assert status == 200, (target, status, text)
     orders = json.loads(text)["orders"]

@@ -1,5 +1,6 @@
-"""Tests of the built program to which memory is refused: each allocation in turn, one run for each, that one alone or all from it
-on. A run ends with the fault behind a beginning of its answer, a message is answered that it is so, and what is told is kept."""
+"""Tests of the built program where memory is refused: each allocation in turn, one run for each, this one alone or all from it
+on. A run ends with the fault behind a beginning of its answer; a message is answered that memory was refused; and what was
+answered as done is kept."""
 
 import os
 import threading
@@ -15,15 +16,15 @@ from support.service import NotServed, Service, answered
 from support.tables import rows_of
 from support.works import EACH_KIND, REQUESTS, SCRIPT, SHEETS, OnCopies, copy_desk, files_at
 
-# works each of which reads and keeps otherwise than those before it; want of memory within a commit is a fault of the store
+# works, each of which reads and keeps in another way than those before it; want of memory within a commit is a fault of the store
 WORKS = [*((sheet, [MEMORY]) for sheet in SHEETS), *((work, [MEMORY, STORE]) for work in [SCRIPT, *REQUESTS[:2], *REQUESTS[3:5]])]
 # by how many allocations two tasks may differ until a desk is opened
 SPARE = 100
 
-# words that ask for nothing, and all by which they are told
+# words that ask for nothing, and all that is written about them
 NO_TASKS = [["--version"], ["walk"], ["sheet", "none.db", "n1"], ["serve", "none.db", "--port", "65536", "--connections", "1"]]
 
-# what two connections bring: lines of a script that ask for the same as messages
+# what two connections bring, as lines of a script that ask for the same as the messages
 FIRST = [
     "M1 field N1 A-1 0 100 40",
     "M2 open 7 120 take N1 A-1 20",
@@ -38,12 +39,12 @@ SECOND = ["M6 deliver N1 A-1 6", "? field N1 A-1"]
 
 
 def parts_of(text: bytes) -> list[bytes]:
-    """The answers that stand one behind the other."""
+    """The answers that stand one after the other."""
     return [b"HTTP/1.1 " + part for part in text.split(b"HTTP/1.1 ")[1:]]
 
 
 class Undisturbed:
-    """What desks answer, and hold then, to which only some lines come."""
+    """What desks answer, and hold then, that get only some of the lines."""
 
     def __init__(self, program: str, folder: str):
         self.program, self.folder = program, folder
@@ -61,11 +62,11 @@ class Undisturbed:
 
 
 class Served:
-    """A service of two connections, to which memory is refused; what it was told and has answered."""
+    """A service of two connections to which memory is refused, with what it was sent and has answered."""
 
     def __init__(self, undisturbed: Undisturbed, of: str):
         self.undisturbed, self.of = undisturbed, of
-        # what was answered as ever, and the command at which the desk stopped
+        # the lines that were answered as ever, and the command at which the desk stopped
         self.done: tuple[str, ...] = ()
         self.stopped_at: tuple[str, ...] = ()
         self.refused = 0
@@ -73,8 +74,8 @@ class Served:
 
     def expect_answers(self, lines: list[str], text: bytes, is_single: bool) -> None:
         """Each message is answered as if those for which memory was refused had not come. Behind a command at which the desk
-        stopped all are told so. A connection that itself lacks memory ends between two answers; where a single allocation is
-        refused, before the first, since it can do without all behind that."""
+        stopped, all get the answer that it is stopped. A connection that itself lacks memory ends between two answers; where a
+        single allocation is refused, it ends before the first answer, since it can do without all allocations behind that."""
         answers = parts_of(text)
         expect(len(answers) <= len(lines), f"{self.of}: {text!r}")
         if len(answers) < len(lines):
@@ -98,7 +99,7 @@ class Served:
         expect(end == want, f"{self.of}: {end} and not {want}")
 
     def expect_rows(self, path: str) -> None:
-        """What was told is kept, and nothing else but for what the desk stopped at."""
+        """What was answered as done is kept, and nothing else but perhaps the command at which the desk stopped."""
         end = ended(self.undisturbed.program, ["run", path])
         expect(end == WELL, f"{self.of}: it opens so: {end}")
         may = [self.undisturbed.play(self.done)[1], self.undisturbed.play(self.done + self.stopped_at)[1]]
@@ -124,7 +125,7 @@ class Services:
             return opening - SPARE, self.failing.counted(lane)
 
     def serve(self, failure: Failure, lane: str) -> Served | None:
-        """Two connections, one after the other; nothing where the service does not begin."""
+        """Serves two connections, one after the other; None where the service does not begin."""
         path = os.path.join(lane, "desk.db")
         copy_desk(self.desk, path)
         served = Served(self.undisturbed, f"serve, {failure}")
@@ -149,7 +150,7 @@ class Services:
 @needs_strict_tables
 class WantOfMemory(FailingCase):
     def test_a_work_is_cut(self):
-        """The first opens its desk under each refusal, too."""
+        """Each work is cut; the first also opens its desk under each refusal."""
         for number, (work, faults) in enumerate(WORKS):
             on_copies = OnCopies(self.failing, os.path.join(self.folder, str(number)), work)
             first = on_copies.count("memory", ["run", "desk"], "") - SPARE if number else 1
@@ -170,7 +171,8 @@ class WantOfMemory(FailingCase):
         self.failing.attempt(refusals(1, count), check)
 
     def cut_each(self, before: str, words: list[str], look: Callable[[str, str, bool], None]) -> None:
-        """Runs without output on copies of a file; then what each leaves is looked at, by its path, and whether it ended well."""
+        """Runs without output on copies of a file, under each refusal. `look` gets the path that each leaves, and whether it
+        ended well."""
 
         def ended_on_copy(failure: Failure, lane: str) -> End:
             copy_desk(before, path := os.path.join(lane, "desk.db"))

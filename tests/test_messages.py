@@ -1,5 +1,5 @@
-"""Tests of the built program that serves messages: what each is answered, in pieces too, on a desk that is stopped, and where
-heads are none, bodies are cut, or either is at its limit; and a service for which no connection comes."""
+"""Tests of the built program that serves messages: what each is answered, also where it comes in pieces; what a stopped desk
+answers; heads that are none, bodies that are cut, and both at their limits; and a service to which no connection comes."""
 
 import contextlib
 import resource
@@ -175,7 +175,7 @@ ON_A_STOPPED_DESK = [
     ("PUT /v1/commands", FIRST, 404, NONE),
 ]
 
-# heads that are none, or are of no message; behind each stands the body of the first command, of 46 bytes
+# heads that are none, or are of no message; behind each stands the body of the first command, which has 46 bytes
 NO_HEADS = [
     b"POST /v1/commands HTTP/1.1\r\nContent-Length: 16385\r\n\r\n",
     b"POST /v1/commands HTTP/1.1\r\nContent-Length: 046\r\n\r\n",
@@ -228,7 +228,7 @@ NO_NUMBERS = [
     ("0", "1 "),
 ]
 
-# options of a service of many connections at once that are out of their range, or no numbers
+# options of a service of many connections at once that are no numbers, or out of their range
 NO_TOGETHER = [
     *[["--together", number] for number in NOT_TOGETHER],
     *[["--together", "1", "--clients", number] for number in NOT_CLIENTS],
@@ -244,7 +244,7 @@ def answers_of(rows):
 
 
 def expect_answers(port, stream, want, size=None):
-    """What a connection is answered that brings these bytes, so many at a time."""
+    """This is answered to a connection that brings these bytes, so many at a time."""
     pieces = [stream[at : at + size] for at in range(0, len(stream), size)] if size else [stream]
     found = answered(port, pieces)
     expect(found == want, f"{stream[:200]}: {found} and not {want}")
@@ -270,16 +270,17 @@ def head_of_bytes(count):
 
 
 def body_of(count, bracket, filling, rest):
-    """A message with a body of so many bytes: a bracket, then as many of a kind as there is room for, and then the rest."""
+    """A message with a body of so many bytes: a bracket, then as many bytes of one kind as there is room for, and then the
+    rest."""
     body = bracket + filling * (count - len(bracket + rest)) + rest
     return b"POST /v1/commands HTTP/1.1\r\nContent-Length: %d\r\n\r\n%b" % (count, body)
 
 
 class Messages(ProgramCase):
-    """Of a service with these options."""
+    """Tests of a service with these options."""
 
     options: list[str] = []
-    # the same where several commands need several commits
+    # the same, where several commands need several commits
     few = options
 
     def test_messages_are_answered_in_any_pieces(self):
@@ -289,7 +290,7 @@ class Messages(ProgramCase):
             service.expect_end()
 
     def test_a_stopped_desk_answers_so(self):
-        """On one connection, of which a command finds that the file may not grow; no other is served behind it."""
+        """On one connection, a command finds that the file may not grow; no other connection is served behind that one."""
         path = new_desk(self.program, self.folder)
         done(self.program, ["run", path], "K1 field N1 A-1 0 100000 0\n")
         delivered = "".join(f"K{n} deliver N1 A-1 1\n" for n in range(2, 400))
@@ -305,7 +306,7 @@ class Messages(ProgramCase):
         expect(0 < told < 398 and replies[:told] == [f"K{n} done {n}" for n in range(2, told + 2)], f"{told} were done")
 
     def expect_told(self, found, want, least):
-        """All is told of a stopped desk."""
+        """All answers are those of a stopped desk."""
         expect(found == want, f"{found[-2000:]}")
 
     def test_what_is_unreadable_is_answered_once(self):
@@ -314,13 +315,13 @@ class Messages(ProgramCase):
         expect_each(self.program, self.folder, self.options, streams + [(stream, answer(400, UNREADABLE)) for stream in CUT])
 
     def test_a_head_has_its_limits(self):
-        """At the limit it is answered, and so is what stands behind it; over it neither is."""
+        """At the limit a message is answered, and so is what stands behind it; over the limit neither is."""
         streams = [(head + BEHIND, answer(404, NONE) * 2) for head in [head_of_lines(32), head_of_bytes(8_192)]]
         streams += [(head + BEHIND, answer(400, UNREADABLE)) for head in [head_of_lines(33), head_of_bytes(8_193)]]
         expect_each(self.program, self.folder, self.options, streams)
 
     def test_a_connection_goes_on_behind_a_body(self):
-        """Long ones, deep ones and others that are no command."""
+        """The bodies are long, deep, or no command for another reason."""
         third = b'"command":"field N1 A-1 0 100 40","key":"K1","more":1}'
         bodies = [
             body_of(200, b"[", b"[", b""),
@@ -349,13 +350,13 @@ class Messages(ProgramCase):
 
 
 class MessagesTogether(Messages):
-    """Of one that serves many connections at once."""
+    """Tests of a service of many connections at once."""
 
     options = TOGETHER
     few = ["--together", "5"]
 
     def expect_told(self, found, want, least):
-        """The service ends some turns behind the one that stopped the desk: it is told, and perhaps more."""
+        """The service ends some turns behind the one that stopped the desk: at least that is answered, and perhaps more."""
         expect(want.startswith(found) and found.startswith(least), f"{found[-2000:]}")
 
     def test_numbers_of_those_together_have_their_range(self):
@@ -367,7 +368,7 @@ class MessagesTogether(Messages):
 
 class NoConnection(ProgramCase):
     def test_a_service_to_which_no_connection_comes(self):
-        """It may open no file more than those of the desk and the socket on which it listens."""
+        """The service may open no file more than those of the desk and the socket on which it listens."""
         path, ends = new_desk(self.program, self.folder), set()
         for limit in range(4, 9):
             with subprocess.Popen(

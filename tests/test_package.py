@@ -1,5 +1,5 @@
-"""Tests of the package, which comes, is upgraded and goes on a fresh Debian without touching a desk, of its manual page and of
-its units."""
+"""Tests of the package: it is installed, upgraded and removed on a fresh Debian without touching a desk. And tests of its manual
+page and of its units."""
 
 import asyncio
 import glob
@@ -31,7 +31,7 @@ MODULES = [os.path.basename(path) for path in glob.glob(os.path.join(DEPLOY, "st
 ROLLOVER = os.path.join(DEPLOY, "stockdesk-rollover")
 CLOCK = os.path.join(DEPLOY, "stockdesk-clock")
 UNITS = sorted(glob.glob(os.path.join(DEPLOY, "*.service")) + glob.glob(os.path.join(DEPLOY, "*.timer")))
-# a unit of a service, and below what its exposure is
+# a unit of a service, and below which number its exposure is
 EXPOSED = {"stockdesk@.service": 2.0, "stockdesk-backup@.service": 2.5, "stockdesk-check@.service": 2.5}
 EXPOSED["stockdesk-between.service"] = 2.5
 EXPOSED["stockdesk-clock@.service"] = 2.5
@@ -57,8 +57,8 @@ class Package(ProgramCase):
         cls.path = built(cls.enterClassContext(tempfile.TemporaryDirectory()))
 
     def test_the_package_is_of_the_proved_program(self):
-        """It has these bytes, and the version of the newest change; a program that is older than a source, or none, is
-        refused."""
+        """The package has the program's bytes, and the version of the newest change; a program that is older than a source, or
+        none, is refused."""
         path = self.path
         with open(os.path.join(TOP, "CHANGELOG.md"), encoding="utf-8") as file:
             version = re.search(r"^## (\S+)", file.read(), re.MULTILINE)[1]
@@ -82,13 +82,13 @@ class Package(ProgramCase):
 
     @needs("lintian")
     def test_lintian_finds_nothing(self):
-        """But what the package tells the reason of; of another program it may find less."""
+        """The package gives a reason for all else that lintian finds; about another program lintian may find less."""
         options = ["--display-info", "--pedantic", "--tag-display-limit", "0", "--suppress-tags", "unused-override"]
         told = run(["lintian", *options, self.path])
         expect((told.returncode, told.stdout) == (0, ""), f"lintian: {told.stdout}{told.stderr}")
 
     def test_the_manual_tells_each_command_and_status(self):
-        """As `--help` tells of them, and each line of standard error that the rules have."""
+        """The manual has what `--help` says about each of them, and each line of standard error that the rules have."""
         pages = os.path.join(unpacked(self.path, self.folder), "usr/share/man/man1")
         with gzip.open(os.path.join(pages, "stockdesk.1.gz"), "rt", encoding="utf-8") as file:
             page = file.read().replace("\\-", "-")
@@ -101,9 +101,10 @@ class Package(ProgramCase):
             expect(os.path.exists(os.path.join(pages, f"{tool}.1.gz")), f"no page of {tool}")
         for line in ["not a desk", "old version", "damaged", "store", "memory", "io", "usage", "record N", "csv"]:
             expect(f"stockdesk: {line}" in page, f"nothing is said of {line}")
+        expect(" where the store failed, for example " in page, "no sentence says when the status is 1")
 
     def test_the_documents_lead_to_what_is_there(self):
-        """In the package, which has no sources."""
+        """This holds in the package, which has no sources."""
         tree = unpacked(self.path, self.folder)
         documents = glob.glob(os.path.join(tree, "usr/share/doc/stockdesk/**/*.md"), recursive=True)
         links = [(document, *link) for document in documents for link in links_of(document)]
@@ -115,7 +116,7 @@ class Package(ProgramCase):
     @needs("mmdebstrap", "chroot")
     @unittest.skipIf(os.geteuid() != 0, "only root can make a Debian")
     def test_it_is_built_anywhere_to_the_same_bytes(self):
-        """In a fresh Debian with what the package says that it is built by, as another user would have it, and again."""
+        """The package is built in a fresh Debian, with what it says that it is built by, as another user, and again."""
         sources = os.path.join(self.folder, "sources")
         put_sources(sources, self.program)
         hooks = [f"copy-in {sources} /", 'chroot "$1" sh -c "cd /sources && apt-get build-dep --yes --no-install-recommends ."']
@@ -129,8 +130,8 @@ class Package(ProgramCase):
     @needs("mmdebstrap", "chroot")
     @unittest.skipIf(os.geteuid() != 0, "only root can make a Debian")
     def test_a_package_comes_and_goes(self):
-        """Installed, upgraded, removed, purged: the program runs in between, systemd is asked for what each step wants, and what
-        is a shop's is as it was: desks and copies, their owner's alone, and settings."""
+        """The package is installed, upgraded, removed and purged: in between the program runs, systemd is asked for what each
+        step wants, and what is the shop's stays as it was: desks and copies, which are their owner's alone, and settings."""
         path, root = self.path, os.path.join(self.folder, "debian")
         later = newer(path, self.folder)
         with fresh_debian(root, "--include=python3,systemd") as inside:
@@ -159,7 +160,7 @@ class Package(ProgramCase):
 
 
 def unpacked(path: str, folder: str) -> str:
-    """Where the files of a package lie."""
+    """The folder in which the files of a package lie."""
     tree = os.path.join(folder, "tree")
     run(["dpkg-deb", "--extract", path, tree], check=True)
     return tree
@@ -183,7 +184,7 @@ STOP = "stop stockdesk*.timer stockdesk@*.service stockdesk-replica@*.service"
 
 
 def put_systemctl(root: str) -> None:
-    """In a Debian that has not been started: one that tells what it is asked."""
+    """Puts in place of systemctl, in a Debian that has not been started, a program that notes what it is asked for."""
     os.makedirs(os.path.join(root, "run/systemd/system"))
     path = os.path.join(root, "usr/local/bin/systemctl")
     with open(path, "w", encoding="ascii") as file:
@@ -201,7 +202,7 @@ def expect_asked(root: str, want: list[str]) -> None:
 
 
 def fill(inside: Inside) -> None:
-    """A desk with a field, a copy and the settings, as the guide makes them."""
+    """Makes a desk with a field, a copy and the settings, as the guide does."""
     inside("install -d -o stockdesk -g stockdesk -m 0700 /var/lib/stockdesk/shop /var/backups/stockdesk/shop")
     inside(f"runuser -u stockdesk -- stockdesk init {DESK}")
     inside("echo PORT=8080 >/etc/stockdesk/shop.conf")
@@ -224,7 +225,7 @@ def kept_in(root: str) -> list[tuple[str, int, int, int]]:
 
 
 def calls_of(group: str) -> set[str]:
-    """The system calls of a group of systemd's, those of groups in it among them."""
+    """The system calls of a group of systemd's, with those of groups in it."""
     lines = run(["systemd-analyze", "syscall-filter", group]).stdout.splitlines()[1:]
     names = {line.strip() for line in lines if line.strip() and not line.strip().startswith("#")}
     return {name for name in names if name[0] != "@"}.union(*(calls_of(name) for name in names if name[0] == "@"))
@@ -241,7 +242,7 @@ def calls_in(words: str) -> set[str]:
 
 
 def allowed_calls(unit: str) -> set[str]:
-    """What the unit's filters let pass, each of which adds to those before it or, behind `~`, takes from them."""
+    """What the unit's filters let pass. Each filter adds to those before it or, behind `~`, takes from them."""
     found = {"execve"}
     for words in settings_of(unit, "SystemCallFilter"):
         found = found - calls_in(words[1:]) if words[0] == "~" else found | calls_in(words)
@@ -251,7 +252,7 @@ def allowed_calls(unit: str) -> set[str]:
 
 
 def traced(folder: str, program: str, option: str = "") -> tuple[str, str]:
-    """What runs a program under strace, and the file of the calls that it and those that it begins make."""
+    """What runs a program under strace, and the file with the calls of the program and of those that it begins."""
     wrapper, log = os.path.join(folder, "traced"), os.path.join(folder, "calls")
     with open(wrapper, "w", encoding="ascii") as file:
         file.write(f'#!/bin/sh\nexec strace {option} -f -o {log} {program} "$@"\n')
@@ -260,7 +261,7 @@ def traced(folder: str, program: str, option: str = "") -> tuple[str, str]:
 
 
 def without_log(program: str, folder: str, path: str) -> None:
-    """Makes a desk in a file beside which no log lies, as a copy that was brought back."""
+    """Makes a desk in a file beside which no log lies, as a copy is that was brought back."""
     done(program, ["init", os.path.join(folder, "copy.db")])
     told = run([RESTORE, os.path.join(folder, "copy.db"), path, "--program", program])
     expect(told.returncode == 0 and not os.path.exists(f"{path}-wal"), f"not restored without a log: {told}")
@@ -287,7 +288,7 @@ async def expect_served(machines: Machines) -> None:
 @needs("systemd-analyze")
 class Units(ProgramCase):
     def test_the_units_are_sound(self):
-        """systemd finds no fault but for programs that are not installed here."""
+        """systemd finds no fault but programs that are not installed here."""
         for unit in UNITS:
             shutil.copy(unit, self.folder)
         for unit in UNITS:
@@ -301,7 +302,7 @@ class Units(ProgramCase):
             expect(not others, f"{unit}: {others}")
 
     def test_no_unit_is_exposed(self):
-        """Each service is the user stockdesk's, and its exposure is small."""
+        """Each service runs as the user stockdesk, and its exposure is small."""
         expect({os.path.basename(unit) for unit in UNITS if unit.endswith(".service")} == set(EXPOSED), f"{UNITS}")
         for name, most in EXPOSED.items():
             path = os.path.join(DEPLOY, name)
@@ -314,7 +315,7 @@ class Units(ProgramCase):
             note(f"{name} {found[1]}")
 
     def test_a_desk_is_served_alone_or_as_one_of_several(self):
-        """The desk's settings decide: a unit that is not meant is not started, and tells why. So no desk that several machines
+        """The desk's settings decide: a unit that is not meant is not started, and says why. So no desk that several machines
         hold acknowledges what the others lack."""
         for unit, settings, is_refused in [
             ("stockdesk@.service", {"PORT": "8080"}, False),
@@ -341,7 +342,7 @@ class Units(ProgramCase):
 
     @needs("strace")
     def test_the_service_needs_no_call_that_its_unit_refuses(self):
-        """A service under strace that serves and fills a desk without a log, which it makes."""
+        """A service under strace serves and fills a desk without a log, and makes the log."""
         wrapper, log = traced(self.folder, self.program)
         path = os.path.join(self.folder, "desk.db")
         without_log(self.program, self.folder, path)
@@ -354,7 +355,7 @@ class Units(ProgramCase):
 
     @needs("strace")
     def test_the_carrier_needs_no_call_that_its_unit_refuses(self):
-        """A deal between two desks, under strace."""
+        """The carrier carries a deal between two desks, under strace."""
         with chain(self.program, self.folder) as desks:
             wrapper, log = traced(self.folder, CARRIER)
             told = run([wrapper, "900000001", *desks.urls(), "--move", "A-1", "7", "N0", "N1"])
@@ -365,7 +366,7 @@ class Units(ProgramCase):
 
     @needs("strace")
     def test_the_tools_need_no_call_that_their_units_refuse(self):
-        """The copy of a desk that is served, and the look at how full it is, under strace."""
+        """The tools copy a desk that is served, and look how full it is, under strace."""
         path = os.path.join(self.folder, "desk.db")
         done(self.program, ["init", path])
         with alone(self.program, path) as service:
@@ -380,7 +381,7 @@ class Units(ProgramCase):
 
     @needs("strace")
     def test_the_tools_that_ask_a_desk_need_no_call_that_their_units_refuse(self):
-        """The look at how full it is, and the end of what is due; both have no socket but of AF_INET."""
+        """The tools look how full a desk is, and end what is due; both use no socket but of AF_INET."""
         path = os.path.join(self.folder, "desk.db")
         done(self.program, ["init", path])
         done(self.program, ["run", path], "F1 field N1 A-1 0 100 40\nO1 open 1 1 take N1 A-1 1\n")
@@ -407,7 +408,7 @@ class Units(ProgramCase):
 
     @needs("strace", "etcd", "etcdctl", "openssl")
     def test_a_machine_of_three_needs_no_call_that_its_unit_refuses(self):
-        """A machine under strace, with its desk, whose log it makes, takes a command and shows a field."""
+        """A machine under strace, whose desk makes its log, takes a command and shows a field."""
         lacking = [name for name in ["aiohttp", "etcd3", "grpc", "uvloop"] if importlib.util.find_spec(name) is None]
         if lacking:
             self.skipTest(f"{', '.join(lacking)} of Python not here")

@@ -1,5 +1,5 @@
 """Tests of the page of the desk in Chromium, through a front that runs: what it shows against what the rules make of the
-commands, orders by forms and buttons, what each group is offered, a keyboard alone, a phone's width, and colours. They have
+commands, orders by forms and buttons, what each group is offered, a keyboard alone, a phone's width, and colours. The tests have
 branches of a letter and a digit, and orders from 8,000 on."""
 
 import glob
@@ -49,7 +49,7 @@ MOMENTS = {
     "now": {-1: False, 0: True, FOREVER - 1: True, FOREVER: False},
 }
 
-# texts and grounds, by the names of their colours, and how much they have to differ
+# texts and grounds, by the names of their colours, and by how much they have to differ
 CONTRASTS = [
     *[(text, ground, 4.5) for text in ["text", "soft", "accent"] for ground in ["card", "ground"]],
     *[(text, "card", 4.5) for text in ["done", "refused", "waiting"]],
@@ -93,7 +93,7 @@ def expect_both(page, stock, lines):
 
 
 def offered(page, part):
-    """The forms and the buttons that send something, by their names, of the whole page or a part."""
+    """The names of the forms and the buttons that send something, of the whole page or of a part."""
     script = "return [...document.querySelectorAll(arguments[0])].map(each => each.id)"
     return page.run(script, f"{part} button.sends[id], {part} form[data-begins]")
 
@@ -124,7 +124,7 @@ FILLED = [
 
 class Pages(PageCase):
     def test_the_files_are_plain(self):
-        """The page names its style and its first script, and has none itself; nothing is put in as markup, asked of another
+        """The page names its style and its first script, and has none in itself; nothing is put in as markup, asked of another
         origin, or run by an attribute."""
         texts = {}
         for path in glob.glob(os.path.join(PAGE, "*")):
@@ -151,8 +151,9 @@ class Pages(PageCase):
         expect(re.findall("<link.*", html) == ['<link rel="stylesheet" href="desk.css">'], "there is another style")
 
     def test_a_branch_is_shown(self):
-        """Its fields with the numbers and the pictures that the rules make of the commands, all of them or those that are looked
-        for; an unknown branch has none; what is typed small is a capital; and a table that is old is said to be so."""
+        """The page shows a branch's fields with the numbers and the pictures that the rules make of the commands, all of them or
+        those that are looked for. An unknown branch has none; what is typed small becomes a capital; and a table that is old is
+        said to be so."""
         tell_all(self.front, SHOWN)
         found_two = {name: SHOWN_ROWS[name] for name in ["A-1", "ABCDEFGHIJ-12345"]}
         with Page(self.front, "n1") as page:
@@ -177,8 +178,8 @@ class Pages(PageCase):
             page.wait_rows("stock", found_two)
 
     def test_an_order_by_its_form_and_its_buttons(self):
-        """Opened with two lines, used, given back, held more and committed, each by a form or a button: the tables follow, and at
-        the end nothing is offered for it."""
+        """The order is opened with two lines, used, given back, raised and committed, each by a form or a button: the tables
+        follow, and at the end nothing is offered for it."""
         tell_all(self.front, ["field O1 A 0 100 50", "field O1 B 0 100 50", "field O1 C 0 100 50"])
         stock = {name: row(0, 100, 50, 50, 50) for name in "ABC"}
         with Page(self.front, "n1") as page:
@@ -213,8 +214,8 @@ class Pages(PageCase):
             expect(page.text("#order .state") == "committed" and not page.all("#order button"), "it may still be changed")
 
     def test_orders_that_may_do_less(self):
-        """A firm order is committed, used and released alone, a transfer gets no more, an order that ended has no button at
-        all."""
+        """A firm order can only be committed, used and released, a transfer gets no more, and an order that ended has no button
+        at all."""
         tell_all(self.front, ["field O3 A 0 100 50", "field O4 A 0 100 50"])
         tell_all(self.front, [f"open 8201 {FOREVER} take O3 A 9", f"transfer 8202 {FOREVER} A O3 O4 9"])
         with Page(self.front, "ho") as page:
@@ -239,7 +240,7 @@ class Pages(PageCase):
             expect(not page.find("#order").is_displayed(), "the order before is still shown")
 
     def test_groups_are_offered_what_they_may_do(self):
-        """Forms, buttons and lines of one's own; and what is not offered is refused by the front."""
+        """The page offers forms, buttons, and one's own lines; and what is not offered, the front refuses."""
         tell_all(self.front, ["field G1 A 0 100 50", f"open 8301 {FOREVER} take G1 A 9"])
         for user, (forms, buttons) in OFFERED.items():
             with Page(self.front, user) as page:
@@ -254,7 +255,7 @@ class Pages(PageCase):
                     expect(may == (verb in VERBS[user]), f"{user} may send {verb}: {may}")
 
     def test_the_line_that_is_shown_is_sent(self):
-        """Of every form and every button, each under a key of its own."""
+        """Of every form and every button, the line goes under a key of its own."""
         self.front.tell("ho", "expire 1")
         with Page(self.front, "ho") as page:
             for form, values, line in FILLED:
@@ -280,7 +281,7 @@ class Pages(PageCase):
             expect({sent["type"] for sent in page.sent()} == {"application/json"}, "another type is sent")
 
     def test_forms_tell_what_is_there(self):
-        """Of the field that a form is on, or of both of a transfer, as soon as it is named."""
+        """The form says what is there on its field, or on both fields of a transfer, as soon as the field is named."""
         tell_all(self.front, ["field T1 A 10 100 50", "field T2 A 0 1000 50", f"open 8601 {FOREVER} take T1 A 15 add T2 A 2"])
         told = {
             "T1": "T1 A now: 25 free to promise, room for 50 more; value 50, bounds 10 to 100.",
@@ -298,7 +299,7 @@ class Pages(PageCase):
                 page.wait(lambda: want in page.texts(f"{form} .now"), f"{form} does not tell {want!r}")
 
     def test_what_inputs_take(self):
-        """Each takes what the rules allow it and nothing else; it has a label and a hint; 64 lines may be promised and no
+        """Each input takes what the rules allow and nothing else, and has a label and a hint; 64 lines may be promised, and no
         more."""
         with Page(self.front, "ho") as page:
             for name, (form, values) in INPUTS.items():
@@ -331,7 +332,8 @@ class Pages(PageCase):
             expect(page.run("return document.activeElement.id") == "add-line", "the focus is lost")
 
     def test_a_keyboard_is_enough(self):
-        """A branch is shown, an order opened and committed, with a line added and taken away, and the focus is never lost."""
+        """With the keyboard alone a branch is shown, and an order is opened and committed, with a line added and taken away; the
+        focus is never lost."""
         tell_all(self.front, ["field K1 A-1 0 100 50"])
         with Page(self.front, "n1") as page:
             page.wait(lambda: page.all("#open"), "nothing is offered")
@@ -394,7 +396,7 @@ class Pages(PageCase):
                 expect(not small, f"too small at {width}: {small}")
 
     def test_colours_differ_enough(self):
-        """Texts and shapes from their grounds, in light and in dark."""
+        """Texts and shapes differ enough from their grounds, in light and in dark."""
         script = """const shown = document.createElement('p');
         document.body.append(shown);
         const light = name => {

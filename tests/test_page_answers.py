@@ -1,5 +1,5 @@
-"""Tests of what the page tells: each refusal in plain words, what the front says itself, and answers that are lost on the way,
-after which the same command is asked for again under the same key."""
+"""Tests of what the page says: each refusal in plain words, what the front itself answers, and answers that are lost on the way,
+after which the page asks again for the same command under the same key."""
 
 import json
 
@@ -7,7 +7,7 @@ from support.browser import FOREVER, WORDS, Page, PageCase, row, tell_all, witho
 from support.forms import REFUSALS
 from support.programs import expect
 
-# the desk for the refusals, and commands that it refuses, each with the line at fault where one is told
+# the desk for the refusals, and commands that it refuses, each with the line at fault where the answer has one
 MANY = " ".join(f"take R1 C-{n} 1" for n in range(64))
 BEFORE_REFUSALS = [
     *[f"field R1 {article} 0 100 50" for article in ["A", "B", "D", *[f"C-{n}" for n in range(64)]]],
@@ -47,14 +47,15 @@ REFUSED = [
     ("BadCommand", "commit 07", ""),
 ]
 
-# what the front says itself, and the words for it; then what it says while nothing is decided
+# what the front itself answers, and the words for it; then what it answers while nothing is decided
 HELD_BACK = [(400, "could not read"), (401, "not signed in"), (403, "group may not"), (413, "too long")]
 NOTHING_YET = [(429, ""), (502, "<h1>502</h1>"), (503, '{"error":"stopped"}'), (504, ""), (200, "<h1>hello</h1>"), (500, "")]
 
 
 class PageAnswers(PageCase):
     def test_refusals_are_told_in_plain_words(self):
-        """All that a desk answers to commands, each with its line; the two that no command meets here by an answer made up."""
+        """The page says all that a desk answers to commands, each with its line; two of the answers, which no command can meet
+        here, are made up."""
         tell_all(self.front, BEFORE_REFUSALS)
         self.front.tell("ho", "expire 1")
         names = REFUSALS[1:]
@@ -79,7 +80,8 @@ class PageAnswers(PageCase):
             expect(met == set(names), f"not met: {set(names) - met}")
 
     def test_what_the_front_says_is_told(self):
-        """What it holds back is not done, unless an answer was lost before; and what decides nothing is asked again."""
+        """What the front holds back is not done, unless an answer was lost before; and where nothing is decided, the page asks
+        again."""
         tell_all(self.front, ["field H1 A 0 100 0"])
         deliver = dict(branch="H1", article="A", quantity=1)
         with Page(self.front, "w1") as page:
@@ -121,7 +123,7 @@ class PageAnswers(PageCase):
             expect(len({sent["key"] for sent in page.sent()}) == 2, "a lost one was sent under another key")
 
     def test_a_reload_asks_again(self):
-        """A command that the desk did not answer when the page is loaded again: under its key, and it is done once."""
+        """The desk has not answered a command when the page is loaded again: the page asks under its key, and it is done once."""
         tell_all(self.front, ["field L2 A 0 100 0"])
         with Page(self.front, "w1") as page:
             page.show("stock", "L2")
@@ -139,7 +141,8 @@ class PageAnswers(PageCase):
             expect("No command was sent yet" in page.text("#said"), f"after its answer it is asked again: {page.text('#said')!r}")
 
     def test_who_asks_may_stop(self):
-        """Then the command stays in view, with its key, until it is asked again or let go; no other one is sent before."""
+        """The command then stays in view, with its key, until the user asks again or lets it go; before that the page sends no
+        other one."""
         tell_all(self.front, ["field L3 A 0 100 0"])
         with Page(self.front, "w1") as page:
             with without(self.front.stop, self.front.start):

@@ -1,5 +1,5 @@
-"""Tests of the page where one front has several desks, in Chromium: the choice of a desk, an article at all of them, a command
-that stays with its desk, a keyboard alone, and widths."""
+"""Tests of the page where one front has several desks, in Chromium: the choice of a desk, an article at all desks, a command that
+stays with its desk, a keyboard alone, and widths."""
 
 import itertools
 import json
@@ -11,7 +11,7 @@ from support.chains import Chain
 from support.fronts import Front, FrontCase, Haproxy
 from support.programs import expect
 
-# on a phone all stand below each other
+# on a phone all parts stand below each other
 LONG = ["northwest1", "southeast22", "m" * 20, "w" * 12]
 
 
@@ -22,13 +22,13 @@ def done(front: Haproxy, desk: str, *commands: str) -> None:
 
 
 def chosen(page: Page) -> dict[str, bool]:
-    """The desks to choose from, and which of them the page is of."""
+    """The desks to choose from, and which of them the page is about."""
     script = "return [...document.querySelectorAll('#desks a')].map(each => [each.textContent, each.ariaCurrent === 'page'])"
     return dict(page.run(script))
 
 
 def wait_desk(page: Page, desk: str) -> None:
-    """The page of that desk has its user and a branch's stock."""
+    """Waits until the page of that desk has its user and a branch's stock."""
     page.wait(lambda: page.run("return location.pathname") == f"/{desk}/", f"it is not {desk}'s page")
     page.wait(lambda: page.text("h1") == f"Stock desk {desk}", f"it does not say {desk}")
     page.wait(lambda: page.texts("#stock-table tbody th") == ["A-1", "A-2"], "no stock is shown")
@@ -43,7 +43,8 @@ def pieces(text: str) -> str:
 @unittest.skipUnless(is_there(), "chromium, its driver or Selenium is not here")
 class PageDesks(FrontCase):
     def test_a_desk_is_chosen(self):
-        """Among those of the user; what is shown and sent is that desk's, and a front of one desk has no choice."""
+        """The user chooses among own desks; what is shown and sent is that desk's, and where a front has one desk there is no
+        choice."""
         with Chain(self.program, self.folder, users=["o2 office"], at=["o2 south"]) as front:
             with Page(front, "ho") as page:
                 wait_desk(page, "north")
@@ -77,8 +78,8 @@ class PageDesks(FrontCase):
             expect(page.text("h1") == "Stock desk", page.text("h1"))
 
     def test_an_article_at_all_desks(self):
-        """The sheet of each desk with its moment, and the sum, which is said to be one of different moments; where a desk does
-        not answer, or has none, that is said."""
+        """The page shows each desk's sheet with its moment, and the sum, about which it says that it is of different moments.
+        Where a desk does not answer, or has none, the page says so."""
         with Chain(self.program, self.folder) as front:
             done(front, "north", "field N3 BOOT 10 90 40", "open 7 60 take N3 BOOT 5")
             done(front, "south", "field S3 BOOT 0 1000 204", "field S4 BOOT 0 50 3")
@@ -106,7 +107,7 @@ class PageDesks(FrontCase):
                 page.wait(lambda: pieces(page.text("#article-sum")) == "247", page.text("#article-sum"))
 
     def test_a_deal_is_seen_and_left_alone(self):
-        """By the office, which is proposed a number below; who carries deals is offered nothing."""
+        """The office sees it, and the page proposes to the office a number below; a user who carries deals is offered nothing."""
         with Chain(self.program, self.folder) as front:
             found = front.tell("bt", f"open 900000001 {FOREVER} take N1 A-1 3", "between-900000001-open", "/north")
             expect(found[0] == 200, f"{found}")
@@ -123,8 +124,8 @@ class PageDesks(FrontCase):
                 expect(page.text("#user") == "bt, group: between" and not page.all("#commands form"), page.text("#user"))
 
     def test_a_command_stays_with_its_desk(self):
-        """One whose answer was lost is not asked for at another desk; back at its own it is asked for under its key, and is done
-        once."""
+        """The page does not ask at another desk for a command whose answer was lost; back at its own desk it asks under its key,
+        and the command is done once."""
         with Chain(self.program, self.folder) as front, Page(front, "w1") as page:
             wait_desk(page, "north")
             page.run("lose = 1000000")
@@ -141,7 +142,7 @@ class PageDesks(FrontCase):
             expect([json.loads(value)["value"] for value in values] == [507, 505], f"{values}")
 
     def test_the_keyboard_is_enough(self):
-        """To choose a desk, and to see an article at all, on a phone too; the focus is seen wherever it stops."""
+        """The keyboard chooses a desk, and shows an article at all, on a phone, too; the focus is seen wherever it stops."""
         with Chain(self.program, self.folder) as front:
             for size in [WIDE, NARROW]:
                 with Page(front, "ho", size) as page:
@@ -157,7 +158,8 @@ class PageDesks(FrontCase):
                     keys.tab_to("#add-line")
 
     def test_no_wider_than_the_page(self):
-        """With long names and numbers, on a phone and beside each other, light and dark; every control is as large as a thumb."""
+        """Names and numbers are long, on a phone and beside each other, in light and dark; every control is as large as a
+        thumb."""
         with Chain(self.program, self.folder, LONG, users=["o2 office"], at=[f"o2 {' '.join(LONG)}"]) as front:
             article = "W" * 16
             for number, desk in enumerate(LONG):

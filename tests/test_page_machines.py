@@ -1,5 +1,5 @@
-"""Tests of the page before machines that hold one desk, in Chromium through a front: it tells them how far their log had come by
-their answers, with each command; and a desk that tells of no log is told nothing."""
+"""Tests of the page before machines that hold one desk, in Chromium through a front. With each command the page says how far the
+log had come by the answers so far; where a desk says nothing about a log, the page says nothing."""
 
 import contextlib
 import http.client
@@ -17,8 +17,8 @@ FIRST = 1 << 53
 
 
 class Machine(http.server.ThreadingHTTPServer):
-    """Hands messages on to a desk, as a machine does. With each its log comes on by one, and its answers say so unless it has
-    none. For a time it may answer commands by 503."""
+    """Hands messages on to a desk, as a machine does. With each message its log comes on by one, and its answers say so unless it
+    has no log. For some time it may answer commands by 503."""
 
     daemon_threads = True
 
@@ -63,7 +63,7 @@ class Handler(http.server.BaseHTTPRequestHandler):
 
 
 def is_still(machine: Machine) -> bool:
-    """Whether nothing is asked for a moment."""
+    """Whether nobody asks for anything for a moment."""
     revision = machine.revision
     time.sleep(0.3)
     return machine.revision == revision
@@ -72,7 +72,7 @@ def is_still(machine: Machine) -> bool:
 class PageMachines(PageCase):
     @contextlib.contextmanager
     def machine(self, has_log: bool = True) -> Iterator[tuple[Machine, Haproxy]]:
-        """One before the desk of all tests, and its front."""
+        """A machine before the desk of all tests, and its front."""
         with Machine(self.front.desk_port, has_log) as machine:
             thread = threading.Thread(target=machine.serve_forever, kwargs={"poll_interval": 0.01})
             thread.start()
@@ -90,7 +90,8 @@ class PageMachines(PageCase):
         page.tell("#deliver", branch="N1", article="A-1", quantity=1)
 
     def test_the_newest_revision_is_told(self):
-        """With each command, and with each further asking; also behind a reload, and where a machine is behind another one."""
+        """The page says the newest revision with each command, and each time that it asks again; also behind a reload, and where
+        one machine is behind another."""
         with self.machine() as (machine, front), Page(front, "w1") as page:
             for _ in range(3):
                 self.deliver(page, machine)

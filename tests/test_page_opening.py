@@ -1,5 +1,5 @@
 """Tests of what the page opens with, in Chromium through a front that runs: branches, the open orders, an article at all
-branches, how full the desk is; of moments as dates and times; and of the order number that it proposes."""
+branches, how full the desk is. And tests of moments as dates and times, and of the order number that the page proposes."""
 
 import json
 import re
@@ -23,7 +23,7 @@ def chips(page: Page) -> dict[str, bool]:
 
 
 def numbers(page: Page) -> list[int]:
-    """Of the orders that are listed."""
+    """The numbers of the orders that are listed."""
     return [int(number) for number in page.texts("#orders-table tbody th")]
 
 
@@ -33,8 +33,8 @@ def proposed(page: Page, form: str = "#open") -> str:
 
 class Opening(PageCase):
     def test_it_opens_with_a_branch(self):
-        """The branches that have an article are there to choose from; the first one, or one of those that the user is held to, is
-        shown at once, and later the one that was shown last."""
+        """The branches that have an article are there to choose from. The first one, or one of those to which the user is
+        restricted, is shown at once, and later the one that was shown last."""
         with Front(self.program, self.folder, shops=["n2 7 B2 B3"]) as front:
             tell_all(front, [f"field {branch} A 0 100 {number}" for number, branch in enumerate(["B1", "B2", "B3"], 10)])
             with Page(front, "n1") as page:
@@ -54,8 +54,8 @@ class Opening(PageCase):
                 page.tell("#open", branch="B2")
 
     def test_what_is_written_stays_on_its_branch(self):
-        """A form in which something was written does not follow the branch that is shown, and an order that is looked for is not
-        written over."""
+        """A form in which something was written does not follow the branch that is shown, and an order that is looked for does
+        not overwrite it."""
         tell_all(self.front, ["field C1 A 0 100 50", "field C2 A 0 100 50"])
         with Page(self.front, "n1") as page:
             page.show("stock", "C1")
@@ -68,7 +68,7 @@ class Opening(PageCase):
             expect(page.text("#transfer code").endswith("ARTICLE C2 TO QUANTITY"), "an empty form stayed behind")
 
     def test_an_article_at_all_branches(self):
-        """By a press in a branch's stock, or by its code; and a press on a branch there shows its stock."""
+        """The article is shown by a press in a branch's stock, or by its code; and a press on a branch there shows its stock."""
         tell_all(self.front, ["field D1 ART-7 0 100 50", "field D2 ART-7 10 60 20", "field D2 OTHER 0 9 9"])
         tell_all(self.front, [f"open 7101 {FOREVER} take D1 ART-7 30 add D2 ART-7 5"])
         want = {"D1": row(0, 100, 50, 20, 50), "D2": row(10, 60, 20, 20, 25)}
@@ -86,8 +86,8 @@ class Opening(PageCase):
             page.wait(lambda: "No branch has NOWHERE." in page.text("#article caption"), "it is somewhere")
 
     def test_how_full_the_desk_is(self):
-        """In numbers and bars, and from nine tenths on in words; what is set aside for the ends of open orders counts as
-        taken."""
+        """The page says so in numbers and bars, and from nine tenths on in words; what is set aside for the ends of open orders
+        counts as taken."""
         words = "Nearly full: {} of 200,000 places are taken or set aside."
         for places, opened, fields, orders, want in [
             (179_000, 999, 8_999, 89_999, []),
@@ -111,8 +111,8 @@ class Opening(PageCase):
                 expect(all(part in told[index] for index, part in enumerate(want)), f"words: {told}")
 
     def test_no_wider_than_the_page(self):
-        """A full list with the longest codes and numbers, an article and a branch, on a phone and beside each other, light and
-        dark; and every control is large enough for a thumb."""
+        """A full list with the longest codes and numbers, an article and a branch stand on a phone and beside each other, in
+        light and dark; and every control is large enough for a thumb."""
         branches, article = ["WWWWWWWW", "MMMMMMMM"], "W" * 16
         tell_all(self.front, [f"field {branch} {article} 0 1000000000 500000000" for branch in branches])
         lines = " ".join(f"take {branch} {article} 1000000" for branch in branches)
@@ -137,7 +137,7 @@ class Opening(PageCase):
 
 class OpenOrders(PageCase):
     def test_fifty_at_a_time(self):
-        """All that are open, by their numbers, with what they hold until when; those that ended are not there."""
+        """The page lists all open orders, by their numbers, with what they hold until when; orders that ended are not there."""
         with Front(self.program, self.folder) as front:
             until = now() + 10 * DAY
             commands = [f"open {number} {until + number} take N1 A-1 3" for number in range(1, 131)]
@@ -164,7 +164,7 @@ class OpenOrders(PageCase):
                 page.wait(lambda: numbers(page) == rest[:50], f"listed: {numbers(page)}")
 
     def test_those_due_within_a_day_are_marked(self):
-        """And are listed alone: those that the clock aborts when it comes to this time tomorrow."""
+        """They are also listed alone: those that the clock aborts when it comes to this time tomorrow."""
         with Front(self.program, self.folder) as front:
             untils = {1: now() + DAY - 5, 2: now() + DAY + 60, 3: now() - 60, 4: FOREVER, 5: now() + 30, 6: now() + 60}
             tell_all(front, [f"open {number} {until} take N1 A-1 70" for number, until in untils.items()])
@@ -184,8 +184,8 @@ class OpenOrders(PageCase):
                 expect("its time is over" in page.text("#order"), "it is not marked where it is shown")
 
     def test_a_newcomer_needs_no_code_and_no_mouse(self):
-        """Somebody who knows no branch and no number finds by the keyboard alone what is promised until when, and ends an
-        order; the focus is never lost."""
+        """Somebody who knows no branch and no number finds by the keyboard alone what is promised until when, and ends an order;
+        the focus is never lost."""
         with Front(self.program, self.folder) as front:
             until = now() + 90
             tell_all(front, ["field N2 CUP 0 100 50", f"open 5 {until} take N2 CUP 30", f"open 6 {FOREVER} take N1 A-1 7"])
@@ -214,7 +214,7 @@ class OpenOrders(PageCase):
 
 class Moments(PageCase):
     def test_moments_are_dates_and_times(self):
-        """An order's end is written and shown in the browser's zone, which is named once; and one may have no end."""
+        """An order's end is written and shown in the browser's zone, which the page names once; and an order may have no end."""
         tell_all(self.front, ["field M1 A 0 100 50"])
         until = now() + 3 * DAY
         with Page(self.front, "n1") as page:
@@ -235,7 +235,8 @@ class Moments(PageCase):
             expect(len(re.findall("Asia/(?:Kolkata|Calcutta)", page.text("body"))) == 1, "the zone is not named once")
 
     def test_the_clock_is_a_moment(self):
-        """Before the first expire no moment has come; the form says where the clock stands, and which moment it is to be."""
+        """Before the first `expire` no moment has come; the form says where the clock stands, and to which moment it is to
+        move."""
         with Front(self.program, self.folder) as front, Page(front, "ho") as page:
             page.wait(
                 lambda: page.texts(".clock") == 2 * ["The desk's clock: no moment has come yet."], f"{page.texts('.clock')}"
@@ -259,8 +260,8 @@ class Numbers(PageCase):
     shops = ["n2 7", "n3 8", "n4"]
 
     def test_a_free_number_is_proposed(self):
-        """The first behind those that are used from the range's begin on, by few asks; the next one when it is used, or when
-        somebody else has taken it meanwhile."""
+        """The page proposes the first number behind those that are used, from the beginning of the range on, by few views; and
+        the next one when it is used, or when somebody else has taken it meanwhile."""
         tell_all(self.front, ["field P1 A 0 1000 500"])
         tell_all(self.front, [f"open {number} {FOREVER} take P1 A 1" for number in range(7_000_000, 7_000_090)])
         with Page(self.front, "n2") as page:
@@ -281,8 +282,8 @@ class Numbers(PageCase):
             expect(proposed(page) == "7000500", "what was written is written over")
 
     def test_where_the_range_is_used_up_or_there_is_none(self):
-        """Behind the last of the range a free one is looked for from its first on; without a range there is none, and the page
-        says so; the office has those that no shop has."""
+        """Behind the last number of the range, the page looks for a free one from the first on. Without a range there is none,
+        and the page says so. The office has the numbers that no shop has."""
         tell_all(self.front, ["field P2 A 0 1000 500", f"open 8999999 {FOREVER} take P2 A 1"])
         with Page(self.front, "n3") as page:
             page.wait(lambda: proposed(page) == "8000000", f"proposed: {proposed(page)}")

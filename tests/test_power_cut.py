@@ -1,6 +1,6 @@
 """Tests of power cuts after every system call of the making of a desk and of a session on it: the rows that the program then
-finds are those after the requests whose replies were written, or after one more. STOCKDESK_SEED and STOCKDESK_CUTS in the
-environment are for other cuts."""
+finds are those after the requests whose replies were written, or after one more. In the environment STOCKDESK_SEED and
+STOCKDESK_CUTS ask for other cuts."""
 
 import os
 

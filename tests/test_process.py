@@ -1,6 +1,6 @@
-"""Tests of the built program as a real process: what its words and its FILE may be, what its help says, a store and memory
-that are refused, scripts a line a run, long ones, files of requests, replies on a pipe that stays open, the file as another
-SQLite reads it, and sessions that are killed."""
+"""Tests of the built program as a process: what its words and its FILE may be, what its help says, a store and memory that are
+refused, scripts played line by line in runs of their own, long scripts, files of requests, replies on a pipe that stays open, the
+file as another SQLite reads it, and sessions that are killed."""
 
 import os
 import random
@@ -25,12 +25,12 @@ from support.programs import (
     write_records,
 )
 from support.service import NOT_CLIENTS, NOT_TOGETHER
-from support.tables import COLUMNS, KEYS, rows_of, sqlite3
+from support.tables import COLUMNS, KEYS, TYPES, rows_of, sqlite3
 
 ROUNDS = 50
 LINES = 1000
 
-# what stands behind the words of a file of requests and is no number of requests that are carried out together
+# what stands behind the words of a command with a file of requests, and is no number of requests to carry out together
 TOGETHER = [
     ["--together"],
     *[["--together", number] for number in [*NOT_TOGETHER, "-1"]],
@@ -38,7 +38,7 @@ TOGETHER = [
     ["--together", "1", "2"],
 ]
 
-# likewise behind those of a service
+# what stands behind the words of a service, likewise
 CLIENTS = [
     *[["--clients", number] for number in ["1", *NOT_CLIENTS]],
     *[["--together", "1", "--clients", number] for number in [*NOT_CLIENTS, "-1"]],
@@ -80,7 +80,7 @@ NO_TASK = [
     ["--version"],
 ]
 
-# of what each help tells in a line
+# what each help says, in a line
 HELP = [
     (["--help"], ["init", "run", "orders", "deliveries", "bounds", "sheet", "article", "serve", "upgrade"]),
     (["init", "--help"], ["FILE"]),
@@ -94,9 +94,6 @@ HELP = [
     (["upgrade", "--help"], ["FILE"]),
 ]
 
-# the columns of text; all others are of numbers
-TEXTS = ["branch", "article", "reqkey", "words"]
-
 TRANSFER = """T1 field N1 A-1 0 100 40
 T2 field N2 A-1 0 50 5
 T3 transfer 20 900 A-1 N1 N2 10
@@ -107,7 +104,7 @@ T6 commit 20
 D1 deliver N1 A-1 3
 """
 
-# what the rules say that each table holds after that script, the tables in the order of their making
+# what each table holds after that script, by the rules; the tables stand in the order of their making
 ROWS = {
     "desk": [(1, 2, 0, 7)],
     "field": [("N1", "A-1", 0, 100, 40, 39, 39, 39), ("N2", "A-1", 0, 50, 5, 9, 9, 9)],
@@ -135,7 +132,7 @@ class Words(ProgramCase):
         expect(os.listdir(self.folder) == [], "a file was made")
 
     def test_the_least_and_the_greatest_are_together(self):
-        """One and 1000 are taken, of which 0 and 1001 above are not."""
+        """One and 1000 are taken; 0 and 1001 are not, as tested above."""
         path, records = new_desk(self.program, self.folder), os.path.join(self.folder, "records.csv")
         done(self.program, ["run", path], "K1 field N1 A-1 0 100 40\n")
         write_records(records, [["key", "branch", "article", "qty"], ["D1", "N1", "A-1", 60], ["D2", "N1", "A-1", 1]])
@@ -153,7 +150,8 @@ class Words(ProgramCase):
 
 
 def expect_twice(program, path, words):
-    """A long file of orders, called with these words behind the desk, is carried out once, and answered alike again."""
+    """A long file of orders, called with these words behind the desk, is carried out once, and answered alike when it comes
+    again."""
     done(program, ["run", path], "".join(f"F{n} field N{n % 5} A{n // 5:02} 0 1000 500\n" for n in range(50)))
     want = [f"G{n} done {n + 51}" for n in range(2_500)]
     for _ in range(2):
@@ -166,7 +164,7 @@ def expect_twice(program, path, words):
 
 class Stores(ProgramCase):
     def test_a_store_that_fails_is_told(self):
-        """Files that may not grow so far as a new desk takes: none is a desk, and the next command says so."""
+        """Files may not grow so far as a new desk needs: none is a desk, and the next command says so."""
         for size, want in [(0, STORE), (4_096, STORE), (65_536, STORE), (1_048_576, (0, b"", b""))]:
             path = os.path.join(self.folder, f"{size}.db")
             end = ended(self.program, ["init", path], limit=(resource.RLIMIT_FSIZE, size))
@@ -175,7 +173,7 @@ class Stores(ProgramCase):
                 expect_end(self.program, ["run", path], NOT_A_DESK)
 
     def test_want_of_memory_is_told(self):
-        """With less and less memory a script is answered in full, then in part, and what ended it is told; then nothing
+        """With less and less memory a script is answered in full, then in part, and the program says what ended it; then nothing
         starts."""
         script = "\n".join(lines_of("long.script")) + "\n"
         replies = "\n".join(lines_of("long.replies")).encode() + b"\n"
@@ -186,7 +184,7 @@ class Stores(ProgramCase):
                 expect((out, errors) == (replies, b""), f"{size} bytes: {out!r}, {errors!r}")
                 whole += 1
             elif status == 1:
-                # what was done is told, in whole lines; want of memory within a commit is a fault of the store
+                # what was done is answered, in whole lines; want of memory within a commit is a fault of the store
                 expect(errors in (b"stockdesk: memory\n", b"stockdesk: store\n"), f"{size} bytes: {errors!r}")
                 expect(replies.startswith(out), f"{size} bytes: {out!r}")
                 expect(not out or out.endswith(b"\n"), f"{size} bytes: {out!r}")
@@ -214,7 +212,8 @@ class Stores(ProgramCase):
             expect(bytes_of(path) == text, f"{text} was changed")
 
     def test_a_file_of_requests_is_judged_last(self):
-        """First the words, then the desk, then the file of requests; what cannot be read changes nothing."""
+        """The program judges first its words, then the desk, then the file of requests; where a file cannot be read, nothing
+        changes."""
         path, records = os.path.join(self.folder, "desk.db"), os.path.join(self.folder, "records.csv")
         for command in ["orders", "deliveries", "bounds"]:
             expect_end(self.program, [command, path, records], NOT_A_DESK)
@@ -238,7 +237,7 @@ class Stores(ProgramCase):
         expect(bytes_of(path) == found, "the desk was changed")
 
     def test_a_long_file_of_orders_may_come_twice(self):
-        """10,000 records, as 2,500 orders of four lines, one by one and together."""
+        """10,000 records, as 2,500 orders of four lines, one by one and in batches."""
         records = os.path.join(self.folder, "orders.csv")
         rows = [["key", "order", "until", "way", "branch", "article", "qty"]]
         for n in range(10_000):
@@ -267,8 +266,8 @@ class Stores(ProgramCase):
             for table, rows in ROWS.items():
                 columns = COLUMNS[table]
                 want = [
-                    (name, "TEXT" if name in TEXTS else "INTEGER", 1, place if place <= KEYS[table] else 0)
-                    for place, name in enumerate(columns, 1)
+                    (name, "TEXT" if kind is str else "INTEGER", 1, place if place <= KEYS[table] else 0)
+                    for place, (name, kind) in enumerate(zip(columns, TYPES[table]), 1)
                 ]
                 found = database.execute(f"SELECT name, type, \"notnull\", pk FROM pragma_table_info('{table}')").fetchall()
                 expect(found == want, f"{table} has other columns: {found}")
@@ -291,7 +290,7 @@ class Stores(ProgramCase):
         expect(bytes_of(path) == found, "it was changed")
 
     def test_an_empty_script_changes_nothing(self):
-        """A run that reads nothing: no output, and the tables as `init` made them."""
+        """A run that reads nothing writes nothing, and leaves the tables as `init` made them."""
         path = new_desk(self.program, self.folder)
         expect_end(self.program, ["run", path], (0, b"", b""), text="")
         if sqlite3 is not None:
@@ -299,7 +298,8 @@ class Stores(ProgramCase):
 
 
 def killed(program, path, first, seconds):
-    """Delivers one piece after another, from that place on, until it is killed after so many seconds: how many replies came."""
+    """Delivers one piece after another, from that place on, until the program is killed after so many seconds. Returns how many
+    replies came."""
     session = Session(program, path)
     lines = "".join(f"K{place} deliver N1 A-1 1\n" for place in range(first, first + LINES))
     moment = threading.Timer(seconds, session.process.send_signal, [signal.SIGKILL])
@@ -367,7 +367,7 @@ class Sessions(ProgramCase):
             [shown] = done(self.program, ["run", path], "? field N1 A-1\n")
             found = int(shown.split()[9]) - (place - 2)
             expect(acknowledged <= found <= LINES, f"{acknowledged} acknowledged, {found} found")
-            # what is found has the first of the commands, each at its place
+            # the rows have the first of the commands, each at its place
             again = "".join(f"K{n} deliver N1 A-1 1\n" for n in range(2, place + found))
             want = [f"K{n} done {n}" for n in range(2, place + found)]
             expect(done(self.program, ["run", path], again) == want, "not the first of the commands")

@@ -19,11 +19,11 @@ from support.proxies import AUTHORITY, KEPT, ONE_EACH, PASSED, Proxy, told_caddy
 from support.service import Service
 
 CLIENTS, COMMANDS = 64, 10_000
-# of a client's commands, every so many is followed by a view
+# every so many of a client's commands are followed by a view
 VIEWS = 8
 START, MOST = 500, 1_000_000_000
 CONNECTIONS, OPTIONS = 1_000_000, ["--together", "256"]
-# what is no answer of the desk: it is asked again
+# what is no answer of the desk: the client asks again
 NO_ANSWER = [500, 502, 503, 504]
 # the seconds for which nobody listens
 DOWN = 0.3
@@ -51,12 +51,12 @@ class Desk:
         self.service.end()
 
     def replies(self, lines: list[str]) -> list[str]:
-        """What lines are answered, once nobody serves the desk."""
+        """What the desk answers to lines once nobody serves it."""
         return done(self.program, ["run", self.file], "".join(f"{line}\n" for line in lines))
 
 
 class Client:
-    """A client with a kept connection, which asks again until there is an answer."""
+    """A client with a connection that stays open; it asks again until there is an answer."""
 
     def __init__(self, port: int):
         self.connection = http.client.HTTPConnection("127.0.0.1", port, timeout=SECONDS)
@@ -85,8 +85,8 @@ class Client:
 
 
 def deliveries(client: int, found: list[Done], port: int) -> tuple[int, int]:
-    """Sends a client's deliveries, each under a key of its own, and looks at its field, which is nobody else's: the field's value
-    behind them, and how many answers were lost."""
+    """Sends a client's deliveries, each under a key of its own, and looks at its field, which is nobody else's. Returns the
+    field's value behind them, and how many answers were lost."""
     asking, generator, value = Client(port), random.Random(client), START
     for number in range(COMMANDS // CLIENTS + 1):
         quantity = generator.randint(1, 300)
@@ -103,7 +103,7 @@ def deliveries(client: int, found: list[Done], port: int) -> tuple[int, int]:
 
 def all_delivered(port: int, meanwhile: Callable[[Callable[[], int]], None]) -> tuple[list[Done], list[int], int]:
     """What was done for all clients, in the order of places, the values of their fields, and how many answers were lost, while
-    something else goes on that may look at how many were answered."""
+    something else goes on, which may see how many were answered."""
     found: list[list[Done]] = [[] for _ in range(CLIENTS)]
     with concurrent.futures.ThreadPoolExecutor(CLIENTS) as pool:
         jobs = [pool.submit(deliveries, client, found[client], port) for client in range(CLIENTS)]
@@ -127,7 +127,7 @@ class ProxyCase(ProgramCase):
 class Restarts(ProxyCase):
     def expect_once(self, name: str, site: str) -> None:
         """64 clients, the desk killed once half of their commands are answered, and started again: each command is done once, and
-        each answer is that of what was asked."""
+        each answer is the one to what was asked."""
         with self.behind(name, site) as (desk, proxy):
 
             def restart(answered: Callable[[], int]) -> None:
@@ -172,8 +172,8 @@ TELL = "POST /v1/commands"
 BODY = message("BAD", "deliver N1 A-0 7").encode()
 CHUNKED = b"%x\r\n%s\r\n0\r\n\r\n" % (len(BODY), BODY)
 WHOLE = head(TELL, f"Content-Length: {len(BODY)}") + BODY
-# what is sent, and the statuses by which it may be answered, or None where it is not; the desk closes behind what it cannot read,
-# and a proxy that is still sending tells 502
+# What is sent, and the statuses that may answer it, or None where no answer may come. The desk closes behind what it cannot read,
+# and a proxy that is still sending then answers 502.
 MESSAGES: dict[str, tuple[bytes, list[int | None]]] = {
     "the head of a view": (head("HEAD /v1/fields/N1/A-1"), [404]),
     "the head of a command": (head("HEAD /v1/commands", f"Content-Length: {len(BODY)}") + BODY, [404]),
@@ -190,8 +190,8 @@ MESSAGES: dict[str, tuple[bytes, list[int | None]]] = {
 
 
 def status_of(port: int, text: bytes, is_cut: bool = False) -> int | None:
-    """The status that is answered to what is sent, or None where the connection ends without one. What is cut ends it, and then
-    an answer without a body is none: Caddy says 200 so."""
+    """The status of the answer to what is sent, or None where the connection ends without one. Where the message is cut, the
+    connection ends, and an answer without a body counts as none: Caddy answers 200 so."""
     found = b""
     with socket.create_connection(("127.0.0.1", port), SECONDS) as connection, contextlib.suppress(ConnectionError):
         connection.sendall(text)
@@ -205,8 +205,8 @@ def status_of(port: int, text: bytes, is_cut: bool = False) -> int | None:
 
 class Messages(ProxyCase):
     def expect_nothing_done(self, name: str, site: str, of_chunks: list[int]) -> None:
-        """What is no command to the desk does nothing, and those who ask beside it and behind it have their own answers. A good
-        body in chunks is one to a proxy that puts it together: then it is done, once."""
+        """What is no command to the desk does nothing, and those who ask beside it and behind it get their own answers. A good
+        body in chunks is a command where the proxy puts it together: then it is done, once."""
         with self.behind(name, site) as (desk, proxy):
             others = {number: Client(proxy.port) for number in range(1, 5)}
             for row, (text, statuses) in MESSAGES.items():
@@ -237,7 +237,7 @@ class Messages(ProxyCase):
 
 class Documents(ProxyCase):
     def expect_users(self, name: str, site: str, authority: str) -> None:
-        """Over TLS, who has the password is answered by the desk, and nobody else."""
+        """Over TLS the desk answers whoever has the password, and nobody else."""
         with self.behind(name, site) as (_, proxy):
             context = proxy.context(authority)
 

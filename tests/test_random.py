@@ -1,5 +1,5 @@
-"""Tests of the built program by random cases: scripts, sessions and files of requests are answered by the rules. Of those that
-fail the smallest script that was found is shown; `support/chance.py` says how to try more of them, and others."""
+"""Tests of the built program by random cases: scripts, sessions and files of requests are answered by the rules. Where cases
+fail, the smallest script that was found is shown; `support/chance.py` says how to try more cases, and others."""
 
 import contextlib
 import os
@@ -24,12 +24,12 @@ if hypothesis:
     from support.sessions import DeskInAFile
 
 SCRIPTS, SESSIONS, FILES, NEARLY_FULL = 300, 25, 60, 6
-# how many places a desk has left that is nearly full
+# how many places are left on a desk that is nearly full
 LEFT = 8
 STEPS = 12
 RECORD = re.compile(rb"stockdesk: record (?:0|[1-9][0-9]*)\n")
 
-# what is counted of the scripts, so that none of it is missing
+# what is counted in the scripts, so that none of it is missing
 SHAPES = ["orders of 64 lines", "lines of odd bytes", "lines said again", "takes and adds just to a bound", "hot fields"]
 SHAPES += ["lines beyond 4,096 bytes", "asks", "firm orders that have used all", "expiries that end orders"]
 
@@ -54,13 +54,13 @@ def script_case(chance: Chance) -> Script:
 
 
 def split(text: bytes) -> list[bytes]:
-    """The lines of a script, as the program answers them: of the last bytes, where they have no end, as of an empty line."""
+    """The lines of a script, as the program answers them: where no newline ends the last bytes, an empty line stands for them."""
     *lines, rest = text.split(b"\n")
     return [*lines, b""] if rest else lines
 
 
 class Watched:
-    """A desk by the rules, and what of the rare shapes comes to it."""
+    """A desk by the rules, and which rare shapes come to it."""
 
     def __init__(self, seen: Seen):
         self.seen, self.desk = seen, Rules()
@@ -110,7 +110,7 @@ def expect_lines(found: list[str], want: list[str]) -> None:
 
 
 class RandomCase(ProgramCase):
-    """Cases that come to copies of an empty desk."""
+    """Tests whose cases come to copies of an empty desk."""
 
     def setUp(self) -> None:
         super().setUp()
@@ -127,7 +127,7 @@ class RandomCase(ProgramCase):
 @needs_sqlite
 class Scripts(RandomCase):
     def test_scripts_are_answered_by_the_rules(self):
-        """And leave the rows that the rules have, in which nothing is wrong."""
+        """The script leaves the rows that the rules have, and nothing is wrong with these."""
         self.seen = Seen(*SHAPES, *(name for name in REFUSALS if name not in ("-", "Full", "BadCommand")))
         try_cases(script_case, SCRIPTS, self.expect_answered, str)
         self.seen.expect_all()
@@ -150,7 +150,7 @@ class Scripts(RandomCase):
         note(str(self.seen))
 
     def on_a_nearly_full_desk(self, chance: Chance) -> list[bytes]:
-        """An order is open before the last places are taken, and its end comes last."""
+        """A script that opens an order before the last places are taken, and ends it at its end."""
         known = Known(chance.one_of([names_of(1, 1), names_of(2, 1)]), OPENING)
         known.desk.kept = dict(self.taken)
         for name in known.names:
@@ -174,7 +174,7 @@ class Scripts(RandomCase):
         self.seen.add("done on a full desk", sum(" done " in reply for reply in want[min(full, default=len(want)) :]))
 
     def test_what_is_done_to_a_desk_in_a_file_is_what_the_rules_say(self):
-        """Sessions that end or are killed, files of requests together, and sheets, one after the other."""
+        """Sessions that end or are killed, files of requests in batches, and sheets, one after the other."""
         seen = Seen("lines", "sheets", "kills", *(f"requests of {kind}" for kind in HEADERS))
         run_machine(lambda: DeskInAFile(self.program, self.folder, self.empty, seen), SESSIONS, STEPS)
         seen.expect_all()
@@ -185,7 +185,8 @@ class Scripts(RandomCase):
 @needs_sqlite
 class Files(RandomCase):
     def test_files_of_requests_are_answered_by_the_rules(self):
-        """Each twice, one by one or together: what is done is done once. One whose bytes are changed is answered in its form."""
+        """Each file comes twice, one by one or in batches: what is done is done once. A file whose bytes are changed gets replies
+        in their form."""
         self.seen = Seen(*HEADERS, "bad files", "requests")
         try_cases(records, FILES, self.expect_answered, str)
         self.seen.expect_all()
@@ -219,7 +220,7 @@ class Files(RandomCase):
 
 
 def expect_in_form(found: list[str], more: list[str]) -> None:
-    """These are replies, and what is done is done once."""
+    """These lines are replies, and what is done is done once."""
     expect(all(REPLY.fullmatch(reply.encode("latin-1")) for reply in found + more), f"{found}, {more}")
     pairs = zip(found, more, strict=True)
     expect(all(reply == other for reply, other in pairs if " done " in reply), f"{found} and then {more}")

@@ -1,6 +1,6 @@
-"""Tests of the built program by random damage of a desk's file: of its bytes, or those of its log, or of its rows. With other
-rows it is opened where the rules find nothing wrong with these, and answers by them; whatever is not opened stays as it was, but
-that its log may be copied into it; an upgrade leaves all rows but the version."""
+"""Tests of the built program by random damage of a desk's file: of its bytes, of the bytes of its log, or of its rows. With other
+rows it is opened where the rules find nothing wrong with these, and then answers by them. What is not opened stays as it was, but
+that its log may be copied into it. An upgrade leaves all rows but the version."""
 
 import contextlib
 import os
@@ -45,8 +45,8 @@ NOT_UPGRADED = [NOT_A_DESK, STORE]
 
 @dataclass
 class Damage:
-    """Which of the files is damaged, the bytes of it and of its log as they are then, whether it is upgraded before it is opened,
-    and what it is then asked."""
+    """Which of the files is damaged, the bytes of it and of its log after that, whether it is upgraded before it is opened, and
+    what it is then asked."""
 
     name: str
     file: bytes
@@ -61,7 +61,7 @@ class Damage:
 
 @dataclass
 class Changed:
-    """Which of the files has other rows, how they are made, whether the sums are then mended, and what it is asked."""
+    """Which of the files gets other rows, how they are made, whether the sums are then mended, and what it is asked."""
 
     name: str
     changes: list[RowChange]
@@ -90,13 +90,13 @@ def read(path: str) -> list[str] | str:
 
 
 def others_in(path: str) -> list[str] | str:
-    """The rows but for that of the desk, or how they cannot be read."""
+    """The rows but for the row of the desk, or how they cannot be read."""
     rows = read(path)
     return rows if isinstance(rows, str) else [row for row in rows if not row.startswith("desk|")]
 
 
 def end_by_rows(tables: Tables) -> End | None:
-    """How a run ends at once on a desk of these rows, by the rules; None where the desk is opened."""
+    """How a run ends at once on a desk with these rows, by the rules; None where the desk is opened."""
     versions, is_old = [row.version for row in tables["desk"]], "firm" not in tables
     if is_old or versions != [VERSION]:
         return OLD_VERSION if is_old and versions == [1] else NOT_A_DESK
@@ -151,7 +151,7 @@ class Damages(ProgramCase):
                     out.write(data)
 
     def expect_as_it_was(self, file: bytes, log: bytes) -> None:
-        """But that its log may be copied into it."""
+        """The file is as it was, but that its log may be copied into it."""
         if bytes_of(self.path) != file:
             self.put(self.copy, file, log)
             expect(log and read(self.path) == read(self.copy), "it was changed")
@@ -227,7 +227,7 @@ class Damages(ProgramCase):
         expect_good(self.path, case.name)
 
     def is_upgraded(self, case: Damage) -> bool:
-        """Whether that is done; else the file is as it was."""
+        """Whether the upgrade is done; else the file must be as it was."""
         end = ended(self.program, ["upgrade", self.path])
         self.seen.add("upgraded" if end == WELL else "not upgraded")
         if end != WELL:
@@ -236,7 +236,7 @@ class Damages(ProgramCase):
             return False
         self.put(self.copy, case.file, case.log)
         with tempfile.TemporaryDirectory(dir=self.folder) as folder:
-            # a log is copied into its file by who reads it
+            # who reads a log copies it into its file
             for name in filter(os.path.exists, [self.path, f"{self.path}-wal"]):
                 shutil.copy(name, folder)
             found = others_in(os.path.join(folder, os.path.basename(self.path)))

@@ -1,5 +1,5 @@
-"""Tests of the built program by random streams of HTTP messages, some of them changed or cut: each is answered in its form, the
-same bytes whole, in pieces, and by a service of many connections at once; and what breaks off harms nothing."""
+"""Tests of the built program by random streams of HTTP messages, some of which are changed or cut. Each is answered in its form;
+the same bytes come whole, in pieces, and to a service of many connections at once; and a stream that breaks off harms nothing."""
 
 import tempfile
 from dataclasses import dataclass
@@ -22,7 +22,7 @@ FORMS: dict[str, list[str]] = {"whole": [], "pieces": [], "rounds": TOGETHER, "b
 
 @dataclass
 class Stream:
-    """The bytes of a connection, twice in pieces, and behind how many of them it breaks off."""
+    """The bytes of a connection, twice in pieces, and after how many bytes the stream breaks off."""
 
     text: bytes
     pieces: list[list[bytes]]

@@ -1,5 +1,5 @@
-"""Tests of the built program on files of requests, each against the script that it says, and on sheets: forms that CSV may have,
-every fault that a record may have, a key that comes back, and numbers that fill their columns."""
+"""Tests of the built program on files of requests, each against the script that says the same, and on sheets: forms that CSV may
+have, every fault that a record may have, a key that comes back, and numbers that fill their columns."""
 
 import os
 import shutil
@@ -23,7 +23,7 @@ GOOD = [
         ORDERS + b"\nG1,1,9,take,N1,A-1,1\nG2,2,9,take,N1,A-1,2\nG1,1,9,take,N1,A-1,3\n",
         "G1 open 1 9 take N1 A-1 1\nG2 open 2 9 take N1 A-1 2\nG1 open 1 9 take N1 A-1 3\n",
     ),
-    # two lines on one field are the ledger's to refuse
+    # two order lines on one field, which the ledger refuses
     (ORDERS + b"\nG1,1,9,take,N1,A-1,1\nG1,1,9,take,N1,A-1,1\n", "G1 open 1 9 take N1 A-1 1 take N1 A-1 1\n"),
     (DELIVERIES, ""),
     (DELIVERIES + b"\nD1,N1,A-1,10\nD2,N1,A-1,51\n", "D1 deliver N1 A-1 10\nD2 deliver N1 A-1 51\n"),
@@ -39,7 +39,7 @@ GOOD = [
     (b"\n\r\n" + DELIVERIES + b"\n\n\nD1,N1,A-1,10\n\n", "D1 deliver N1 A-1 10\n"),
     # a lone CR ends a record
     (DELIVERIES + b"\rD1,N1,A-1,10\r", "D1 deliver N1 A-1 10\n"),
-    # a quote that is open at the end, and text behind a closing one
+    # a quote that is open at the end, and text behind a closing quote
     (DELIVERIES + b'\n"D"1,N1,A-1,"10', "D1 deliver N1 A-1 10\n"),
     (BOUNDS, ""),
     (
@@ -50,7 +50,7 @@ GOOD = [
     (ORDERS + b"\n" + b"G1,1,9,take,N1,A-1,1\n" * 64, "G1 open 1 9" + " take N1 A-1 1" * 64 + "\n"),
 ]
 
-# order files whose header is none, and delivery files
+# order files without a good header, and delivery files
 BAD_HEADERS = (
     [b"", DELIVERIES + b"\n", b"\xef\xbb\xbf" + b"\xef\xbb\xbf" + ORDERS + b"\n"],
     [
@@ -71,7 +71,7 @@ BAD_ORDERS = [
     (b"G1,50,500,take,N1,A-1,5\nG1,50,501,add,N1,B-2,1\n", 2),
     (b"G1,50,500,take,N1,A-1,5\nG1,51,500,add,N1,B-2,1\n", 2),
     (b"G1,50,500,give,N1,A-1,5\n", 1),
-    # a field too few, and one too many
+    # a value too few, and one too many
     (b"G1,50,500,take,N1,A-1,5,x\n", 1),
     (b"G1,50,500,take,N1,A-1\n", 1),
     (b"G1,50,500,take,N1,A-1,5\nG2,51,500,take,N1,A-1\n", 2),
@@ -109,7 +109,7 @@ BAD_BOUNDS = [
     (b"B1,N1,A\xff,5,40\n", 1),
 ]
 
-# order files in which the first key comes back: it is taken where the first was done
+# order files in which the first key comes back: the command is taken as that which was done first
 REUSED = [
     (
         b"\nG1,50,500,take,N1,A-1,5\nG2,51,500,take,N1,A-1,5\nG1,52,500,take,N1,A-1,5\n",
@@ -121,7 +121,7 @@ REUSED = [
     ),
 ]
 
-# three fields, one of them with open orders on it, and one whose numbers fill their columns
+# three fields: one with open orders on it, and one whose numbers fill their columns
 WIDE = """K1 field N2 A-1 0 1000000000 1000000000
 K2 field N1 A-1 3 90 40
 K3 field N1 ABCDEFGHIJKLMNOP 1000000000 1000000000 1000000000
@@ -160,7 +160,7 @@ class Desk:
         return shutil.copyfile(self.path, os.path.join(self.folder, name))
 
     def ended(self, path, file):
-        """How the program ends with a file of requests of these bytes."""
+        """How the program ends with a file of requests that has these bytes."""
         with open(self.file, "wb") as records:
             records.write(file)
         command = "orders" if b"until" in file else "bounds" if BOUNDS in file else "deliveries"
@@ -176,7 +176,7 @@ def expect_fault(desk, command, file, number):
 
 class Records(ProgramCase):
     def test_files_say_their_requests(self):
-        """The replies to a file, and the rows behind it, are those of its requests as a script."""
+        """The replies to a file, and the rows behind it, are those of a script with its requests."""
         desk = Desk(self.program, self.folder)
         for file, script in GOOD:
             asked, played = desk.copy("asked.db"), desk.copy("played.db")

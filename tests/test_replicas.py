@@ -1,8 +1,8 @@
-"""Tests of a desk on three machines: processes of each are killed and stand still, ways are cut, disks are full or lost, while
-clients ask; then all machines have the same rows, and each answer is one that the rules give, in an order that time allows.
-REPLICAS_FAULTS in the environment says how many faults there are at the least, in as many lives of new machines as that takes,
-REPLICAS_SEED which: `REPLICAS_FAULTS=1000 ./check tests replicas.Replicas` has 1,000. REPLICAS_KEEP names a folder for what the
-processes of a life wrote in which a fault was found."""
+"""Tests of a desk on three machines. Processes are killed and stand still, ways are cut, disks are full or lost, while clients
+ask; then all machines have the same rows, and each answer is one that the rules give, in an order that time allows. In the
+environment REPLICAS_FAULTS says how many faults there are at the least, in as many lives of new machines as that takes, and
+REPLICAS_SEED which faults: `REPLICAS_FAULTS=1000 ./check tests replicas.Replicas` has 1,000. REPLICAS_KEEP names a folder; in it
+stays what the processes wrote in a life in which a fault was found."""
 
 import asyncio
 import itertools
@@ -27,9 +27,9 @@ SEED = int(os.environ.get("REPLICAS_SEED", "1986"))
 CLIENTS, PAUSE = 12, 0.12
 # a mark stands behind so many lines, so there are many
 MARK_LINES = 300
-# etcd lays so much ahead for its log twice
+# etcd reserves so many bytes for its log, twice
 DISK = 256 << 20
-# faults at the least, and behind how many seconds all clients have their answers
+# how many faults there are at the least, and after how many seconds all clients have their answers
 FAULTS, LAST_SECONDS = 60, 120
 # each life has all kinds of faults once, twice or three times
 MOST_TURNS = 3
@@ -69,7 +69,7 @@ async def lived(machines: Machines, history: History, small: str | None, life: i
     await asyncio.wait_for(asyncio.gather(*lives), LAST_SECONDS)
     await faults.settle()
     for place in places:
-        # behind a view each machine has carried all out
+        # once a machine has shown a view, it has carried out all of the log
         await asked(place, "/v1/desk", seconds=LAST_SECONDS)
     for wire in [each for client in clients for each in client.wires]:
         wire.close()
@@ -91,7 +91,7 @@ class Replicas(ProgramCase):
             note(f"{found.total():,} in all: {', '.join(f'{count} {what}' for what, count in sorted(found.items()))}")
 
     def live(self, life: int) -> Counter[str]:
-        """New machines, and what befalls them: how many faults of each kind."""
+        """New machines, and what happens to them. Returns how many faults of each kind there were."""
         history, began, folder = History(), time.monotonic(), os.path.join(self.folder, str(life))
         os.mkdir(folder)
         with small_disk(folder, DISK) as small:
@@ -123,7 +123,7 @@ class Replicas(ProgramCase):
 
 
 def keep_logs(machines: Machines) -> None:
-    """What the processes wrote, for whoever looks for a fault."""
+    """Keeps what the processes wrote, for whoever looks for a fault."""
     if folder := os.environ.get("REPLICAS_KEEP"):
         for name in os.listdir(machines.root):
             if name.endswith(".log"):

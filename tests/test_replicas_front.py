@@ -1,4 +1,4 @@
-"""Tests of the front before one of several machines: what it passes of what a client knows of the log, and what comes back."""
+"""Tests of the front before one of several machines: what it passes on of what a client knows of the log, and what comes back."""
 
 import http.server
 import threading
@@ -8,7 +8,7 @@ from support.programs import expect
 
 LATE = b'{"error":"late"}'
 
-# what clients send as Asked-After, and what of it the machine gets
+# what clients send as Asked-After, and how much of that the machine gets
 SENT = [
     (["0"], ["0"]),
     (["7"], ["7"]),
@@ -23,7 +23,7 @@ SENT = [
 
 
 class Machine(http.server.BaseHTTPRequestHandler):
-    """Answers that a command is late, and notes what it was sent."""
+    """Answers that a command is late, and notes what it got."""
 
     heads: list[dict[str, list[str]]] = []
     protocol_version = "HTTP/1.1"
@@ -56,7 +56,7 @@ class ReplicasFront(FrontCase):
             expect(set(head) <= {"content-length", "host", "asked-after"}, f"{sent}: {head}")
 
     def expect_passed(self, front: Haproxy, sent: list[str]) -> None:
-        """The answer and what it says of the log come back."""
+        """The answer comes back, with what it says about the log."""
         connection = front.connect()
         body = message("K1", "expire 0")
         connection.putrequest("POST", "/v1/commands")

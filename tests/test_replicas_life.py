@@ -1,5 +1,5 @@
-"""Tests of a desk's life on three machines: it comes from one, its log is ended, it is rolled over and goes on in another log;
-desks that are another log's or go astray; a client that knows several machines; bad messages."""
+"""Tests of a desk's life on three machines: it comes from one machine, its log is ended, it is rolled over and goes on in another
+log; desks of another log, or which go astray; a client that knows several machines; bad messages."""
 
 import asyncio
 import hashlib
@@ -10,14 +10,16 @@ import signal
 import subprocess
 import sys
 import unittest
+from asyncio.subprocess import PIPE
 from collections.abc import Awaitable, Callable
 from importlib.util import find_spec
 
 from support import DEPLOY, TOP
 from support.cases import ProgramCase, needs, needs_sqlite
+from support.copies import alone
 from support.programs import done, expect, new_desk
 from support.replica_clients import NO_ANSWER, Known, Wire, asked, commanded, wait_until_well
-from support.replica_network import MACHINES
+from support.replica_network import MACHINES, Failed, run
 from support.replica_wrong import changed_tools
 from support.replicas import PORT, UP_SECONDS, Machines
 from support.tables import rows_of
@@ -27,8 +29,10 @@ CLIENT = os.path.join(TOP, "examples", "client.py")
 LACKING = [name for name in ["aiohttp", "etcd3", "grpc", "uvloop"] if find_spec(name) is None]
 OLD = "F field N1 A-1 0 100 40\nO open 7 60 take N1 A-1 30\nW writeoff N1 A-1 10\nU use 7 N1 A-1 5\n"
 ENDED = (503, '{"error":"ended"}')
-# how long an end is waited for, in seconds
-SECONDS = 60
+# how many seconds the tests wait for an end, and for one that has to come at once
+SECONDS, AT_ONCE_SECONDS = 60, 20
+# how long a machine is seen to wait
+WAITING_SECONDS = 3
 
 
 async def told(machines: Machines, machine: int, key: str, command: str) -> tuple[int, dict]:
@@ -93,6 +97,27 @@ async def expect_refused_desk(machines: Machines, make: Callable[[], None], want
     machines.start("replica", 3)
 
 
+async def expect_not_begun(machines: Machines, want: str) -> None:
+    """The first machine's desk begins no log, and the tool says so at once; the entries of the log stay."""
+    before = machines.etcdctl(1, "get", f"{machines.log}/log")
+    try:
+        await asyncio.wait_for(machines.begin_log(), AT_ONCE_SECONDS)
+    except Failed as failed:
+        expect(want in str(failed), f"{failed}")
+    else:
+        raise AssertionError(f"{machines.log} has begun")
+    expect(machines.etcdctl(1, "get", f"{machines.log}/log") == before, f"{machines.log} has a new entry")
+
+
+async def expect_misnamed(machines: Machines, name: str, *more: str) -> None:
+    """The first machine ends where it is called so, with the status behind which its unit stays down, and says why."""
+    words = [name if word == "m1" else word for word in machines.words("replica", 1)]
+    process = await asyncio.create_subprocess_exec(*machines.network.inside(1), *words, *more, stderr=PIPE)
+    said = (await asyncio.wait_for(process.communicate(), AT_ONCE_SECONDS))[1].decode()
+    expect(process.returncode == 2 and "MACHINE" in said, f"{name}: {process.returncode}, {said}")
+    expect("/" in name or f"MACHINE is {name!r}" in said and "'m1'" in said, f"{name}: {said}")
+
+
 @needs("etcd", "etcdctl", "openssl")
 @needs_sqlite
 @unittest.skipIf(LACKING, f"{', '.join(LACKING)} of Python not here")
@@ -119,7 +144,7 @@ class ReplicasLife(ProgramCase):
         return path
 
     def test_a_desk_comes_from_one_machine_and_is_rolled_over(self):
-        """Answers follow from the rules: 40 pieces, of which 10 are written off and 30 held."""
+        """The answers follow from the rules: 40 pieces, of which 10 are written off and 30 held."""
         file = self.old_desk()
 
         async def live(machines: Machines) -> None:
@@ -129,7 +154,7 @@ class ReplicasLife(ProgramCase):
             expect([body.get("place") for _, body in answers] == [3, 5, None], f"{answers}")
             expect((await shown(machines, 2, "/v1/keys/D"))[1] == '{"command":"deliver N1 A-1 5","place":5}', "not kept so")
             await expect_refused_desk(machines, lambda: self.put_other(machines, OLD + "Y deliver N1 A-1 6\n"), "another log's")
-            # one that has nothing is none with which the log began
+            # a desk that has nothing is not the one with which the log began
             await expect_refused_desk(machines, lambda: machines.make_desk(3), "begins with 4 places")
             await well(machines)
             await self.end(machines)
@@ -157,7 +182,7 @@ class ReplicasLife(ProgramCase):
         ]
         expect(answers == [ENDED] * 3, f"{answers}")
         await machines.try_until(lambda: machines.compact() > 0 and len(machines.marks(1)) >= 4)
-        # one that starts behind the end knows it, too
+        # a machine that starts behind the end knows of it, too
         await machines.stop("replica", 2)
         machines.start("replica", 2)
         while (answer := await answer_of_any(machines, 2)) is None:
@@ -170,7 +195,7 @@ class ReplicasLife(ProgramCase):
         expect(found[0] == found[1] == found[2], "other rows at the end")
 
     def test_a_log_begins_with_an_empty_desk(self):
-        """Each machine starts on it, and again behind its mark, at which a desk with nothing stood."""
+        """Each machine starts on an empty desk, and again behind its mark, at which a desk with nothing stood."""
 
         async def live(machines: Machines) -> None:
             await machines.begin_log()
@@ -207,6 +232,43 @@ class ReplicasLife(ProgramCase):
             digest = hashlib.sha256(digest + line.encode()).digest()
         expect(found.count(f"{len(lines)} {digest.hex()}") == len(MACHINES), f"{found}")
 
+    def test_a_log_does_not_begin_with_a_desk_in_use(self):
+        """A machine that serves the desk keeps its log from beginning anew; so does the program alone."""
+
+        async def live(machines: Machines) -> None:
+            machines.start("replica", 1)
+            await well(machines, 1)
+            await expect_not_begun(machines, "is in use")
+            await machines.stop("replica", 1)
+            # the desk ends a moment later
+            await asyncio.to_thread(run, "flock", f"{machines.desk(1)}.lock", "true")
+            with alone(self.program, machines.desk(1)):
+                await expect_not_begun(machines, "is in use")
+            machines.log = "desk/2"
+            await machines.begin_log()
+            await expect_not_begun(machines, "has begun")
+
+        self.run_machines(live)
+
+    def test_a_machine_has_the_name_of_its_member_of_etcd(self):
+        """A machine with another name serves nothing and begins no log; one that cannot ask etcd waits."""
+
+        async def live(machines: Machines) -> None:
+            for name in ["M1", "m2", "m9", "", "m/1"]:
+                await expect_misnamed(machines, name)
+            await expect_misnamed(machines, "m2", "--begin")
+            expect(machines.etcdctl(1, "get", "desk/1/log") == "", "the log has begun")
+            for machine in MACHINES:
+                await machines.stop("etcd", machine)
+            machines.start("replica", 1)
+            await asyncio.sleep(WAITING_SECONDS)
+            expect(machines.processes["replica", 1].poll() is None, f"{machines.said('replica', 1)}")
+            for machine in MACHINES:
+                machines.start("etcd", machine)
+            await well(machines, 1)
+
+        self.run_machines(live)
+
     def test_a_desk_that_goes_astray_is_ended(self):
         """A machine whose program leaves out a command differs at the next mark, and ends with status 4; the others go on."""
         right = "            if not self.walk.passes_over(line):"
@@ -231,7 +293,7 @@ class ReplicasLife(ProgramCase):
         self.run_machines(live)
 
     def test_the_example_knows_several_machines(self):
-        """A list of commands goes on at the next machine while one is gone, and each command is done once."""
+        """The client goes on with its list at the next machine while one is gone, and each command is done once."""
         with open(os.path.join(self.folder, "commands"), "w", encoding="ascii") as file:
             file.write("field N1 A-1 0 1000 0\n" + "deliver N1 A-1 1\n" * 40)
 

@@ -1,5 +1,5 @@
-"""Tests of the code of machines that hold one desk, over models: random steps of three of them, and random logs along which one
-goes on wherever it was stopped. Wrong programs are found by both."""
+"""Tests of the code of machines that hold one desk, over models: random steps of three machines, and random logs along which one
+machine goes on wherever it was stopped. Both find wrong programs."""
 
 import os
 import unittest
@@ -31,6 +31,38 @@ class ReplicasSteps(ProgramCase):
         from support.replica_walks import first_wrong
 
         expect(not (wrong := first_wrong(LOGS)), wrong)
+
+    def test_marks_of_another_log_are_told(self):
+        """A machine says so where another one told marks at which its own log has none; not where that one only is behind."""
+        from support.replica_walks import said_of_marks
+
+        for others, own, want in [
+            ([], [], None),
+            ([5], [], None),
+            ([5, 9], [], None),
+            ([5, 9, 12], [], None),
+            ([5, 12], [5, 9, 12], None),
+            ([4, 5, 9], [], 5),
+            ([5, 7], [], 9),
+            ([5, 7, 9], [5, 9, 12], 9),
+            ([5, 12], [], 9),
+        ]:
+            said = said_of_marks(others, own)
+            expect(f"not compared up to revision {want}" in said if want else not said, f"{others}: {said}")
+            expect(said.count("not compared") == (1 if want else 0), f"{others}: {said}")
+
+    def test_what_is_no_entry_is_told(self):
+        """A machine passes over a word that the log does not have, and says so; the mark behind it counts."""
+        from support.replica_walks import Entry, WrittenLog, said_on_the_way
+
+        values = [b"mark", b"mark xyz", b"End", b"mark 0" + b"0" * 99 + b"x", b"mark 007", b"mark 0"]
+        log = WrittenLog([Entry(revision, value) for revision, value in enumerate(values, 2)])
+        said = said_on_the_way(log).splitlines()
+        expect(len(said) == 4, f"{said}")
+        for revision, line in enumerate(said, 2):
+            text = f"passes over revision {revision}, which is no entry of the log: {values[revision - 2][:60]!r}"
+            expect(line.endswith(text), f"{line}")
+        expect({mark.revision for mark in log.told} == {6}, f"{log.told}")
 
     def test_wrong_programs_are_found(self):
         for number, name in enumerate(WRONG):

@@ -1,5 +1,5 @@
-"""Tests of the tool that makes a desk of a copy: what it makes, what it leaves alone and refuses, and what is left of it where it
-is killed."""
+"""Tests of the tool that makes a desk of a copy: what it makes, what it leaves alone and refuses, and what is left where it is
+killed."""
 
 import contextlib
 import os
@@ -33,8 +33,8 @@ def copy_of_a_desk(program: str, folder: str) -> tuple[str, str]:
 class Restores(ProgramCase):
     @needs_sqlite
     def test_a_restored_desk_goes_on(self):
-        """It has the rows of the copy, which stays as it was, and with the commands behind it those of the desk. So it is of a
-        desk that no program has open, with its log."""
+        """The restored desk has the rows of the copy, which stays as it was, and behind the same commands the rows of the desk.
+        The same holds for a desk, with its log, that no program has open."""
         path, copy = copy_of_a_desk(self.program, self.folder)
         found, rows = bytes_of(copy), rows_of(copy)
         restored = os.path.join(self.folder, "restored.db")
@@ -56,7 +56,7 @@ class Restores(ProgramCase):
         expect("kept|K6|13|deliver N1 A-1 1" in rows_of(again), "the log was left out")
 
     def test_nothing_is_restored_over_what_is_there(self):
-        """A desk, its log alone, what else an SQLite leaves, a link to nothing, a folder."""
+        """There is a desk, its log alone, what else an SQLite leaves, a link to nothing, or a folder."""
         _, copy = copy_of_a_desk(self.program, self.folder)
         path = os.path.join(self.folder, "there", "desk.db")
         for name in ["desk.db", "desk.db-wal", "desk.db-shm", "desk.db-journal"]:
@@ -74,7 +74,7 @@ class Restores(ProgramCase):
         expect(os.listdir(os.path.dirname(path)) == ["desk.db"], "something is left over")
 
     def test_one_of_two_restores_is_refused(self):
-        """Both onto one name at once, ten times: one is done, the other is told of what is there."""
+        """Both restore to one name at once, ten times: one succeeds, the other says what is there."""
         _, copy = copy_of_a_desk(self.program, self.folder)
         with ThreadPoolExecutor(2) as pool:
             for number in range(10):
@@ -86,7 +86,7 @@ class Restores(ProgramCase):
 
     @needs_sqlite
     def test_a_copy_that_is_no_good_desk_is_refused(self):
-        """One of version 1, one with other rows, one with other bytes, a part of one, none."""
+        """The copy is of version 1, has other rows or other bytes, is a part of one, or is not there."""
         _, copy = copy_of_a_desk(self.program, self.folder)
         whole = bytes_of(copy)
         spoiled = os.path.join(self.folder, "spoiled.db")
@@ -114,7 +114,8 @@ class Restores(ProgramCase):
         expect_refused(restore_words(self.program, copy, os.path.join(self.folder, "none", "desk.db")), "none is not there")
 
     def test_a_killed_restore_leaves_all_or_nothing(self):
-        """Killed at any moment, forty times: the file is not there or whole, and the next one removes what was left."""
+        """The tool is killed at any moment, forty times: the file is not there or whole, and the next run removes what was
+        left."""
         _, copy = copy_of_a_desk(self.program, self.folder)
         whole, path = bytes_of(copy), os.path.join(self.folder, "new", "desk.db")
         generator = random.Random(1986)

@@ -70,7 +70,7 @@ CHANGES = [
     "UPDATE desk SET places = places + 1; INSERT INTO kept VALUES ('K', (SELECT places FROM desk), 'expire 10')",
 ]
 
-# rows that no commands lead to, which no new desk can have, and what is told of them
+# rows to which no commands lead, which no new desk can have, and what the tool says about them
 HINDERED = [
     (["desk,1,2,120,0", *OPEN_ORDER], "order 7 is open and its moment has come: `expire 120`"),
     (["desk,1,2,0,0", OPEN_ORDER[0], "orders,7,0,0,0", *OPEN_ORDER[2:], "firm,7"], "order 7 is open until 0"),
@@ -103,7 +103,7 @@ NO_WORDS = [
 
 
 def instead(program, folder, text):
-    """A program that is called instead, as a shell script in which `program` is the real one."""
+    """A program that is called instead of the real one: a shell script in which `program` is the real one."""
     path = os.path.join(folder, "instead")
     with open(path, "w", encoding="utf-8") as file:
         file.write(f"#!/bin/sh\nprogram() {{ '{program}' \"$@\"; }}\n{text}")
@@ -120,7 +120,7 @@ def late_in(desk):
 class RollOvers(ProgramCase):
     @needs_hypothesis
     def test_random_desks_are_rolled_over(self):
-        """Equal in every number, the log of the old one in its file or beside it, and of the same future."""
+        """The new desk is equal in every number, and has the same future; the old one's log is in its file or beside it."""
         self.seen, self.empty = Seen("desks"), new_desk(self.program, self.folder, "empty.db")
         try_cases(old_desk, DESKS, self.expect_rolled_over, str)
         self.seen.expect_all()
@@ -140,7 +140,7 @@ class RollOvers(ProgramCase):
             expect_same_future(self.program, here, read, new, case.future)
 
     def test_single_ledgers_are_rolled_over(self):
-        """A good ledger, and each of its changes that leave it good."""
+        """The ledgers are a good one, and each of its changes that leave it good."""
         desks = Desks(self.program, self.folder)
         new, read = os.path.join(self.folder, "rolled.db"), os.path.join(self.folder, "read.db")
         for change in [(), *STILL_GOOD]:
@@ -154,8 +154,8 @@ class RollOvers(ProgramCase):
             os.remove(new)
 
     def test_the_longest_commands_are_taken(self):
-        """64 lines with the longest codes and numbers, each above a million, all of it used; then a firm order that has used
-        all."""
+        """The orders have 64 lines with the longest codes and numbers, each above a million, all of it used; then a firm order
+        has used all."""
         names = [f"BRANCH{n:02} ARTICLE-{n:08}" for n in range(64)]
         commands = [f"field {name} 1000000000 1000000000 1000000000" for name in names]
         commands += [f"rebound {name} 0 1000000000" for name in names]
@@ -171,7 +171,8 @@ class RollOvers(ProgramCase):
         expect_same_future(self.program, self.folder, read, new, 0)
 
     def test_a_full_desk_is_rolled_over(self):
-        """199,000 places taken or set aside, 10,000 fields without room, 90,000 orders; the new one has the room that ended."""
+        """199,000 places are taken or set aside; there are 10,000 fields without room, and 90,000 orders. The new desk has the
+        room of the orders that ended."""
         desks, new = Desks(self.program, self.folder), os.path.join(self.folder, "rolled.db")
         desks.put(full_rows())
         read = shutil.copyfile(desks.path, os.path.join(self.folder, "read.db"))
@@ -186,7 +187,7 @@ class RollOvers(ProgramCase):
         note(f"{places} commands in {took:.0f} s")
 
     def test_what_does_not_fit_is_told_before_anything_is_done(self):
-        """Where a place is wanting, or an order cannot be opened; with just enough places the program is asked for a new desk."""
+        """A place is missing, or an order cannot be opened; with just enough places the program is asked for a new desk."""
         desks, new = Desks(self.program, self.folder), os.path.join(self.folder, "rolled.db")
         only = instead(self.program, self.folder, 'case "$1 $2" in "run old.db") program "$@" ;; *) exit 9 ;; esac\n')
         long = [long_rows(uses) for uses in (71_996, 71_997, 128_000)]
@@ -200,7 +201,7 @@ class RollOvers(ProgramCase):
 
 
 def started(program, words):
-    """The tool in a group of its own."""
+    """The tool, in a process group of its own."""
     pipe = subprocess.PIPE
     return subprocess.Popen([TOOL, "--program", program, *words], stdout=pipe, stderr=pipe, start_new_session=True)
 
@@ -213,14 +214,14 @@ def end_group(process):
 
 
 def wait_for(pattern):
-    """Until a file of such a name is there, and not a moment longer."""
+    """Waits until a file with such a name is there, and not a moment longer."""
     end = time.monotonic() + SECONDS
     while not glob.glob(pattern) and time.monotonic() < end:
         time.sleep(0.0001)
 
 
 def longer(program, folder):
-    """A desk whose roll-over takes a while, a closed copy of it, and how many seconds it takes."""
+    """A desk whose roll-over takes a while, a closed copy of it, and how many seconds the roll-over takes."""
     fields = [f"F{n} field N{n % 2} A-{n // 2} 0 1000 500\n" for n in range(200)]
     orders = [f"O{n} open {n + 1} 60 take N0 A-{n % 100} 1 add N1 A-{n % 100} 2\n" for n in range(400)]
     old, new = desk_of(program, folder, "".join(fields + orders))
@@ -265,7 +266,7 @@ class Stops(ProgramCase):
         note(f"{KILLS} killed: {whole} left a new desk, {KILLS - whole} none")
 
     def test_a_stopped_roll_over_leaves_nothing_behind(self):
-        """By the signals that ask for an end: the folder beside the new desk is gone, too."""
+        """Signals that ask for an end stop the tool: the folder beside the new desk is gone, too."""
         stopped = 0
         old, new, _, took = longer(self.program, self.folder)
         for number in range(STOPS):
@@ -284,8 +285,8 @@ class Stops(ProgramCase):
         expect(stopped > 0, "none was stopped in time")
 
     def test_each_difference_is_found(self):
-        """Each number and name of a new desk counts; rows that are not good are damaged; a command that is not answered is
-        told."""
+        """Each number and name of a new desk counts; rows that are not good are damaged; where a command is not answered, the
+        tool says so."""
         old, new = desk_of(self.program, self.folder)
         for change in CHANGES:
             expect_refused(altered(self.program, self.folder, change), [old, new], "does not stand where the old one stands: ")
@@ -303,8 +304,8 @@ class Stops(ProgramCase):
 @needs_strict_tables
 class Refusals(ProgramCase):
     def test_a_desk_with_an_open_deal_is_refused(self):
-        """The first is named, the others are counted; the order before the first deal's number hinders nothing, nor does a deal
-        that has ended, of which a word is said."""
+        """The tool names the first deal and counts the others. The order before the first deal's number hinders nothing, nor does
+        a deal that has ended, about which the tool says a word."""
         expect(DEALS == LEAST, "deals have other numbers")
         script = "K1 field N1 A-1 0 100 40\nK2 open 899999999 60 take N1 A-1 1\n"
         script += "".join(f"D{n} open {900_000_000 + n} 4000000000 take N1 A-1 1\n" for n in (0, 1, 99_999_999))
@@ -318,7 +319,7 @@ class Refusals(ProgramCase):
         expect(asked(new, "SELECT number FROM orders") == [(899_999_999,)], "other orders")
 
     def test_the_old_desk_is_kept_shut(self):
-        """While it is read no program can open it; behind that it is as before."""
+        """While the old desk is read, no program can open it; after that it is as before."""
         old, new = desk_of(self.program, self.folder)
         told = os.path.join(self.folder, "told")
         text = f'[ "$1" = init ] && program run "{old}" 2>"{told}" </dev/null\nprogram "$@"\n'
@@ -327,7 +328,7 @@ class Refusals(ProgramCase):
         expect(done(self.program, ["run", old], "K9 deliver N1 A-1 1\n") == ["K9 done 9"], "it does not go on")
 
     def test_a_desk_in_use_is_refused(self):
-        """By the program, which goes on, and by another SQLite that reads it."""
+        """The program has the desk open, and goes on; or another SQLite reads it."""
         old, new = desk_of(self.program, self.folder)
         session = Session(self.program, old)
         try:
@@ -345,7 +346,7 @@ class Refusals(ProgramCase):
         rolled(self.program, old, new)
 
     def test_what_is_there_is_left_alone(self):
-        """The new file, a link to nowhere, a folder, and what would be taken for a part of the new file."""
+        """There is the new file, a link to nowhere, a folder, or what would be taken for a part of the new file."""
         old, new = desk_of(self.program, self.folder)
         for name in ["new.db", "new.db-wal", "new.db-shm", "new.db-journal"]:
             path = os.path.join(self.folder, name)
@@ -363,7 +364,7 @@ class Refusals(ProgramCase):
         expect_only(self.folder, ["old.db", "old.db-wal"])
 
     def test_what_comes_meanwhile_is_left_alone(self):
-        """A file, or a log, that is put where the new desk is to be while it is made."""
+        """A file, or a log, is put where the new desk is to be while it is made."""
         old, new = desk_of(self.program, self.folder)
         for name in ["new.db", "new.db-wal"]:
             path = os.path.join(self.folder, name)
@@ -374,7 +375,7 @@ class Refusals(ProgramCase):
             os.remove(path)
 
     def test_what_is_no_desk_is_refused(self):
-        """Also by a look, but that one does not judge the rows."""
+        """A look refuses it, too, but a look does not judge the rows."""
         old, new = desk_of(self.program, self.folder)
         with contextlib.closing(sqlite3.connect(old)) as database, database:
             database.execute("UPDATE field SET inf = inf + 1")
@@ -398,7 +399,7 @@ class Refusals(ProgramCase):
         expect(not os.path.exists(new), "a new desk is there")
 
     def test_want_of_room_is_told(self):
-        """Files that may not grow so far: no new desk and nothing left, until one fits."""
+        """Files may not grow so far: there is no new desk and nothing is left, until one fits."""
         old, read = made(self.program, self.folder, old_desk(Seeded(SEED)), new_desk(self.program, self.folder))
         new, size, names = os.path.join(self.folder, "new.db"), 0, os.listdir(self.folder)
         status, told = 1, []
@@ -423,7 +424,8 @@ class Refusals(ProgramCase):
         expect_only(self.folder, ["old.db", "old.db-wal"])
 
     def test_odd_names_are_names(self):
-        """A folder and files with spaces, signs and bytes of no text; a link to a desk, whose log lies beside the file itself."""
+        """A folder and files have spaces, signs and bytes of no text in their names; a link leads to a desk whose log lies beside
+        the file itself."""
         here = os.path.join(self.folder, "a b'?#%41")
         os.mkdir(here)
         old, new = new_desk(self.program, here, "-o&ld.db"), os.path.join(here, os.fsdecode(b"-new\xff?mode=ro.db"))

@@ -1,6 +1,6 @@
-"""Tests of the built program that serves many connections at once, in rounds: what many clients are answered fits one order of
-all that they asked, by the rules; many commands share a sync, and no question waits long behind those of others; and when such a
-service ends."""
+"""Tests of the built program that serves many connections at once, in rounds. What many clients are answered fits one order of
+all that they asked, by the rules; many commands share a sync, and no question waits long behind those of others; and such a
+service ends when it should."""
 
 import random
 import signal
@@ -25,12 +25,12 @@ from support.rules import Rules
 from support.service import TOGETHER, Service, answered
 from support.tables import rows_of, sqlite3
 
-# how many clients there are at once, and how many questions all of them ask, about
+# how many clients there are at once, and about how many questions all of them ask
 CROWDS = [1, 2, 3, 4, 5, 6, 8, 10, 12, 16, 20, 25, 30, 40, 50]
 QUESTIONS = 1_200
 SMALL_CROWDS = 30
 
-# syncs that take so many microseconds
+# how many microseconds a slow sync takes
 SLOW = 5_000
 AT_ONCE = 1_000
 FIELD = [("F", "field N1 A-1 0 1000000000 0")]
@@ -39,7 +39,7 @@ FIELD = [("F", "field N1 A-1 0 1000000000 0")]
 @dataclass
 class Crowd:
     """What each client of a service asks, and how far it is ahead of its answers; how many questions are answered together; and
-    by which seed the streams are cut."""
+    the seed by which the streams are cut."""
 
     talks: list[list[Ask]]
     ahead: list[int]
@@ -47,7 +47,7 @@ class Crowd:
     seed: int
 
     def clients(self, port: int) -> list[Client]:
-        """They ask anew."""
+        """The clients of the crowd, who have asked nothing yet."""
         cuts = random.Random(self.seed)
         self.talks = [[ask.again() for ask in asks] for asks in self.talks]
         return [Client(port, asks, ahead, cuts) for asks, ahead in zip(self.talks, self.ahead, strict=True)]
@@ -81,7 +81,7 @@ def deliveries(name: str, count: int) -> list[Ask]:
 
 class ByTheRules(ProgramCase):
     def test_the_rules_in_python_answer_as_the_scripts_say(self):
-        """The rows of other tests, which were written by hand."""
+        """The rules answer as the rows of other tests say, which were written by hand."""
         tables = [value for file in (test_scripts, test_spelling) for value in vars(file).values()]
         scripts = [rows for rows in tables if isinstance(rows, list) and rows and is_script(rows)]
         for rows in scripts:
@@ -89,13 +89,14 @@ class ByTheRules(ProgramCase):
         note(f"{sum(map(len, scripts))} lines")
 
     def test_random_questions_of_many_fit_one_order(self):
-        """In random pieces, some clients far ahead of their answers; up to some random number of them together."""
+        """The questions come in random pieces, some clients are far ahead of their answers, and up to some random number of
+        questions are answered together."""
         found = [self.in_one_order(crowd_with(Seeded(SEED + number), clients)) for number, clients in enumerate(CROWDS)]
         note(f"{len(found)} crowds, {sum(found)} commands done")
 
     @needs_hypothesis
     def test_random_questions_of_some_fit_one_order(self):
-        """Small crowds, of which one that fails is made smaller."""
+        """The crowds are small, and a crowd that fails is made smaller."""
         seen = Seen("clients", "commands done", "services of one sync a command")
 
         def expect_in_one_order(crowd: Crowd) -> None:
@@ -108,7 +109,7 @@ class ByTheRules(ProgramCase):
         note(str(seen))
 
     def in_one_order(self, crowd: Crowd) -> int:
-        """How many commands are done, in one order that all answers fit."""
+        """How many commands are done, in one order that fits all answers."""
         with tempfile.TemporaryDirectory(dir=self.folder) as folder:
             path = desk_with(self.program, folder, SOME_FIELDS)
             service = Service(self.program, path, len(crowd.talks), options=["--together", str(crowd.most)])
@@ -141,8 +142,8 @@ class Syncs(FailingCase):
     """Services whose syncs are slow, and are counted."""
 
     def play(self, talks: list[list[Ask]], ahead: list[int], most: int, micros: int) -> tuple[float, int]:
-        """In how many seconds these were answered, so many together, where each client is so far ahead of its answers; and how
-        many syncs there were in all. The service stands still until all have asked."""
+        """In how many seconds these questions were answered, at most so many together, where each client is so far ahead of its
+        answers; and how many syncs there were in all. The service stands still until all have asked."""
         path = desk_with(self.program, self.folder, FIELD, f"{most}.db")
         with self.failing.lane() as lane:
             environment = self.failing.environment(Failure("sync", NEVER), lane, micros)
@@ -162,7 +163,7 @@ class Syncs(FailingCase):
             return took, self.failing.counted(lane)
 
     def test_commands_that_come_at_once_share_syncs(self):
-        """One client is answered all in their order, and far sooner than one by one."""
+        """One client gets all answers in their order, and far sooner than one by one."""
         asks = deliveries("K", AT_ONCE)
         took, syncs = self.play([asks], [AT_ONCE], 1_000, SLOW)
         expect([ask.place() for ask in asks] == list(range(2, AT_ONCE + 2)), "not in their order")
@@ -180,7 +181,7 @@ class Syncs(FailingCase):
         note(f"{count} commands of {len(talks)} clients in {took:.2f} s by {syncs} syncs")
 
     def test_no_more_share_a_sync_than_are_together(self):
-        """Of clients that ask much at once, which are answered in turn: when one has all answers, the others have most."""
+        """Clients that ask much at once are answered in turn: when one has all answers, the others have most."""
         for most in [1, 10]:
             talks = [deliveries(f"K{client}", 100) for client in range(4)]
             _, syncs = self.play(talks, [100] * len(talks), most, 0)
@@ -190,7 +191,7 @@ class Syncs(FailingCase):
             expect(min(found) >= 50, f"{most} together: {found} are answered when the first has all")
 
     def test_nobody_waits_behind_all_that_another_asks(self):
-        """One client asks very much at once, and another one thing after the other: it is answered in its turn."""
+        """One client asks very much at once, and another client one thing after the other: it is answered in its turn."""
         much, little = deliveries("K", 2_000), [ask_of("? field N1 A-1") for _ in range(10)]
         self.play([much, little], [len(much), 1], 8, SLOW)
         behind = sum(ask.told < little[-1].told for ask in much)
@@ -200,7 +201,7 @@ class Syncs(FailingCase):
 
 class Ends(ProgramCase):
     def test_a_service_ends_when_so_many_have_come_and_left(self):
-        """While one of them is there it goes on, and lets no more in."""
+        """While one of the clients is there, the service goes on, and lets no more in."""
         path = desk_with(self.program, self.folder, FIELD)
         service = Service(self.program, path, 3, options=TOGETHER)
         first, second, third = (connected(service.port) for _ in range(3))

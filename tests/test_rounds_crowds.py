@@ -21,12 +21,12 @@ from support.service import TOGETHER, Limit, Service
 from support.tables import sqlite3
 
 CROWD = 2_000
-# clients, each of which sends so many messages at once, and how often
+# how many clients there are, how many messages each sends at once, and how often
 CLIENTS, BATCH, BATCHES = 50, 100, 200
 FIELD: Order = [("F", "field N1 A-1 0 1000000000 40")]
-# by how many KiB what is resident may grow
+# by how many KiB the resident memory may grow
 SPARE = 256
-# how many milliseconds an answer may take, in the middle of several
+# how many milliseconds an answer may take, as the median of several
 SOON = 50
 # a branch with a long sheet, how many clients do not read it, and how often each asks for it
 LARGE: Order = [(f"S{number}", f"field N2 B-{number} 0 9 9") for number in range(2_000)]
@@ -36,7 +36,7 @@ FEW_FILES, FILERS = 24, 40
 
 VIEW = ask_of("? field N1 A-1").text
 SHOWN = answer_of("? field N1 A-1 lo 0 hi 1000000000 value 40 inf 40 sup 40")
-# by which nothing changes: a command that was done before, one that is refused, views, and what is none
+# messages by which nothing changes: a command that was done before, one that is refused, views, and what is no message
 UNCHANGING = ["F field N1 A-1 0 1000000000 40", "K writeoff N1 A-1 41", "? field N1 A-1", "? sheet N1", "K  commit 7"]
 COMMAND = ask_of("HALF deliver N1 A-1 7").text
 
@@ -50,7 +50,7 @@ def exactly(connection: socket.socket, size: int) -> bytes:
 
 
 def expect_view(connection: socket.socket, of: str) -> float:
-    """The one field is shown as it is: in how many milliseconds."""
+    """The one field is shown as it is. Returns after how many milliseconds."""
     began = time.monotonic()
     connection.sendall(VIEW)
     found = exactly(connection, len(SHOWN))
@@ -65,7 +65,7 @@ def expect_soon(connection: socket.socket, of: str) -> None:
 
 
 def expect_idle(service: Service, of: str) -> None:
-    """It waits for its clients without work."""
+    """The service waits for its clients without work."""
     before = seconds_of(service.process)
     time.sleep(0.5)
     used = seconds_of(service.process) - before
@@ -84,7 +84,7 @@ def is_closed(connection: socket.socket) -> bool:
 
 
 def expect_batches(crowd: Sequence[socket.socket], text: bytes, want: bytes) -> None:
-    """All of them send these messages, and then are answered so."""
+    """All connections send these messages, and then are answered so."""
     for connection in crowd:
         connection.sendall(text)
     for connection in crowd:
@@ -102,7 +102,7 @@ class CrowdCase(ProgramCase):
 
 class Crowds(CrowdCase):
     def test_two_thousand_clients_are_answered(self):
-        """All of them are there before the first asks."""
+        """All clients are there before the first asks."""
         with more_files(CROWD + 100) as is_able:
             if not is_able:
                 self.skipTest(f"not so many files may be open here that {CROWD} clients come at once")
@@ -139,7 +139,7 @@ class Crowds(CrowdCase):
 
 class Hostile(CrowdCase):
     def test_who_was_silent_longest_makes_place(self):
-        """Four have places, and come again in some order; a fifth and a sixth come."""
+        """Four clients have places, and come again in some order; then a fifth and a sixth come."""
         service = self.serve(6, "--clients", "4")
         crowd = [connected(service.port) for _ in range(4)]
         for number in [0, 1, 2, 3, 2, 0, 3, 1]:
@@ -159,8 +159,8 @@ class Hostile(CrowdCase):
         service.expect_end()
 
     def test_a_flood_of_connections_leaves_those_that_ask(self):
-        """There are 16 places, and 480 clients come that send half a message. One that asks meanwhile is served, and they are
-        closed."""
+        """There are 16 places, and 480 clients come that send half a message. A client that asks meanwhile is served, and the
+        others are closed."""
         service, flood = self.serve(481, "--clients", "16"), []
         with connected(service.port) as asking:
             for number in range(480):
@@ -169,7 +169,7 @@ class Hostile(CrowdCase):
                 # fewer than half of the places are taken between two answers, and as many are on the way
                 if number % 4 == 3:
                     expect_view(asking, f"behind {number + 1} others")
-            # of the last any may be there, since some have places of those that were there for as long
+            # of the last clients any may be there, since some have places of clients that were there for as long
             for number, connection in enumerate(flood[:-40]):
                 expect(is_closed(connection), f"the client {number} of the flood is not closed")
         for connection in flood:
@@ -177,8 +177,8 @@ class Hostile(CrowdCase):
         service.expect_end()
 
     def test_half_messages_hold_nobody_up(self):
-        """200 clients that have sent nothing, a part of a head or of a body: an answer comes soon, and the service is idle when
-        nobody asks. When the rest comes it is answered."""
+        """200 clients have sent nothing, or a part of a head or of a body: an answer comes soon, and the service is idle when
+        nobody asks. When the rest comes, it is answered."""
         service = self.serve(201)
         halves = [connected(service.port) for _ in range(200)]
         sizes = [len(COMMAND) * number // 200 for number in range(200)]
@@ -197,8 +197,9 @@ class Hostile(CrowdCase):
         service.expect_end()
 
     def test_answers_that_are_not_read_hold_nobody_up(self):
-        """20 clients ask 20 times for a long sheet, and do not read it: an answer to another comes soon, and little is held for
-        each of them. Every fourth is then gone; the others read all, also those that have said that nothing more comes."""
+        """20 clients ask 20 times for a long sheet, and do not read it: an answer to another client comes soon, and the service
+        holds little for each of them. Every fourth then leaves; the others read all, also those that have said that nothing more
+        comes."""
         service = self.serve(UNREAD + 1, order=[*FIELD, *LARGE])
         with connected(service.port) as asking:
             expect_soon(asking, "alone")
@@ -223,8 +224,8 @@ class Hostile(CrowdCase):
         service.expect_end()
 
     def test_clients_that_are_gone_hold_nobody_up(self):
-        """Of 32 clients each but every fourth resets its connection anywhere: the others are answered all, what they were told is
-        kept, and nothing that was not sent."""
+        """Of 32 clients, each but every fourth resets its connection anywhere: the others get all answers, what they were
+        answered as done is kept, and nothing is kept that was not sent."""
         talks, generator = load(SEED, 32, 60), random.Random(SEED)
         service = self.serve(len(talks), order=SOME_FIELDS)
         leaves = [generator.randrange(sum(len(ask.text) for ask in asks)) if at % 4 else None for at, asks in enumerate(talks)]
@@ -240,7 +241,7 @@ class Hostile(CrowdCase):
             note(f"{len(expect_kept(self.path, SOME_FIELDS, talks)) - len(SOME_FIELDS)} commands done")
 
     def test_a_service_goes_on_when_files_come_free(self):
-        """It may have so few files open that of 40 clients only some are let in; as these leave, the others are."""
+        """The service may have so few files open that only some of 40 clients are let in; as these leave, the others are."""
         service = self.serve(FILERS, limit=(resource.RLIMIT_NOFILE, FEW_FILES))
         crowd = [connected(service.port) for _ in range(FILERS)]
         for connection in crowd:

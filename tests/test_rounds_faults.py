@@ -1,5 +1,6 @@
 """Tests of the built program that serves many connections at once, where it is killed, a sync fails, the power is cut behind any
-call, or memory is refused: what was told is kept, nothing else than what was sent is, and no round is told that was not kept."""
+call, or memory is refused. What was answered as done is kept; nothing is kept but what was sent; and no round is answered that
+was not kept."""
 
 import contextlib
 import math
@@ -34,15 +35,15 @@ AHEAD = [1, 1, 5, 100]
 KILLS, FAULTS = 12, 12
 # how many questions each client has, more than are answered before that
 LOAD = 500
-# how many syncs of a service may come before one that fails, at the most
+# how many syncs of a service may come before the one that fails, at the most
 MOST_SYNCS = 60
 CUTS = 400
 
-# up to which read and write those are tried that fail
+# up to which number of a read, and of a write, each is made to fail
 SOME_CALLS = 16
 # by how many allocations two tasks may differ until a desk is opened
 SPARE = 100
-# what clients ask at once to whose service memory is refused
+# what clients ask at once of a service to which memory is refused
 LINES = [
     ["M1 field N1 A-1 0 100 40", "? field N1 A-1"],
     ["M2 expire 10", "? order 8", "M2 expire 10"],
@@ -61,7 +62,7 @@ KINDS = {
 }
 KILLED: End = (-signal.SIGKILL, b"", b"")
 
-# so long a service takes to end on a slow machine, in seconds
+# how many seconds a service takes to end on a slow machine
 ENDING = 10
 
 PLACE = re.compile(rb'{"place":([0-9]+)}')
@@ -76,32 +77,33 @@ def all_of(talks: Sequence[Sequence[Ask]]) -> list[Ask]:
 
 
 def told_of(talks: Sequence[Sequence[Ask]]) -> int:
-    """How many commands were told as done."""
+    """How many commands were answered as done."""
     return sum(ask.place() is not None for ask in all_of(talks))
 
 
 def kept_of(program: str, path: str, before: Order, talks: Sequence[Sequence[Ask]]) -> Order:
-    """The commands that a desk has kept, by their places, which was stopped: it opens, and has kept what it told."""
+    """The commands that a stopped desk has kept, by their places. The desk must open, and have kept what it answered as done."""
     expect(ended(program, ["run", path]) == WELL, f"{path} does not open")
     return expect_kept(path, before, talks)
 
 
 def again(talks: Sequence[Sequence[Ask]]) -> list[list[Ask]]:
-    """The same commands, of those that were sent."""
+    """The same commands, but only those that were sent."""
     return [[ask_of(ask.line) for ask in each if ask.is_command and ask.was_sent()] for each in talks]
 
 
 @needs_sqlite
 class Stops(ProgramCase):
     def test_nothing_told_is_lost_where_the_service_is_killed(self):
-        """Under load, at a random moment; who then asks again under the same keys has each command done once."""
+        """The service is killed under load, at a random moment; who then asks again under the same keys has each command done
+        once."""
         generator = random.Random(SEED)
         found = [self.told_and_kept(number, generator.uniform(0, 0.4), ["7", "1000"][number % 2]) for number in range(KILLS)]
         told, kept = (sum(numbers) for numbers in zip(*found))
         note(f"{KILLS} services killed, {told} commands told, {kept} kept")
 
     def told_and_kept(self, number: int, seconds: float, most: str) -> tuple[int, int]:
-        """How many commands a service has told and kept that is killed after so many seconds."""
+        """How many commands a service that is killed after so many seconds has answered as done, and how many it has kept."""
         talks, options = load(SEED + number, CLIENTS, LOAD), ["--together", most]
         path = desk_with(self.program, self.folder, SOME_FIELDS, f"{number}.db")
         service = Service(self.program, path, CLIENTS, options=options)
@@ -125,7 +127,7 @@ class Stops(ProgramCase):
 
 
 def rows_behind_each(order: Sequence[tuple[str, str]]) -> list[list[str]]:
-    """The rows by the rules behind each of the commands, from none on."""
+    """The rows, by the rules, behind each of the commands, and before the first."""
     desk = Rules()
     rows = [rows_by(desk)]
     for key, command in order:
@@ -135,12 +137,12 @@ def rows_behind_each(order: Sequence[tuple[str, str]]) -> list[list[str]]:
 
 
 def greatest_place(written: bytes) -> int:
-    """The last place that was told in what a service has written."""
+    """The greatest place in what a service has written."""
     return max(map(int, PLACE.findall(written)), default=len(SOME_FIELDS))
 
 
 def round_ends(calls: Sequence[Call]) -> list[int]:
-    """Behind how many commands the rounds end: all of one is told before the next sync."""
+    """Behind how many commands the rounds end: all answers of a round are written before the next sync."""
     written, ends = b"", set()
     for call in calls:
         written += call.data if call.name in SENDS else b""
@@ -150,10 +152,9 @@ def round_ends(calls: Sequence[Call]) -> list[int]:
 
 
 def recorded_rounds(program: str, folder: str, most: int) -> Recorded:
-    """A service of some clients, of whose questions so many are answered together, at the most. Of a round all is kept, or
-    nothing."""
+    """A service of some clients, of whose questions at most so many are answered together. Of a round all is kept, or nothing."""
     talks, there = load(SEED, 3, 20), os.path.join(folder, "recorded")
-    # the last is far ahead of its answers
+    # the last client is far ahead of its answers
     talks.append([ask_of(f"D{number} deliver N0 A-0 1") for number in range(30)])
     os.mkdir(there)
     path = shutil.copyfile(desk_with(program, folder, SOME_FIELDS, "before.db"), os.path.join(there, NAME))
@@ -172,8 +173,8 @@ def recorded_rounds(program: str, folder: str, most: int) -> Recorded:
 
 
 def expect_stopped(asks: Sequence[Ask], moment: float) -> None:
-    """Behind the first answer that tells that the desk is stopped, and of what is sent behind that moment, nothing is told but
-    that, or what any desk answers."""
+    """Behind the first answer that says that the desk is stopped, and for all that is sent behind that moment, each answer says
+    the same, or what any desk answers."""
     is_stopped = False
     for ask in asks:
         is_stopped = is_stopped or ask.answer == STOPPED or ask.sent > moment
@@ -182,7 +183,7 @@ def expect_stopped(asks: Sequence[Ask], moment: float) -> None:
 
 
 def end_of(service: Service) -> tuple[End, bool]:
-    """How a service ends, and whether it does when all have left; or one more comes, or it is killed."""
+    """How a service ends, and whether it ends when all have left; else one more connection comes, or the service is killed."""
     for counts_all in (True, False):
         try:
             service.process.wait(ENDING)
@@ -211,8 +212,8 @@ class Crowded:
             return opening - SPARE, self.failing.counted(lane)
 
     def serve(self, failure: Failure, lane: str) -> str:
-        """What becomes of the service. All that is told is kept, and nothing is done that was not sent. Where one allocation is
-        refused, and the desk goes on, one client alone loses answers."""
+        """What becomes of the service. All that it answered as done is kept, and nothing is done that was not sent. Where one
+        allocation is refused and the desk goes on, only one client loses answers."""
         path, talks = os.path.join(lane, "desk.db"), [[ask_of(line) for line in lines] for lines in LINES]
         copy_desk(self.desk, path)
         try:
@@ -248,8 +249,8 @@ def kind_of(talks: Sequence[Sequence[Ask]], end: End) -> str:
 class Faults(FailingCase):
     def test_nothing_is_told_of_a_round_that_is_not_kept(self):
         """Under load a sync fails, or any call of the store, alone or with all behind it: the desk is stopped, and the service
-        ends. Where a write fails the round is not in the file. Who is far ahead of the answers may lose the last of them, as
-        the connection is reset."""
+        ends. Where a write fails, the round is not in the file. A client that is far ahead of its answers may lose the last of
+        them, since the connection is reset."""
         generator = random.Random(SEED)
         failures = [self.failure(number, generator.randint(1, MOST_SYNCS)) for number in range(FAULTS)]
         found = [self.told_and_kept(failure, ["7", "1000"][number % 3 % 2]) for number, failure in enumerate(failures)]
@@ -258,14 +259,14 @@ class Faults(FailingCase):
         note(f"{FAULTS} services stopped, {told} commands told, {kept} kept, {stopped} told that it is stopped")
 
     def failure(self, number: int, behind: int) -> Failure:
-        """One that comes so many calls, or some times as many, behind those of a session that does nothing."""
+        """A failure so many calls, or some times as many, behind the calls of a session that does nothing."""
         kind, times = [("sync", 1), ("store", 10)][number % 2]
         with self.failing.lane() as lane:
             path = desk_with(self.program, self.folder, SOME_FIELDS, f"before{number}.db")
             return Failure(kind, self.failing.count(kind, ["run", path], "", lane) + times * behind, number // 2 % 2 == 1)
 
     def told_and_kept(self, failure: Failure, most: str) -> tuple[int, int, int]:
-        """How many commands a service has told and kept, and how many it has told that it is stopped."""
+        """How many commands a service has answered as done and has kept, and how often it has answered that it is stopped."""
         talks = load(SEED + failure.first, CLIENTS, LOAD)
         path = desk_with(self.program, self.folder, SOME_FIELDS, f"{failure}.db")
         with self.failing.lane() as lane:
@@ -280,7 +281,7 @@ class Faults(FailingCase):
         return told_of(talks), len(kept) - len(SOME_FIELDS), len(moments)
 
     def test_want_of_memory_loses_nothing_that_was_told(self):
-        """Each allocation is refused in turn, alone, or with all behind it."""
+        """Each allocation is refused in turn, alone or with all behind it."""
         crowded = Crowded(self.failing, self.folder)
         first, count = crowded.count()
         kinds = Counter(self.failing.attempt(refusals(first, count), crowded.serve))
@@ -289,14 +290,14 @@ class Faults(FailingCase):
         note(told)
 
     def test_a_read_or_a_write_that_fails_ends_its_connection_alone(self):
-        """Or the service, which has not told its port."""
+        """It ends its connection alone; or the service, where that has not written its port yet."""
         failures = [Failure(kind, number) for kind in ("read", "write") for number in range(1, SOME_CALLS)]
         cut = [self.is_cut(failure, f"{number}.db") for number, failure in enumerate(failures)]
         expect(0 < sum(cut) < len(failures), f"{sum(cut)} of {len(failures)} services have a connection that is cut")
         note(f"{sum(cut)} of {len(failures)} services have a connection that is cut")
 
     def is_cut(self, failure: Failure, name: str) -> bool:
-        """Whether a client is not answered all."""
+        """Whether a client does not get all answers."""
         path, talks = desk_with(self.program, self.folder, [], name), [[ask_of(line) for line in lines] for lines in LINES]
         with self.failing.lane() as lane:
             environment = self.failing.environment(failure, lane)

@@ -1,5 +1,5 @@
-"""Tests of the built program on scripts: played in memory, on a file, and on one that is opened anew at each line; lines that
-are none; and streams of which a read or a write fails."""
+"""Tests of the built program on scripts: played in memory, on a file, and on a file that is opened anew at each line; lines that
+are none; and streams where a read or a write fails."""
 
 import resource
 import socket
@@ -137,7 +137,7 @@ FIRM = [
     ("H6 firm 7", "H6 refused 19 Firm 0"),
     ("H7 abort 7", "H7 refused 19 Firm 0"),
     ("H8 more 7 take N1 A-1 1", "H8 refused 19 Firm 0"),
-    # whatever else is wrong with it
+    # the commit is refused as firm, whatever else is wrong with it
     ("H8 more 7 add N1 B-9 1", "H8 refused 19 Firm 0"),
     ("H4 deliver N1 A-1 20", "H4 done 5"),
     ("? field N1 A-1", "? field N1 A-1 lo 0 hi 50 value 50 inf 45 sup 50"),
@@ -338,7 +338,7 @@ FIRST_REPLIES = "K1 done 1\n? field N1 A-1 lo 0 hi 100 value 40 inf 40 sup 40\n"
 
 
 def expect_io(run, out, want, of):
-    """The run ended by a stream that failed, behind this output."""
+    """The run was ended by a stream that failed, behind this output."""
     found = (run.returncode, out, run.stderr)
     expect(found == (1, want.encode(), b"stockdesk: io\n"), f"{of}: {found}")
 
@@ -352,7 +352,7 @@ class Scripts(ProgramCase):
             expect(done(self.program, ["run", path], script) == replies, f"script {number} on a file")
 
     def test_an_opening_changes_no_answer(self):
-        """Each line on a desk that was opened for it."""
+        """Each line is answered on a desk that was opened for it."""
         for number, rows in enumerate([TRANSFER, RELEASE, *FIRMS, OPEN_ORDERS, ENDED_ORDERS, REFUSED]):
             path = new_desk(self.program, self.folder, f"{number}.db")
             for line, reply in rows:
@@ -377,7 +377,7 @@ class Scripts(ProgramCase):
             expect(found == (0, replies, b""), f"{count} bytes and {behind!r}: {found}")
 
     def test_a_script_is_answered_alike_in_any_pieces(self):
-        """Of 1 to 40 bytes, each of which one read takes."""
+        """The pieces have 1 to 40 bytes; one read takes each."""
         script = "".join(line + "\n" for line, _ in LONG).encode()
         for size in range(1, 41):
             ours, theirs = socket.socketpair(socket.AF_UNIX, socket.SOCK_SEQPACKET)
@@ -391,7 +391,7 @@ class Scripts(ProgramCase):
             expect(out.decode().splitlines() == [reply for _, reply in LONG], f"{size} bytes: {out}")
 
     def test_a_read_that_fails_ends_a_script(self):
-        """Behind each number of bytes: the lines that had ended by then are answered."""
+        """The read fails behind each number of bytes: the lines that had ended by then are answered."""
         script = FIRST.encode()
         for size in range(len(script) + 1):
             ours, theirs = socket.socketpair()
@@ -405,7 +405,7 @@ class Scripts(ProgramCase):
             expect_io(run, run.stdout, "".join(lines[: script[:size].count(b"\n")]), f"{size} bytes")
 
     def test_a_write_that_fails_ends_a_script(self):
-        """Behind each number of bytes, which are a beginning of the answer."""
+        """The write fails behind each number of bytes; these are a beginning of the answer."""
         for size in range(len(FIRST_REPLIES)):
             with tempfile.TemporaryFile() as out:
                 run = subprocess.run(

@@ -30,7 +30,7 @@ def connect_once(service):
 
 
 def steps():
-    """2,000 commands of all kinds, some of them refused or come again, each with the field or the order that it is on."""
+    """2,000 commands of all kinds, some of which are refused or come again, each with the field or the order that it names."""
     generator = random.Random(1986)
     fields = [f"N{n % 5} A{n // 5:02}" for n in range(50)]
     made = [(f"F{n}", f"field {field} 0 1000 500", f"field {field}") for n, field in enumerate(fields)]
@@ -69,15 +69,15 @@ def steps():
 
 
 def curl(port, target, *words):
-    """What `curl` writes of an answer, with its status in front."""
+    """What `curl` writes about an answer, with its status in front."""
     options = ["--silent", "--show-error", "--write-out", "%{stderr}%{http_code}"]
     run = subprocess.run(["curl", *options, *words, f"http://127.0.0.1:{port}{target}"], capture_output=True, timeout=SECONDS)
     return run.stderr.decode(), run.stdout.decode()
 
 
 def killed(service, first, seconds):
-    """Delivers one piece after another, from that place on, until the service is killed after so many seconds: how many commands
-    were answered."""
+    """Delivers one piece after another, from that place on, until the service is killed after so many seconds. Returns how many
+    commands were answered."""
     connection = service.connect()
     moment = threading.Timer(seconds, service.process.kill)
     moment.start()
@@ -97,7 +97,7 @@ def killed(service, first, seconds):
 
 
 class Services(ProgramCase):
-    """Of a service with these options."""
+    """Tests of a service with these options."""
 
     options: list[str] = []
 
@@ -105,7 +105,7 @@ class Services(ProgramCase):
         return Service(self.program, path, connections, options=self.options, **more)
 
     def test_a_port_is_told_and_taken(self):
-        """One of 127.0.0.1 alone that is free, or the one that is asked for; one that is taken is a fault."""
+        """The port is a free one of 127.0.0.1 alone, or the one that is asked for; a port that is taken is a fault."""
         path = new_desk(self.program, self.folder)
         service = self.serve(path, 1)
         words = ["serve", new_desk(self.program, self.folder, "other.db"), "--port", str(service.port), "--connections", "1"]
@@ -124,7 +124,8 @@ class Services(ProgramCase):
         again.expect_end()
 
     def test_the_greatest_port_and_number_of_connections_are_taken(self):
-        """One connection is served, and the service then ended from outside; the least of both end by themselves."""
+        """With the greatest port and number, one connection is served, and the service then ended from outside; services with the
+        least of both end by themselves."""
         path = new_desk(self.program, self.folder)
         with socket.socket() as free:
             free.setsockopt(socket.SOL_SOCKET, socket.SO_REUSEADDR, 1)
@@ -144,7 +145,7 @@ class Services(ProgramCase):
         expect_end(self.program, ["run", path], (0, b"K1 done 1\n", b""), f"{' '.join(FIRST)}\n")
 
     def test_messages_are_answered_as_a_script_is(self):
-        """On one connection, of which both ends stay open; then the two files hold the same rows."""
+        """One connection stays open at both ends; then the two files hold the same rows."""
         served, played = new_desk(self.program, self.folder), new_desk(self.program, self.folder, "played.db")
         script = "".join(f"{key} {command}\n? {view}\n" for key, command, view in steps())
         lines = iter(done(self.program, ["run", played], script))
@@ -172,7 +173,8 @@ class Services(ProgramCase):
 
     @needs("curl")
     def test_curl_is_answered(self):
-        """A command, its repeat, a view, a sheet, and a body so long that it asks first whether it may be sent."""
+        """`curl` sends a command, sends it again, asks for a view and a sheet, and sends a body so long that it asks first
+        whether it may."""
         key, command = FIRST
         body = compact({"key": key, "command": command})
         sheet = "A-1".ljust(16) + "".join(f"{level:11}" for level in [0, 100, 40, 40, 40]) + "\n"
@@ -193,7 +195,7 @@ class Services(ProgramCase):
         service.expect_end()
 
     def test_a_connection_that_breaks_off_is_the_last_of_nothing(self):
-        """One that is reset, one that ends within a body, one that is no HTTP: the next is served."""
+        """One connection is reset, one ends within a body, one is no HTTP: the next one is served."""
         service = self.serve(new_desk(self.program, self.folder), 4)
         cut = b"POST /v1/commands HTTP/1.1\r\nContent-Length: 46\r\n\r\n{"
         answered(service.port, [cut], is_reset=True)
@@ -208,7 +210,8 @@ class Services(ProgramCase):
         service.expect_end()
 
     def test_a_store_that_fails_ends_the_service(self):
-        """A file that may not grow: what was answered is kept, the rest is answered as by a stopped desk, and then it ends."""
+        """A file may not grow: what was answered is kept, the rest is answered as by a stopped desk, and then the service
+        ends."""
         path = new_desk(self.program, self.folder)
         done(self.program, ["run", path], "K1 field N1 A-1 0 1000 0\n")
         service = self.serve(path, 2, limit=1_048_576)
@@ -225,7 +228,7 @@ class Services(ProgramCase):
         expect(place > 2 and found in (place - 2, place - 1), f"{place - 2} were answered, {found} are found")
 
     def expect_views(self, connection, want):
-        """Each is answered so."""
+        """Each view is answered so."""
         for target in ["/v1/fields/N1/A-1", "/v1/orders/7", "/v1/sheets/N1"]:
             expect(ask(connection, "GET", target) == want, f"{target} is answered")
 
@@ -239,7 +242,7 @@ class Services(ProgramCase):
             [shown] = done(self.program, ["run", path], "? field N1 A-1\n")
             found = int(shown.split()[9]) - (place - 2)
             expect(answered <= found <= answered + 1, f"{answered} answered, {found} found")
-            # what is found has the first of the commands, each at its place
+            # the rows have the first of the commands, each at its place
             again = "".join(f"K{n} deliver N1 A-1 1\n" for n in range(2, place + found))
             want = [f"K{n} done {n}" for n in range(2, place + found)]
             expect(done(self.program, ["run", path], again) == want, "not the first of the commands")
@@ -249,11 +252,11 @@ class Services(ProgramCase):
 
 
 class ServicesTogether(Services):
-    """Of one that serves many connections at once."""
+    """Tests of a service of many connections at once."""
 
     options = TOGETHER
 
     def expect_views(self, connection, want):
-        """Those that are answered before the service ends, which is soon."""
+        """The views that are answered before the service ends, which is soon, are answered so."""
         with contextlib.suppress(OSError, http.client.HTTPException):
             super().expect_views(connection, want)

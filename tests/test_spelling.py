@@ -112,7 +112,7 @@ EACH_KIND = [
     "expire 4000000000",
 ]
 
-# a script in which every refusal comes but those of limits
+# a script in which every refusal comes but those by limits
 REFUSALS = [
     ("K1 field N1 A-1 0 100 40", "K1 done 1"),
     ("K1 field N1 A-1 0 100 41", "K1 refused 1 KeyReused 0"),
@@ -227,7 +227,8 @@ class Spelling(ProgramCase):
         expect_replies(self.program, REFUSALS)
 
     def test_an_order_has_1_to_64_lines(self):
-        """Of the longest words, 2,558 bytes with 64 lines; and of lines that are done, one line more than 64."""
+        """With the longest words, 64 lines have 2,558 bytes; and where all else is good, an order with one line more than 64 is
+        none."""
         steps = [(f"{LONG_KEY} {LONG_OPEN}", BAD)]
         for count in range(1, 65):
             steps.append((f"{LONG_KEY} {LONG_OPEN}{LONG_LINE * count}", f"{LONG_KEY} refused 4 NoField 1"))
@@ -242,7 +243,7 @@ class Spelling(ProgramCase):
         expect_replies(self.program, steps)
 
     def test_codes_are_ordered_by_their_bytes(self):
-        """As sheets show them."""
+        """Sheets show the codes in that order."""
         path = new_desk(self.program, self.folder)
         branches, articles = IN_ORDER
         fields = [(branch, "A-1") for branch in branches] + [("N1", article) for article in articles]
@@ -254,7 +255,7 @@ class Spelling(ProgramCase):
         expect(found == [*articles, "total"], f"{found}")
 
     def test_a_line_that_never_ends_is_one_bad_line(self):
-        """10,000,000 bytes and no newline; and bytes behind the last newline, whatever they are."""
+        """The line has 10,000,000 bytes and no newline; and bytes behind the last newline are bad, whatever they are."""
         for rest in ["A" * 10_000_000, "K9 use 7 N1 A-1 5", "\r", " "]:
             found = done(self.program, ["run"], f"K1 field N1 A-1 0 100 40\n{rest}")
             expect(found == ["K1 done 1", BAD], f"{len(rest)} bytes: {found}")

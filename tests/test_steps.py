@@ -1,5 +1,5 @@
-"""Tests of the built program, command after command on one file: what each answers, and that none which fails or answers nothing
-changes a byte."""
+"""Tests of the built program, command after command on one file: what each answers, and that a command which fails or answers
+nothing changes no byte."""
 
 import os
 from typing import NamedTuple
@@ -27,7 +27,7 @@ total                       100
 
 
 class Step(NamedTuple):
-    """A command; what it reads, the file of requests or the word behind it; and what it writes where it ends well."""
+    """A command, what it reads, the file of requests or the word behind it, and what it writes where it ends well."""
 
     command: str
     text: str = ""

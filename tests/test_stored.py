@@ -1,5 +1,5 @@
-"""Tests of the built program by what another SQLite than its own reads in its file, and writes into it: codes and keys byte for
-byte, tables and rows that are no desk of this version, rows that are damaged and mended again, and a desk that is full."""
+"""Tests of the built program by what another SQLite reads in its file, and writes into it: codes and keys byte for byte, tables
+and rows that are no desk of this version, rows that are damaged and mended again, and a desk that is full."""
 
 import contextlib
 
@@ -17,7 +17,7 @@ CODES = [
 ]
 KEYS = ["abcdefghijklmnopqrstuvwxyz-012345678", "9ABCDEFGHIJKLMNOPQRSTUVWXYZ", "K10", "K1", "K"]
 
-# what makes a desk no desk, or one of the version before, and how a run on it ends
+# what makes a desk none, or one of the version before, and how a run on it ends
 NO_DESK = [
     (["DROP TABLE kept"], NOT_A_DESK),
     (["DROP TABLE desk"], NOT_A_DESK),
@@ -27,7 +27,7 @@ NO_DESK = [
     (["INSERT INTO desk (one, version, clock, places) VALUES (2, 2, 0, 0)"], NOT_A_DESK),
     (["CREATE TABLE eighth (n INTEGER) STRICT"], STORE),
     (["UPDATE desk SET one = 3"], DAMAGED),
-    # a version has its number and its tables, the first all but the last of them
+    # each version has its number and its tables; version 1 has all tables but the last
     (["UPDATE desk SET version = 1", "DROP TABLE firm"], OLD_VERSION),
     (["UPDATE desk SET version = 1", "DROP TABLE firm", "UPDATE desk SET one = 3"], OLD_VERSION),
     (["UPDATE desk SET version = 1", "DROP TABLE firm", "UPDATE field SET inf = 41"], OLD_VERSION),
@@ -76,7 +76,7 @@ def expect_left_alone(program, path, want, of):
 @needs_strict_tables
 class Stored(ProgramCase):
     def test_codes_and_keys_are_stored_byte_for_byte(self):
-        """In the order of their bytes."""
+        """Rows are stored in the order of their bytes."""
         path = new_desk(self.program, self.folder)
         script = [f"{key} field {branch} {article} 0 9 5" for key, (branch, article) in zip(KEYS, CODES, strict=True)]
         replies = [f"{key} done {place}" for place, key in enumerate(KEYS, 1)]

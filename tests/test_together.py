@@ -1,5 +1,5 @@
-"""Tests of the built program that carries out the requests of a file so many together: the replies and the rows are those of
-one by one, and what a kill, a power cut or a reader that goes away leaves are the rows behind whole batches."""
+"""Tests of the built program that carries out the requests of a file in batches. The replies and the rows are those of one by
+one; and a kill, a power cut or a reader that goes away leaves the rows behind whole batches."""
 
 import fcntl
 import itertools
@@ -23,7 +23,7 @@ from support.tables import rows_of, sqlite3
 
 NUMBERS = [1, 2, 7, 100, 1000]
 FILES = 4
-# what stands behind the command: the option at every place
+# what stands behind the command: the option, at every place
 CALLS = ["FILE CSV", *(f"FILE CSV --together {number}" for number in [1, 2, 3, 4, 5, 1000])]
 CALLS += ["--together 3 FILE CSV", "FILE --together 3 CSV", "FILE CSV --together=3"]
 SEED = 1986
@@ -38,7 +38,7 @@ FIELD = "F1 field N1 A-1 0 1000000000 0"
 
 FIELDS = "F1 field N1 A-1 0 100 40\nF2 field N2 A-1 0 50 5\nF3 field N3 A-1 0 10 0\n"
 
-# of each kind of file one with its replies on a desk of these fields, and what is then shown of the fields, by the rules
+# of each kind of file one with its replies on a desk with these fields, and what the rules then show of the fields
 SMALL = [
     (
         "deliveries",
@@ -130,13 +130,13 @@ G1 refused 1 KeyReused 0
 
 
 def is_accepted(reply, places):
-    """Whether a reply says that its request took the place behind so many."""
+    """Whether a reply says that its request took the next place behind so many."""
     return " done " in reply and int(reply.rsplit(" ", 1)[1]) > places
 
 
 def ends_of(replies, places, most):
-    """Behind how many of the requests of these replies a batch ends, of at most so many, where so many places were taken before.
-    It begins with 0, where the first of them begins."""
+    """Behind how many of the requests with these replies a batch ends, where a batch has at most so many and so many places were
+    taken before. The list begins with 0, where the first batch begins."""
     ends, has_refused = [0], False
     for number, reply in enumerate(replies):
         if number == ends[-1] + most or has_refused and is_accepted(reply, places):
@@ -182,7 +182,7 @@ def expect_small(files, kind, replies, shown, call):
 
 
 def requests(chance, kind):
-    """A kind of file, the lines that make the fields, and requests that such a file says."""
+    """A kind of file, the lines that make the fields, and requests that such a file has."""
     known = known_fields(chance)
     before = list(known.lines)
     return kind, before, chance.several(lambda chance: request_of(chance, known, kind), 100, 200)
@@ -206,7 +206,7 @@ class Answers(ProgramCase):
 
     @needs_hypothesis
     def test_random_files_are_answered_by_the_rules(self):
-        """By each number together as one by one, and so when they come again."""
+        """Each number of requests together gives what one by one gives, also when the file comes again."""
         self.seen = Seen(*HEADERS, "requests that come again", "batches")
         for kind in HEADERS:
             try_cases(lambda chance, kind=kind: requests(chance, kind), FILES, self.expect_answered, shown)
@@ -236,7 +236,7 @@ class Answers(ProgramCase):
 
 
 def rows_behind(count, every):
-    """The rows by the rules behind the first so many orders of which each of so many is refused."""
+    """The rows, by the rules, behind the first so many orders, one in `every` of which is refused."""
     numbers = [n for n in range(1, count + 1) if n % every]
     held = len(numbers)
     rows = [f"desk|1|2|0|{held + 1}", f"field|N1|A-1|0|1000000000|{START}|{START}|{START - held}|{START}"]
@@ -248,7 +248,7 @@ def rows_behind(count, every):
 
 
 def rows_left(path):
-    """The rows of a desk and its log, read in a copy: who reads a desk copies the log into it."""
+    """The rows of a desk and its log, read in a copy: reading a desk copies the log into it."""
     with tempfile.TemporaryDirectory() as folder:
         for name in filter(os.path.exists, [path, f"{path}-wal"]):
             shutil.copy(name, folder)
@@ -256,7 +256,7 @@ def rows_left(path):
 
 
 class KilledTogether(Killed):
-    """Calls that carry orders out together and are killed: behind each the rows are those of a number of batches."""
+    """Calls that carry orders out in batches and are killed: behind each call the rows are those of some number of batches."""
 
     MOST, EVERY = 100, 250
 
@@ -270,7 +270,8 @@ class KilledTogether(Killed):
         return super().until_whole(path, seconds)
 
     def look(self, path, out):
-        """What was written begins the replies, and the rows are those behind the batches that were told, or behind one more."""
+        """What was written is a beginning of the replies, and the rows are those behind the batches whose replies were written,
+        or behind one more."""
         expect(self.replies.startswith(out), f"other replies before the kill: {out[-100:]}")
         if sqlite3 is None:
             return
@@ -284,7 +285,7 @@ class KilledTogether(Killed):
 
 
 def deliveries(count, every):
-    """So many deliveries and their replies by the rules on a desk of the one field: each of `every` is on a field that is not
+    """So many deliveries, and their replies by the rules on a desk with the one field. One in `every` is on a field that is not
     there, and the 26th is the 20th again."""
     lines, replies, places = [], [], 1
     for n in range(1, count + 1):
@@ -298,7 +299,7 @@ def deliveries(count, every):
 
 
 def recorded_batches(program, folder, most):
-    """A file of deliveries that is carried out so many together."""
+    """A file of deliveries that is carried out in batches of at most so many."""
     lines, replies = deliveries(CUT, 9)
     rows = rows_after_each(program, folder, [FIELD, *lines])[1:]
     files, there = Files(program, folder, FIELD + "\n"), os.path.join(folder, "recorded")
@@ -314,7 +315,7 @@ def recorded_batches(program, folder, most):
 
 
 def left_alone(program, words, lines):
-    """How a call ends whose reader goes away behind so many lines: its status, and what it tells of a fault."""
+    """How a call ends whose reader goes away behind so many lines: its status, and what it writes about a fault."""
     reads, writes = os.pipe()
     # what is not read soon holds the program up
     fcntl.fcntl(writes, fcntl.F_SETPIPE_SZ, PIPE)
@@ -335,8 +336,8 @@ def value_behind(replies):
 
 
 def values_left(replies, most, read):
-    """What the one field may have where a reader goes away that has read so many of the replies: by what was written as they
-    were, and at most as much more as the pipe holds; the first batch where none was ever read."""
+    """What values the one field may have where a reader goes away that has read so many of the replies: as many as were written,
+    at most as many more as the pipe holds, in whole batches; the first batch where none was ever read."""
     ends, lines = ends_of(replies, 1, most), [reply + "\n" for reply in replies]
     holds = len("".join(lines[:read])) + PIPE if read else 0
     last = may_be_kept(ends, "".join(lines)[:holds].count("\n"))[-1]
@@ -354,11 +355,11 @@ class Deliveries(Files):
         _, self.rows = self.answered("deliveries", self.copy("one_by_one.db"))
 
     def words(self, most):
-        """Those of a call on a new copy of the desk."""
+        """The words of a call on a new copy of the desk."""
         return ["deliveries", self.copy("stopped.db"), self.file, "--together", str(most)]
 
     def told(self, out, of):
-        """How many replies were written: they are the first ones, each of them whole."""
+        """How many replies were written; they must be the first ones, each of them whole."""
         told = out.count(b"\n")
         expect(out.decode() == "".join(reply + "\n" for reply in self.replies[:told]), f"{of}: other replies: {out[-100:]}")
         return told
@@ -373,13 +374,13 @@ class Deliveries(Files):
 
 
 def with_memory(files, size):
-    """The words of a call with memory of so many bytes, and how it ends."""
+    """The words of a call with so many bytes of memory, and how it ends."""
     words = files.words(100)
     return words, ended(files.program, words, limit=(resource.RLIMIT_DATA, size))
 
 
 def enough(files):
-    """So many bytes of memory that the file is answered whole, but not with a MiB less."""
+    """With how many bytes of memory the file is answered whole, but with a MiB less is not."""
     size = 1 << 26
     while with_memory(files, size - (1 << 20))[1][0] == 0:
         size -= 1 << 20
@@ -404,7 +405,7 @@ class Stops(ProgramCase):
         try_cuts(self.program, self.folder, recorded, SEED, 4 * len(recorded.calls))
 
     def test_a_reader_that_goes_away_leaves_whole_batches(self):
-        """The write that fails is told."""
+        """The write that fails is reported."""
         files = Deliveries(self.program, self.folder)
         for most, read in [(7, 0), (7, 5), (7, 7), (7, 50), (100, 0), (100, 5), (1000, 0)]:
             words, of = files.words(most), f"{most} together, {read} read"
@@ -413,7 +414,8 @@ class Stops(ProgramCase):
             files.expect_gone_on(words, values_left(files.replies, most, read), of)
 
     def test_a_store_that_fails_leaves_whole_batches(self):
-        """In files that may not grow so far as the whole file takes: what is told are whole batches, and one more may be kept."""
+        """The files may not grow as far as the whole file needs: the replies written are those of whole batches, and one batch
+        more may be kept."""
         files, failed = Deliveries(self.program, self.folder), set()
         ends, size = ends_of(files.replies, 1, 100), os.path.getsize(files.desk)
         for limit in range(size, size + GROWTH, GROWTH // 20):
@@ -427,8 +429,8 @@ class Stops(ProgramCase):
         expect(len(failed) > 3, f"it only failed behind {failed}")
 
     def test_want_of_memory_leaves_what_is_told(self):
-        """With less and less memory the file is answered whole, then in part, and then not at all: what is kept is told, but for
-        a batch within whose commit memory was refused, which is a fault of the store."""
+        """With less and less memory the file is answered whole, then in part, and then not at all. What is kept is answered, but
+        for a batch within whose commit memory was refused, which is a fault of the store."""
         files, cut, told = Deliveries(self.program, self.folder), 0, None
         size = enough(files)
         while told != 0:

@@ -22,7 +22,7 @@ SHARES = "import fcntl, sys; fcntl.lockf(open(sys.argv[1], 'rb'), fcntl.LOCK_SH 
 
 
 def a_page_in_its_log(folder):
-    """A database of the smallest pages, of which one was written anew and stands in the log alone."""
+    """A database with the smallest pages, one of which was written anew and stands in the log alone."""
     path = os.path.join(folder, "small.db")
     with contextlib.closing(sqlite3.connect(path, isolation_level=None)) as database:
         for line in ["PRAGMA page_size = 512", "PRAGMA journal_mode = WAL", "CREATE TABLE t (n)", "INSERT INTO t VALUES (1)"]:
@@ -41,7 +41,7 @@ def number_in(path):
 class Logs(ProgramCase):
     @needs_sqlite
     def test_a_log_with_a_page_is_no_shorter(self):
-        """With one byte less another SQLite finds nothing in it."""
+        """With one byte less, another SQLite finds nothing in the log."""
         copy = a_page_in_its_log(self.folder)
         expect(os.path.getsize(copy + tools.LOG) == tools.LOG_WITH_A_PAGE, f"{os.path.getsize(copy + tools.LOG)} bytes")
         for less, number in [(0, 2), (1, 1)]:
@@ -53,7 +53,8 @@ class Logs(ProgramCase):
 
     @needs_strict_tables
     def test_the_program_leaves_no_page_in_its_log(self):
-        """Once it has closed a desk; one that was killed does, and the tools have the program copy it into the file first."""
+        """This holds once the program has closed a desk; a killed program leaves pages, and the tools have the program copy them
+        first."""
         path = new_desk(self.program, self.folder)
         done(self.program, ["run", path], SCRIPT)
         expect(os.path.exists(path + tools.LOG) and not tools.has_pages(path + tools.LOG), "pages are left")
@@ -65,8 +66,8 @@ class Logs(ProgramCase):
 class Locks(ProgramCase):
     @needs_strict_tables
     def test_a_desk_that_another_sqlite_writes_is_not_shut(self):
-        """It writes to the log, beside which its lock is one for reading: another such lock is granted and finds nobody, and a
-        copy under it would be of two moments."""
+        """Another SQLite writes to the log; its lock beside that is one for reading. Another such lock is granted and finds
+        nobody, so a copy under it would be of two moments."""
         path = new_desk(self.program, self.folder)
         done(self.program, ["run", path], SCRIPT)
         with contextlib.closing(sqlite3.connect(path, isolation_level=None)) as database:
@@ -77,7 +78,7 @@ class Locks(ProgramCase):
         expect(self.refusal_of(path) is None, "nobody has it open")
 
     def refusal_of(self, path):
-        """Of a process that is not this one, as which the other SQLite writes."""
+        """How a process refuses that is not this one, as which the other SQLite writes."""
         act = "import sys, stockdesk_tools as tools\nwith tools.kept_shut(sys.argv[1]): pass"
         run = subprocess.run(
             [sys.executable, "-B", "-c", act, path], cwd=os.path.dirname(tools.__file__), capture_output=True, text=True
@@ -87,7 +88,7 @@ class Locks(ProgramCase):
 
 class Names(ProgramCase):
     def test_a_name_is_given_to_what_is_new(self):
-        """In one step, or in two where the file system has not that one; never over what is there."""
+        """The name is given in one step, or in two where the file system cannot do so in one; never over what is there."""
         path, name = os.path.join(self.folder, "made"), os.path.join(self.folder, "named")
         refused = OSError(errno.EINVAL, "Invalid argument")
         for step in [tools.rename_in_one_step, mock.Mock(side_effect=refused)]:

@@ -29,7 +29,7 @@ ROUNDS = 50
 
 class Upgrades(ProgramCase):
     def test_an_old_version_is_told_and_left_alone(self):
-        """By every command but `init`, to which it is a file as any other."""
+        """Every command says that the version is old, but `init`, to which the file is like any other."""
         records = os.path.join(self.folder, "records.csv")
         for name in OLDER:
             path = older(self.folder, name)
@@ -43,7 +43,8 @@ class Upgrades(ProgramCase):
             expect(bytes_of(path) == found, f"{name} was changed")
 
     def test_an_upgraded_file_goes_on(self):
-        """It has all rows, repeats its answers and answers the rest of its script; to upgrade it again changes nothing."""
+        """An upgraded file has all rows, repeats its answers and answers the rest of its script; upgraded again, it stays as it
+        is."""
         for name in OLDER:
             path = upgraded(self.program, older(self.folder, name))
             found = bytes_of(path)
@@ -76,7 +77,7 @@ class Upgrades(ProgramCase):
         expect(bytes_of(new) == found, "a new desk was changed")
 
     def test_a_killed_upgrade_leaves_either_version(self):
-        """All of version 1, which can be upgraded then, or all of version 2."""
+        """What is left is all of version 1, which can then be upgraded, or all of version 2."""
         generator = random.Random(1986)
         began = time.monotonic()
         upgraded(self.program, older(self.folder, "many"))
@@ -98,7 +99,7 @@ class Upgrades(ProgramCase):
         note(f"{ROUNDS} upgrades killed: {old} left version 1, {new} version 2")
 
     def test_an_older_file_takes_other_bounds(self):
-        """A field of each: its numbers stay, and it is shown with its new bounds by this run and by the next."""
+        """A field of each file gets other bounds: its numbers stay, and this run and the next show it with these bounds."""
         for name in OLDER:
             path = upgraded(self.program, older(self.folder, name))
             sheet = done(self.program, ["article", path, "A-1"])[0].split()

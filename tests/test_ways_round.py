@@ -1,5 +1,5 @@
-"""Tests of ways round what a group may do: messages of a shop that a proxy and a desk might read differently, and of which
-something that a shop may not do could come. Each is refused by the front, or does nothing."""
+"""Tests of ways round what a group may do: messages of a shop that a proxy and a desk might read differently, and that might so
+bring something which a shop may not do. Each is refused by the front, or does nothing."""
 
 import json
 
@@ -68,7 +68,7 @@ HEADS = {
 
 
 def answers_to(front: Front, text: bytes) -> bytes:
-    """All that is answered to this, until the front closes or nothing more comes for a while."""
+    """All that is answered to this text, until the front closes or nothing more comes for a while."""
     found = b""
     with front.socket() as client:
         client.sendall(text)
@@ -82,7 +82,7 @@ def answers_to(front: Front, text: bytes) -> bytes:
 
 
 def sent(lines: list[str], body: bytes) -> bytes:
-    """A message of n1 with these lines, its length among them unless they tell one or chunks."""
+    """A message of n1 with these lines, and with a line of its length, unless they have one or say that it comes in chunks."""
     told = "".join(lines[1:]).lower()
     more = [NAME, "Host: localhost"]
     if "content-length" not in told or "," not in told:
@@ -91,7 +91,7 @@ def sent(lines: list[str], body: bytes) -> bytes:
 
 
 def expect_nothing_done(front: Front, what: str, found: bytes) -> None:
-    """Nothing is answered as done, nothing is delivered, nothing kept; and the next who asks gets the answer to that."""
+    """Nothing is answered as done, nothing is delivered, nothing is kept; and the next who asks gets the answer to that."""
     expect(b'{"place"' not in found, f"{what}: {found!r}")
     expect(front.value() == 500, f"{what}: it was delivered")
     own = front.tell(OFFICE, "writeoff N1 A-1 501", "WAY")
@@ -100,7 +100,7 @@ def expect_nothing_done(front: Front, what: str, found: bytes) -> None:
 
 class WaysRound(FrontCase):
     def test_one_user_is_named(self):
-        """A second name beside the user's own, before or behind it: who is answered is who showed a password."""
+        """A second name stands before or behind the user's own: the answer is for the user who showed a password."""
         own, other = credentials(SHOP)["Authorization"], credentials(OFFICE, "x")["Authorization"]
         with Front(self.program, self.folder) as front:
             expect(front.ask(SHOP, "GET", "/user")[0] == 200, "no answer to a user")
@@ -111,7 +111,7 @@ class WaysRound(FrontCase):
             expect(not any(OFFICE in line.split()[2:3] for line in front.log()), "the log names another user")
 
     def test_no_view_has_a_head_alone(self):
-        """HEAD is refused, since the desk would answer it with a body, which the next answer would begin with."""
+        """HEAD is refused, since the desk would answer it with a body, with which the next answer would begin."""
         with Front(self.program, self.folder) as front:
             for target in ["/v1/fields/N1/A-1", "/v1/sheets/N1", "/user", "/", "/metrics"]:
                 found = answers_to(front, f"HEAD {target} HTTP/1.1\r\n{NAME}\r\nHost: localhost\r\n\r\n".encode())
@@ -142,7 +142,8 @@ class WaysRound(FrontCase):
         note(f"{len(HEADS)} heads")
 
     def test_no_second_message_goes_round(self):
-        """One behind another is judged as well, also one that begins where a length that is too short ends the first."""
+        """A message behind another one is judged as well, also one that begins where a length that is too short ends the
+        first."""
         whole = sent([TELL], json.dumps(PAIR).encode())
         commit = json.dumps({"key": "OWN", "command": COMMIT}).encode()
         head = whole.split(b"Content-Length")[0]
@@ -160,7 +161,7 @@ class WaysRound(FrontCase):
                 expect_nothing_done(front, what, found)
 
     def test_no_group_is_left_behind(self):
-        """On one connection each message is its own user's, whoever asked before it."""
+        """On one connection each message counts for its own user, whoever asked before it."""
         with Front(self.program, self.folder, script="F1 field N1 A-1 0 100000 500\n") as front:
             connection = front.connect()
             connection.timeout = SECONDS

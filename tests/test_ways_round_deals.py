@@ -1,7 +1,6 @@
-"""Tests of ways round whose the deals are: orders from 900,000,000 on and keys that begin with `between-`, which are the group
-between's alone, in commands of the other groups; all else in commands of that group; the last moment, to which nobody moves the
-clock; and the clock's keys, each of which is that of one expiry. Each is refused by the front, and nothing of it reaches the
-desk; what the group may do is done."""
+"""Tests of ways round whose the deals are. Only the group between may use orders from 900,000,000 on, and keys that begin with
+`between-`; it may use no others. Nobody moves the clock to the last moment. And each key of the clock goes only with its own
+expiry. Whatever breaks this is refused by the front, and nothing of it reaches the desk; what the group may do is done."""
 
 import json
 
@@ -66,7 +65,7 @@ Row = tuple[str, str, str, int, str]
 
 
 def rows_of_others() -> list[Row]:
-    """What the other groups may not: user, command, key, and the refusal."""
+    """What the other groups may not do: user, command, key, and the refusal."""
     rows = [(OFFICE, verb.format(number), "WAY", 403, "order") for verb in VERBS for number in DEALS]
     rows += [(OFFICE, command, "WAY", 403, "order") for command in SPELLED]
     rows += [(SHOP, verb.format("900000007"), "WAY", 403, "group" if verb[:4] == "firm" else "order") for verb in VERBS]
@@ -76,7 +75,7 @@ def rows_of_others() -> list[Row]:
 
 
 def rows_of_between() -> list[Row]:
-    """What the group between may not."""
+    """What the group between may not do."""
     rows: list[Row] = []
     for verb in VERBS:
         error = "order" if verb.split()[0] in OWN else "group"
@@ -101,7 +100,7 @@ def rows_of_moments() -> list[Row]:
 
 
 def rows_of_clock() -> list[Row]:
-    """Keys of the clock, under which there is nothing but its own expiry."""
+    """Keys of the clock, under which only the clock's own expiry goes."""
     mays = [(SHOP, "commit 7"), (WAREHOUSE, "deliver N1 A-1 7"), (OFFICE, "deliver N1 A-1 7"), (BETWEEN, "commit 900000007")]
     mays += [(OFFICE, f"expire {moment}") for moment in ["5", "56", "7", "75", "057", "57 ", "57 1"]] + [(OFFICE, " expire 57")]
     return [(user, command, "clock-57", 403, "key") for user, command in mays] + [(OFFICE, "expire 57", "clock-057", 403, "key")]
@@ -114,7 +113,7 @@ def state_of(front: Front) -> list[str]:
 
 class WaysRoundDeals(FrontCase):
     def test_nobody_goes_round(self):
-        """One row after the other is refused, and its key is free behind it."""
+        """One row after the other is refused, and behind each its key is free."""
         rows = rows_of_others() + rows_of_between() + rows_of_moments() + rows_of_clock()
         with Front(self.program, self.folder, script=SCRIPT) as front:
             before = state_of(front)
@@ -128,7 +127,7 @@ class WaysRoundDeals(FrontCase):
         note(f"{len(rows)} commands")
 
     def test_each_does_what_it_may(self):
-        """The group between carries a deal, with 64 lines too, and all see its orders; the office has all orders below."""
+        """The group between carries a deal, also with 64 lines, and all see its orders; the office has all orders below these."""
         with Front(self.program, self.folder, script=SCRIPT) as front:
             for user, command, key in DONE:
                 status, body = front.tell(user, command, key)
@@ -144,7 +143,7 @@ class WaysRoundDeals(FrontCase):
                     expect(front.ask(user, "GET", target)[0] == 200, f"{user}, {target}")
 
     def test_at_each_of_several_desks(self):
-        """A deal is carried at both by a user who is at both; who is at one does nothing at the other."""
+        """A user who is at both desks carries a deal at both; a user who is at one does nothing at the other."""
         with Chain(self.program, self.folder, users=["b2 between"], at=["b2 north"]) as front:
             for user, desk, want in [
                 (BETWEEN, "north", 200),

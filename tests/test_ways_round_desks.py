@@ -1,5 +1,5 @@
-"""Tests of ways round which desk a user is at: targets and heads by which a user of one desk might come to another one, and
-lines of the list of desks that are nearly another's. Each is refused by the front, and nothing of it reaches the other desk."""
+"""Tests of ways round which desk a user is at: targets and heads by which a user of one desk might come to another one, and lines
+of the list of desks that are nearly another user's. The front refuses each, and nothing of it reaches the other desk."""
 
 import json
 import unittest
@@ -92,7 +92,7 @@ ARE = ["z1 south", "z2 north south", "z3 north  south", "z4 south\tnorth", "z5 \
 
 
 def asked(front: Chain, method: str, target: str, head: str = "") -> tuple[int, str]:
-    """The status and the rest of what is answered to a target and a line of a head as they are spelled here."""
+    """The status, and the rest of what is answered to a target and a line of a head as they are spelled here."""
     body = BODY if method == "POST" else ""
     lines = [f"{method} {target} HTTP/1.1", head or "Host: localhost", "Connection: close", f"Content-Length: {len(body)}"]
     lines += [f"Authorization: {credentials(USER)['Authorization']}", "", body]
@@ -131,7 +131,7 @@ class WaysRoundDesks(FrontCase):
 
     @unittest.skipUnless(http2.is_there(), "python3-h2 is not here")
     def test_no_target_of_http2_goes_round(self):
-        """Which may have signs in it that no target of HTTP/1.1 has."""
+        """Targets of HTTP/2 may have signs in them that no target of HTTP/1.1 has."""
         with Chain(self.program, self.folder, users=["w2 warehouse"], at=["w2 north"]) as front:
             for before in [*BEFORE.values(), *SPACED]:
                 for method, target in [("GET", "/v1/fields/S1/A-1"), ("POST", "/v1/commands")]:

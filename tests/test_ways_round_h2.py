@@ -1,6 +1,5 @@
-"""Tests of ways round what a group may do over HTTP/2, where a message is spelled by its front alone: pseudo headers, bodies of
-no told length, trailers, tunnels, and answers that are not read. Each is refused by the front, or does nothing, and holds nobody
-up."""
+"""Tests of ways round what a group may do over HTTP/2, where only the front spells the message: pseudo headers, bodies without a
+length, trailers, tunnels, and answers that are not read. Each is refused by the front, or does nothing, and holds nobody up."""
 
 import json
 import time
@@ -18,7 +17,8 @@ SHEET = "/v1/sheets/N2"
 DESK = '{"error":"message"}'
 MESSAGE = b"POST /v1/commands HTTP/1.1\r\nContent-Length: 45\r\n\r\n" + json.dumps(PAIR).encode()
 
-# so long three who ask may take beside others on a slow machine, in seconds; the front cuts who holds it up behind 5 s and more
+# how many seconds three clients that ask may take beside others on a slow machine; the front cuts who holds it up after 5 s and
+# more
 TIME = 4.0
 
 # connections to the desk beside the first: where one is not free yet when the next asks, there is one more
@@ -26,7 +26,7 @@ SPARE = 2
 
 
 def head(method: str, path: str, *more: tuple[str, str], **pseudo: str) -> Headers:
-    """A head of n1; of the pseudo headers those that are named stand so, or do not stand where they are empty."""
+    """A head of n1. The pseudo headers that are named stand so; those that are named empty are left out."""
     parts = {"method": method, "scheme": "https", "authority": "localhost", "path": path, **pseudo}
     own = [(f":{name}", value) for name, value in parts.items() if value]
     return [*own, ("authorization", credentials(SHOP)["Authorization"]), *more]
@@ -41,7 +41,7 @@ GOOD = message("OWN", COMMIT).encode()
 OTHER = credentials(OFFICE)["Authorization"]
 WEBSOCKET = ("sec-websocket-version", "13")
 
-# what is sent, as a head and a body, of which no command comes
+# what is sent, as a head and a body, from which no command comes
 HEADS: dict[str, tuple[Headers, bytes | None]] = {
     "what a shop may not do": (told(WHOLE), WHOLE),
     "no length": (head("POST", TELL), WHOLE),
@@ -132,7 +132,7 @@ TRAILERS: dict[str, Headers] = {
 
 
 def connections_of(front: Front) -> float:
-    """How many connections the desk was given: it serves so many in its life, and few to who asks one by one."""
+    """How many connections the desk was given. It serves so many in its life, and few to a client that asks one by one."""
     status, page = front.ask(OFFICE, "GET", "/metrics")
     expect(status == 200, f"no metrics: {status}")
     start = "haproxy_server_connection_attempts_total{"
@@ -142,7 +142,7 @@ def connections_of(front: Front) -> float:
 
 
 def expect_own_answers(front: Front, what: str) -> None:
-    """The next who ask are answered at once, each what it asked for, and nothing was delivered."""
+    """The next clients that ask get at once the answers to what they asked, and nothing was delivered."""
     began = time.time()
     expect(front.value() == 500, f"{what}: it was delivered")
     status, sheet = front.ask(WAREHOUSE, "GET", "/v1/sheets/N1")
@@ -153,7 +153,7 @@ def expect_own_answers(front: Front, what: str) -> None:
 
 
 def expect_refused(front: Front, what: str, found: tuple[str, str]) -> None:
-    """What is answered is no command that is done, no fault of the front, and not the desk's word that it could not read."""
+    """The answer is no command that is done, no fault of the front, and not the desk's word that it could not read."""
     status, body = found
     expect('{"place"' not in body, f"{what}: {found}")
     expect(not status.startswith("5"), f"{what}: {found}")
@@ -163,7 +163,7 @@ def expect_refused(front: Front, what: str, found: tuple[str, str]) -> None:
 
 
 def spoken(front: Front) -> bool:
-    """Whether the front speaks HTTP/2. If it does not, one that speaks it all the same is answered nothing of it."""
+    """Whether the front speaks HTTP/2. If it does not, a client that speaks it all the same gets no answer to what it asks."""
     with Http2(front) as client:
         if client.is_spoken:
             return True
@@ -188,7 +188,8 @@ class WaysRoundH2(FrontCase):
         note(f"{len(HEADS)} heads")
 
     def test_no_body_goes_round(self):
-        """Those of HTTP/1.1, each in one piece and byte by byte, all streams of one connection."""
+        """The bodies are those of the tests with HTTP/1.1, each in one piece and byte by byte, all as streams of one
+        connection."""
         with Front(self.program, self.folder, script="F1 field N1 A-1 0 100000 500\n") as front:
             if not spoken(front):
                 return
@@ -208,7 +209,7 @@ class WaysRoundH2(FrontCase):
         note(f"{len(BODIES)} bodies")
 
     def test_no_trailers_go_round(self):
-        """Behind a body, and behind a view: they are dropped or refused, and name nobody."""
+        """Trailers stand behind a body, and behind a view: they are dropped or refused, and name nobody."""
         with Front(self.program, self.folder, script="F1 field N1 A-1 0 100000 500\n") as front:
             if not spoken(front):
                 return
@@ -219,7 +220,7 @@ class WaysRoundH2(FrontCase):
                     expect_own_answers(front, f"trailers: {what}")
 
     def test_no_stream_is_anothers(self):
-        """Streams of one connection with users of their own, all at once: each is judged by its own."""
+        """Streams of one connection have users of their own, all at once: each stream is judged by its own user."""
         asked = [(OFFICE, "200"), (SHOP, "403"), (WAREHOUSE, "403"), (None, "401"), (OFFICE, "200"), (SHOP, "403")]
         with Front(self.program, self.folder, script="F1 field N1 A-1 0 100000 500\n") as front:
             if not spoken(front):
@@ -235,7 +236,7 @@ class WaysRoundH2(FrontCase):
             expect_own_answers(front, "users side by side")
 
     def test_an_open_end_holds_nobody_up(self):
-        """Messages whose end does not come, without a body and behind one: those who ask meanwhile are answered."""
+        """The end of a message does not come, without a body and after one: those who ask meanwhile are answered."""
         heads = {
             "a view": (head("GET", VIEW), None),
             "a view with some of a body": (head("GET", VIEW), b"{"),
@@ -261,8 +262,8 @@ class WaysRoundH2(FrontCase):
             expect(connections_of(front) <= before + 2 + SPARE, "a connection of the desk ended")
 
     def test_an_unread_answer_holds_nobody_up(self):
-        """Answers that may not be sent, since no window is open: those who ask meanwhile are answered, and the desk is given no
-        more connections than there are such answers."""
+        """Answers may not be sent, since no window is open: those who ask meanwhile are answered, and the desk gets no more
+        connections than there are such answers."""
         script = FIELDS + "".join(f"S{n} field N2 B-{n} 0 9 9\n" for n in range(9_992))
         # what the system holds back for a client is little, so the front has to
         with Front(self.program, self.folder, more="global\n    tune.sndbuf.client 16384\n", script=script) as front:
@@ -282,7 +283,7 @@ class WaysRoundH2(FrontCase):
                 expect(connections_of(front) <= most + SPARE, f"{what}: the desk was given more connections")
 
     def test_a_stream_that_is_taken_back_does_no_harm(self):
-        """Messages that are reset at once, and whose client is gone: what was whole may be done, and no answer is another's."""
+        """Messages are reset at once, and their client is gone: what was whole may be done, and no answer is another's."""
         with Front(self.program, self.folder, script="F1 field N1 A-1 0 100000 500\n") as front:
             if not spoken(front):
                 return

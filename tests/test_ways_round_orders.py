@@ -1,5 +1,5 @@
-"""Tests of ways round whose an order is: commands of a shop on orders whose numbers are not of its range, and lines at branches
-that it is not held to. Each is refused by the front, and nothing of it reaches the desk; what a shop may do is done."""
+"""Tests of ways round whose an order is: commands of a shop on orders whose numbers are not of its range, and order lines at
+branches to which it is not restricted. The front refuses each, and nothing of it reaches the desk; what a shop may do is done."""
 
 import json
 
@@ -8,7 +8,7 @@ from support.programs import expect, note
 
 MOST_LINES = 64
 
-# users of the shops beside n1, who has the orders below 1,000,000: their ranges, and the branches that they are held to
+# users of the shops beside n1, who has the orders below 1,000,000: their ranges, and the branches to which they are restricted
 SHOPS = ["n2 1", "n3 899", "n4 900", "n5 2 N1 N3", "n6", "n7 01", "n8 1-2", "n9 1000", "n10 -1", "n11 N1", "n12 12"]
 
 # fields at three branches, and an order of each that has some
@@ -36,7 +36,7 @@ NOT_ITS_OWN = {
     "n1": ["0", "00", "1000000", "1000001", "01", "007", "0000007", "9999999", "999999999", "1000000007"],
     "n2": [
         *["999999", "2000000", "7", "2000007", "100000", "10000001", "01000001", "001000001", "0", "1", "1000001000001"],
-        # what would be 1,000,001 to who counts in 32, 63 or 64 bits, or stops at other signs than digits
+        # numbers that read as 1,000,001 where one counts in 32, 63 or 64 bits, or stops at other signs than digits
         *["4295967297", "9223372036855775809", "18446744073710551617", "340282366920938463463374607431769211457"],
         *["-1000001", "0x0F4241", "0xF4241", "F4241", "1e6", "1E6", "1000001-", "1000001a", "1-000001", "1000-001"],
         *["", " 1000001", "7 1000001", "a 1000001", "- 1000001", "000 1000001"],
@@ -77,7 +77,7 @@ def lines(*branches: str, way: str = "take") -> str:
 
 
 def with_one(branch: str, place: int) -> str:
-    """Lines at N1 and one at that branch."""
+    """Order lines at N1, and one at that branch."""
     branches = ["N1"] * MOST_LINES
     branches[place] = branch
     return lines(*branches)
@@ -156,7 +156,7 @@ def state_of(front: Front) -> list[str]:
 
 
 def expect_refused(front: Front, user: str, command: str, status: int, error: str) -> None:
-    """The front refuses it, and it has not reached the desk: its key is free."""
+    """The front refuses the command, and it has not reached the desk: its key is free."""
     for body in [message("WAY", command), json.dumps({"command": command, "key": "WAY"})]:
         found = front.ask(user, "POST", "/v1/commands", body)
         expect(found == (status, json.dumps({"error": error}, separators=(",", ":"))), f"{user}, {command!r}: {found}")
@@ -188,7 +188,7 @@ class WaysRoundOrders(FrontCase):
         note(f"{len(ELSEWHERE)} commands")
 
     def test_each_does_what_it_may(self):
-        """A shop in its range, at its branches if it is held to some; the office on every order."""
+        """A shop acts in its range, and where it is restricted to branches, at these; the office on every order."""
         with Front(self.program, self.folder, script=SCRIPT, shops=SHOPS) as front:
             for user, command in DONE:
                 status, body = front.tell(user, command)

@@ -12,10 +12,10 @@ NO_MEMORY, STOPPED, NONE, UNREADABLE = (
     for status, name in [(503, "memory"), (503, "stopped"), (404, "none"), (400, "message")]
 )
 BAD_COMMAND = answer(400, compact({"code": 20, "line": 0, "refused": "BadCommand"}))
-# the moment of what never came
+# the moment of what never happened
 NEVER = math.inf
 
-# messages that are answered so, whatever the desk has; and some behind which the connection ends
+# messages with one answer whatever is on the desk, and some after which the connection ends
 FIXED = [
     (message("GET /", ""), NONE),
     (message("GET /v1/commands", ""), NONE),
@@ -34,8 +34,8 @@ SOME_FIELDS = [(f"F{branch}{article}", f"field N{branch} A-{article} 0 1000 200"
 
 @dataclass(eq=False, repr=False)
 class Ask:
-    """A message, and the line of a script that asks for the same, or what it is answered whatever the desk has. When it was all
-    sent, what it was answered, and when that was whole."""
+    """A message, with the line of a script that asks for the same, or else with the answer that it has whatever is on the desk;
+    the moment when all of it was sent, its answer, and the moment when that was complete."""
 
     text: bytes
     line: str = ""
@@ -59,16 +59,16 @@ class Ask:
         return self.sent < NEVER
 
     def place(self) -> int | None:
-        """The place that a command was told."""
+        """The place in the answer to a command."""
         body = self.answer.rpartition(b"\r\n\r\n")[2]
         return json.loads(body)["place"] if self.is_command and body.startswith(b'{"place":') else None
 
     def is_lost(self) -> bool:
-        """Whether there is no answer, or one that says nothing of the ledger."""
+        """Whether there is no answer, or an answer that says nothing about the ledger."""
         return self.answer in (b"", NO_MEMORY, STOPPED)
 
     def fits(self, desk: Rules) -> bool:
-        """Whether the desk answers so now."""
+        """Whether the desk would answer so now."""
         return self.answer == (desk.answer(self.line) if self.line else self.want)
 
 

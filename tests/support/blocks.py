@@ -1,4 +1,4 @@
-"""The blocks of commands that a document shows, and a shell that plays them."""
+"""The blocks of commands that a document shows, and a shell that runs them."""
 
 import contextlib
 import os
@@ -13,16 +13,18 @@ import time
 from support import TOP
 
 SECONDS = 30
-# the port that the documents name, in whose place one that is free is taken
+# the port that the documents name; a free port is used in its place
 PORT = "8080"
 
 FENCE = re.compile(r"^```(\w*)\n(.*?)^```\n", re.DOTALL | re.MULTILINE)
 
 
-def blocks_of(name: str) -> list[tuple[str, str | None]]:
-    """The commands of each fence of a document, with the output that is shown behind them, if any is."""
+def blocks_of(name: str, heading: str = "") -> list[tuple[str, str | None]]:
+    """The commands of each code block of a document, or of one section, with the output that is shown after them, if any."""
     with open(os.path.join(TOP, name), encoding="utf-8") as file:
         text = file.read()
+    if heading:
+        text = text.partition(f"\n## {heading}\n")[2].partition("\n## ")[0]
     blocks: list[tuple[str, str | None]] = []
     for kind, body in FENCE.findall(text):
         if kind == "sh":
@@ -38,7 +40,7 @@ def free_port() -> str:
 
 
 class Shell:
-    """A shell that is given one block behind the other, with a folder first on its path."""
+    """A shell that is given one block after the other, with a folder first on its path."""
 
     def __init__(self, path: str, folder: str):
         self.process = subprocess.Popen(
@@ -61,7 +63,7 @@ class Shell:
             self.lines.put(line)
 
     def play(self, number: int, commands: str, want: str) -> str:
-        """What a block writes, once its last command has ended and as much as is wanted has come."""
+        """What a block writes, once its last command has ended and all that is wanted has come."""
         end = f"the end of block {number}\n"
         assert self.process.stdin
         self.process.stdin.write(f"{commands}\necho {end}")
@@ -79,7 +81,7 @@ class Shell:
         return found
 
     def end(self) -> None:
-        """Nothing is left to play: the shell is ended, with all that it began."""
+        """All blocks are run: ends the shell, and all that it began."""
         os.killpg(self.process.pid, signal.SIGKILL)
         self.process.wait()
         self.reader.join()

@@ -1,5 +1,5 @@
-"""A page of the desk in Chromium, for tests: what it shows, what is pressed and written there, by a mouse's or a keyboard's ways.
-It is served by a front that runs, whose users are n1 of the shops, w1 of the warehouse and ho of the office."""
+"""The desk's page in Chromium, for tests: what it shows, and what is pressed and written there with a mouse or a keyboard. It is
+served by a front that runs; its users are n1 of the shops, w1 of the warehouse and ho of the office."""
 
 import base64
 import contextlib
@@ -19,14 +19,14 @@ from support.programs import SECONDS, expect
 DRIVER = "/usr/bin/chromedriver"
 ARGUMENTS = ["--headless=new", "--no-sandbox", "--ignore-certificate-errors", "--disable-dev-shm-usage", "--lang=en-US"]
 FOREVER = 4_000_000_000
-# where the browser is; it has had this offset since 1945
+# the zone in which the browser is; its offset has been the same since 1945
 ZONE, OFFSET = "Asia/Kolkata", datetime.timedelta(hours=5, minutes=30)
 DAY = 24 * 60
 WIDE, NARROW = (1000, 900), (390, 844)
 MOST_STOPS = 200
 MOST_BYTES = 200_000
 
-# what the refusals have to say, in some of their words
+# some words that the texts of the refusals have to contain
 WORDS = {
     "KeyReused": "key of this command was used for another",
     "Full": "desk is full",
@@ -53,8 +53,8 @@ WORDS = {
 # a control is as large as a thumb, in pixels
 THUMB = 44
 
-# keeps what is sent and what is said, and how many answers from now on are lost after they came, or which are made up, as may
-# be views
+# keeps what is sent and what is said, and how many of the next answers are lost after they came, or which answers are made up;
+# views may be made up too
 WATCH = """
 const real = window.fetch;
 Object.assign(window, { sent: [], lose: 0, answers: [], views: {}, looks: 0 });
@@ -91,7 +91,7 @@ def is_there() -> bool:
 
 
 class Page:
-    """A browser that shows the page to a user. At its end nothing may stand in its console but failures of the network."""
+    """A browser that shows the page to a user. At its end nothing but failures of the network may stand in its console."""
 
     def __init__(self, front: Haproxy, user: str, size: tuple[int, int] = WIDE, zone: str = ZONE):
         from selenium import webdriver
@@ -156,11 +156,11 @@ class Page:
         self.wait(lambda: words in self.text("#said"), f"{words!r} is not said")
 
     def wait_told(self, words: str) -> None:
-        """These words are said at some moment: what is said while it is asked again may be gone at once."""
+        """Waits until the page has said these words at some moment. While it asks again, what it says may be gone at once."""
         self.wait(lambda: self.run("return told.some(each => each.includes(arguments[0]))", words), f"{words!r} was not said")
 
     def fill(self, selector: str, **values: object) -> None:
-        """Puts values into the inputs and choices of that part, unfolded if it was folded."""
+        """Puts values into the inputs and choices of a part, which is unfolded first if it was folded."""
         from selenium.webdriver.common.keys import Keys as Names
 
         part = self.find(selector)
@@ -170,7 +170,7 @@ class Page:
             if control.get_attribute("type") == "datetime-local":
                 self.fill_moment(control, int(str(value)))
             elif control.tag_name == "input":
-                # written over what is there, which the page may have proposed
+                # written over what is there, which may be the page's proposal
                 control.send_keys(Names.CONTROL, "a", Names.NULL, str(value))
             else:
                 control.send_keys(str(value))
@@ -195,7 +195,7 @@ class Page:
         self.press(f"{form} .sends")
 
     def tell(self, form: str, words: str = "Done", **values: object) -> None:
-        """Sends a form, and waits for an answer of these words to that command, and until what it changed is shown."""
+        """Sends a form; waits until that command is answered with these words, and until what it changed is shown."""
         self.fill(form, **values)
         self.run("document.getElementById('said').textContent = ''")
         self.press(f"{form} .sends")
@@ -209,7 +209,7 @@ class Page:
         self.wait(lambda: f"{name} as of" in self.text(f"#{kind}-told"), f"no {kind} {name}")
 
     def rows(self, kind: str) -> dict[str, list[str]]:
-        """The texts of the cells of a table, by those of the head of their row."""
+        """The texts of a table's cells, for each row by its head."""
         rows = self.run(
             "return [...document.querySelectorAll(arguments[0])].map(row => [...row.cells].map(cell => cell.textContent))",
             f"#{kind} tbody tr",
@@ -220,7 +220,7 @@ class Page:
         self.wait(lambda: self.rows(kind) == want, f"{kind}: {want} is not shown")
 
     def come_again(self) -> None:
-        """The user leaves, and opens the page anew on another day, in the same browser."""
+        """The user leaves, and opens the page again on another day, in the same browser."""
         self.run("sessionStorage.clear()")
         self.browser.refresh()
         self.run(WATCH)
@@ -231,7 +231,7 @@ class Page:
 
 @unittest.skipUnless(is_there(), "chromium, its driver or Selenium is not here")
 class PageCase(FrontCase):
-    """Tests of the page, all of them through one front, which has these users of the shops too."""
+    """Tests of the page, all through one front, which has these users of the shops too."""
 
     front: Front
     shops: Sequence[str] = ()
@@ -245,7 +245,7 @@ class PageCase(FrontCase):
 
 @contextlib.contextmanager
 def without(stop: Callable[[], None], start: Callable[[], None]) -> Iterator[None]:
-    """While something is stopped; it is there again at the end, whatever comes."""
+    """Something is stopped meanwhile; it is started again at the end, whatever happens."""
     stop()
     try:
         yield
@@ -275,7 +275,7 @@ def row(lower: int, upper: int, value: int, infimum: int, supremum: int) -> list
 
 
 class Keys:
-    """The keyboard alone. Wherever it stops the focus is seen, and nothing lies over it."""
+    """The keyboard alone. Wherever the focus stops it is seen, and nothing lies over it."""
 
     def __init__(self, page: Page):
         from selenium.webdriver.common.keys import Keys as Names
@@ -286,7 +286,7 @@ class Keys:
         self.page.browser.switch_to.active_element.send_keys(*keys)
 
     def write_moment(self, minute: int) -> None:
-        """Writes a date and a time where the focus is, as one does in American English."""
+        """Writes a date and a time where the focus is, as is done in American English."""
         from selenium.webdriver.common.action_chains import ActionChains
 
         ActionChains(self.page.browser).send_keys(f"{local(minute):%m%d%Y%I%M%p}").perform()
@@ -311,15 +311,15 @@ class Keys:
 
 
 def shot(page: Page, part: str = "body") -> str:
-    """What is in the window where that part is brought to its top, as an image for a page."""
+    """What the window shows where that part is scrolled to its top, as an image for a page."""
     page.run("document.querySelector(arguments[0]).scrollIntoView()", part)
     picture = page.browser.execute_cdp_cmd("Page.captureScreenshot", {"format": "png"})["data"]
     return f'<img alt="" src="data:image/png;base64,{picture}">'
 
 
 def screenshots(front: Front, path: str) -> None:
-    """Writes a picture of the page with a branch and an order, 1,000 pixels wide in light, and beside it with the open orders,
-    390 wide in dark."""
+    """Writes a picture of the page: with a branch and an order, 1,000 pixels wide and light; and beside it with the open orders,
+    390 pixels wide and dark."""
     now = int(time.time() // 60)
     tell_all(front, ["field N2 A-1 0 100 40", "field N2 BOOT-42 10 200 120", "field N2 CUP 0 50 50"])
     tell_all(

@@ -1,4 +1,5 @@
-"""The base of the tests of the built program: the program, a fresh folder for each test, and what is left out without a tool."""
+"""The base of the tests of the built program: the program, a fresh folder for each test, and what is left out where a tool is
+missing."""
 
 import os
 import shutil
@@ -15,7 +16,7 @@ needs_strict_tables = unittest.skipUnless(is_able(), "no other SQLite with stric
 
 
 def path_of(name: str) -> str | None:
-    """Where a program lies; those of the system's administrator count too."""
+    """The path of a program, if it is here; the system administrator's programs count too."""
     return shutil.which(name, path=os.environ.get("PATH", "") + ":/usr/local/sbin:/usr/sbin:/sbin")
 
 
@@ -26,7 +27,7 @@ def needs(*names: str) -> Callable[[Any], Any]:
 
 
 def built_program() -> str:
-    """The path of the program that is tried: the repository's, or what STOCKDESK_PROGRAM names in the environment."""
+    """The path of the program under test: the repository's, or what STOCKDESK_PROGRAM names in the environment."""
     path = os.path.abspath(os.environ.get("STOCKDESK_PROGRAM") or BUILT)
     if not os.access(path, os.X_OK):
         raise AssertionError(f"{path} is not there: ./stockdesk or ./check builds it, or STOCKDESK_PROGRAM names another")
@@ -34,7 +35,8 @@ def built_program() -> str:
 
 
 class ProgramCase(unittest.TestCase):
-    """Tests of the built program: `program` is its path, and `folder` that of a new folder, which is removed behind each test."""
+    """Tests of the built program: `program` is its path, and `folder` is the path of a new folder, which is removed after each
+    test."""
 
     program: str
     folder: str

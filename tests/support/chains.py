@@ -15,13 +15,13 @@ NAME, ADDRESS = "north", "127.0.0.1:8080"
 
 
 def script_of(desk: str) -> str:
-    """Fields of a desk: its branches are those of its first letter, as N1."""
+    """The commands that make fields of a desk: its branches begin with the first letter of its name, as N1."""
     branches = [f"{desk[0].upper()}{n}" for n in (1, 2)]
     return "".join(f"F{branch}-{n} field {branch} A-{n} 0 1000000 500\n" for branch in branches for n in (1, 2))
 
 
 def lines_of(desk: str, port: int) -> str:
-    """What configures a desk of that name and port."""
+    """The lines that configure a desk of that name and port."""
     with open(SHIPPED, encoding="utf-8") as file:
         text = file.read()
     first = text[text.index("backend ") :].split("\n\n")[0]
@@ -29,7 +29,8 @@ def lines_of(desk: str, port: int) -> str:
 
 
 class Chain(Haproxy):
-    """Desks of these names, served to many behind one front. Each of `at`, such as "n2 south", is a user's desks."""
+    """Desks of these names, served to many clients behind one front. Each text of `at`, such as "n2 south", names a user and his
+    desks."""
 
     def __init__(
         self,
@@ -71,7 +72,7 @@ class Chain(Haproxy):
         self.running[desk] = served(self.program, os.path.join(self.folder, f"{desk}.db"), self.ports[desk])
 
     def desk_add(self, desk: str) -> None:
-        """One desk more, which the front has behind its next reload."""
+        """One more desk, which the front serves after its next reload."""
         self.ports[desk] = free_port()
         self.desk_make(desk)
         self.desk_start(desk)

@@ -1,6 +1,6 @@
-"""Random cases. Those that are drawn by hypothesis are made as small as they can be where one fails; what a service is laden with
-whose outcome hangs on moments, too, is drawn from a seed. The gate tries the same cases each time. In the environment
-STOCKDESK_TIMES says how many times as many are tried, and STOCKDESK_SEED makes them others:
+"""Random cases. Those that hypothesis draws are made as small as possible where one fails; the loads of a service, whose outcome
+depends on timing too, are drawn from a seed. The gate tries the same cases each time. In the environment STOCKDESK_TIMES says how
+many times as many cases are tried, and STOCKDESK_SEED chooses other cases:
 
     STOCKDESK_TIMES=20 STOCKDESK_SEED=7 ./check tests test_random"""
 
@@ -20,7 +20,7 @@ except ImportError:
 
 TIMES = int(os.environ.get("STOCKDESK_TIMES", "1"))
 SEED = int(os.environ.get("STOCKDESK_SEED", "1986"))
-# about so many cases, which come first, hypothesis makes small ones
+# hypothesis begins with about so many small cases
 SMALL = 10
 
 needs_hypothesis = unittest.skipIf(hypothesis is None, "python3-hypothesis is not here")
@@ -29,26 +29,26 @@ T = TypeVar("T")
 
 
 class Chance:
-    """What draws numbers, and by them all else."""
+    """Draws numbers, and with them everything else."""
 
     def whole(self, least: int, most: int) -> int:
-        """A whole number from one to another. A smaller case has the least."""
+        """A whole number from `least` to `most`; `least` in a smaller case."""
         raise NotImplementedError
 
     def part(self, make: "Callable[[Chance], T]") -> T:
-        """What is made by drawing, and may as a whole be missing in a smaller case."""
+        """What `make` draws. A smaller case may leave it out as a whole."""
         return make(self)
 
     def share(self, percent: int) -> bool:
-        """Whether something comes that does so often. A smaller case has it not."""
+        """True in so many percent of cases; false in a smaller case."""
         return self.whole(0, 99) >= 100 - percent
 
     def one_of(self, values: Sequence[T]) -> T:
-        """One of them. A smaller case has one that stands earlier."""
+        """One of the values; in a smaller case one that stands earlier."""
         return values[self.whole(0, len(values) - 1)]
 
     def several(self, make: "Callable[[Chance], T]", average: int, most: int) -> list[T]:
-        """About so many that are made, and so many at the most. A smaller case lacks some of them."""
+        """About `average` things that are made, and at most `most`. A smaller case leaves some of them out."""
         found: list[T] = []
 
         def one_more(chance: Chance) -> bool:
@@ -63,7 +63,7 @@ class Chance:
 
 
 class Seeded(Chance):
-    """Chance that a seed tells."""
+    """Chance that a seed determines."""
 
     def __init__(self, seed: int):
         self.random = random.Random(seed)
@@ -94,12 +94,12 @@ def drawn(draw: Callable[[Any], Any], make: Callable[[Chance], T]) -> T:
     return make(Drawn(draw))
 
 
-# all that is made so, as a strategy
+# what a function makes in this way, as a strategy of hypothesis
 cases_of: Any = strategies.composite(drawn) if hypothesis else None
 
 
 def settings(count: int) -> "hypothesis.settings":
-    """Those of so many cases, or as many times more as are asked for, each of which may take its time."""
+    """Settings for so many cases, or as many times more as are asked for; each case may take as long as it needs."""
     return hypothesis.settings(
         max_examples=SMALL + TIMES * count,
         database=None,
@@ -111,7 +111,7 @@ def settings(count: int) -> "hypothesis.settings":
 
 
 def try_cases(make: Callable[[Chance], T], count: int, act: Callable[[T], None], show: Callable[[T], str] = repr) -> None:
-    """Does that with so many cases. AssertionError: it fails for one, of which the smallest that was found is shown."""
+    """Calls `act` on so many cases. AssertionError: it fails for one; the smallest such case that was found is shown."""
 
     def each(case: T) -> None:
         try:
@@ -129,7 +129,7 @@ def run_machine(make: "Callable[[], stateful.RuleBasedStateMachine]", count: int
 
 
 class Seen:
-    """What the cases of a test had, counted: none of what they ought to have is missing."""
+    """Counts what the cases of a test had; none of what they ought to have may be missing."""
 
     def __init__(self, *names: str):
         self.counts = Counter({name: 0 for name in names})

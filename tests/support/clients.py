@@ -1,5 +1,5 @@
-"""Many clients of a service at once, all in one thread: each sends its messages in pieces, so far ahead of the answers as it may,
-and hears these, until it has them all or the connection ends."""
+"""Many clients of a service at once, all in one thread. Each sends its messages in pieces, as far ahead of the answers as it may,
+and reads the answers, until it has them all or the connection ends."""
 
 import re
 import selectors
@@ -15,12 +15,12 @@ from support.programs import SECONDS, expect
 
 ANSWER = re.compile(rb"HTTP/1\.1 [1-5][0-9]{2} [A-Za-z ]+\r\ncontent-type: [a-z/]+\r\ncontent-length: ([0-9]+)\r\n\r\n")
 PIECE = 65_536
-# cuts are so many bytes apart, about
+# cuts are about so many bytes apart
 APART = 150
 
 
 def connected(port: int, room: int | None = None) -> socket.socket:
-    """A connection that has begun; there may be little room for what it has not read."""
+    """A connection that has begun; `room` may limit how many unread bytes it takes."""
     found = socket.socket()
     if room is not None:
         found.setsockopt(socket.SOL_SOCKET, socket.SO_RCVBUF, room)
@@ -35,28 +35,28 @@ def connected(port: int, room: int | None = None) -> socket.socket:
 
 
 def reset(connection: socket.socket) -> None:
-    """Ends it without a farewell."""
+    """Ends a connection without a farewell."""
     connection.setsockopt(socket.SOL_SOCKET, socket.SO_LINGER, struct.pack("ii", 1, 0))
     connection.close()
 
 
 def end_of_answer(text: bytes | bytearray) -> int:
-    """Where the first answer ends, or 0 where it is not whole."""
+    """Where the first answer ends, or 0 where it is not complete."""
     head = ANSWER.match(text)
     end = head.end() + int(head[1]) if head else 0
     return end if end <= len(text) else 0
 
 
 class Client:
-    """A client, what it asks, and how many messages it sends ahead of the answers. By a generator its stream is cut anywhere, and
-    some end it before they have heard all. One may leave behind so many bytes, without a farewell."""
+    """A client, what it asks, and how many messages it sends ahead of the answers. With a generator its stream is cut anywhere,
+    and some clients end it before they have all answers. A client may also leave without a farewell, after so many bytes."""
 
     def __init__(self, port: int, asks: Sequence[Ask], ahead: int = 1, chance: Random | None = None, leaves: int | None = None):
         self.socket = connected(port)
         self.socket.setblocking(False)
         self.asks, self.ahead, self.leaves = asks, ahead, leaves
         self.stream = b"".join(ask.text for ask in asks)
-        # where each message ends, from none on
+        # where each message ends, beginning with 0 for none
         self.ends = [0, *accumulate(len(ask.text) for ask in asks)]
         self.cuts = [len(self.stream)]
         self.is_hasty = False
@@ -64,7 +64,7 @@ class Client:
             self.cuts += chance.choices(range(len(self.stream)), k=chance.randint(0, 1 + 2 * len(self.stream) // APART))
             self.is_hasty = chance.random() < 0.2
         self.cuts.sort(reverse=True)
-        # how many bytes and messages are sent, and how many are answered
+        # how many bytes and messages are sent, and how many messages are answered
         self.at = self.sent = self.answered = 0
         self.heard = bytearray()
         self.has_said_all = self.is_over = False
@@ -78,7 +78,7 @@ class Client:
         return selectors.EVENT_READ if waits else selectors.EVENT_READ | selectors.EVENT_WRITE
 
     def is_done(self) -> bool:
-        """Whether it says that nothing more comes."""
+        """Whether it has said that nothing more comes."""
         return self.at == len(self.stream) and (self.is_hasty or self.answered == len(self.asks))
 
     def take_turn(self, events: int) -> None:
@@ -100,7 +100,7 @@ class Client:
         except BlockingIOError:
             return
         except OSError:
-            # the other end has closed; what it has told may still be heard
+            # the other end has closed; what it sent before may still be read
             self.has_said_all = True
         self.note_sent(now)
         if self.leaves is not None and self.leaves <= self.at:
@@ -133,13 +133,13 @@ class Client:
         reset(self.socket)
 
     def expect_whole(self) -> None:
-        """It was answered all, and nothing else."""
+        """All of its messages were answered, and nothing else came."""
         whole = self.answered == len(self.asks) and not self.heard
         expect(whole, f"{self.answered} of {len(self.asks)} are answered, then {bytes(self.heard[:200])!r}")
 
 
 def play(clients: Iterable[Client], seconds: float = SECONDS) -> None:
-    """All of them ask and hear, until each is over."""
+    """All clients ask and read, until each is done."""
     latest = time.monotonic() + seconds
     with selectors.DefaultSelector() as selector:
         for client in clients:

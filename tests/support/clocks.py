@@ -1,4 +1,4 @@
-"""Runs of `stockdesk-clock` at any minute, and desks that they ask."""
+"""Runs of `stockdesk-clock` at any minute, and the desks that they ask."""
 
 import contextlib
 import json
@@ -17,10 +17,10 @@ TOOL = os.path.join(DEPLOY, "stockdesk-clock")
 MINUTE = 29_979_360
 DAY = 1_440
 
-# a run that gets no answer takes half as long
+# a run that gets no answer takes half as long as this
 PATIENCE = 120
 
-# the program as it is, but that the system's clock stands still
+# runs the program as it is, with a system clock that stands still
 AT = """import runpy, sys, time
 seconds, sys.argv = float(sys.argv[1]), sys.argv[2:]
 time.time = lambda: seconds
@@ -28,14 +28,14 @@ sys.path.insert(0, sys.argv[0].rpartition("/")[0])
 runpy.run_path(sys.argv[0], run_name="__main__")
 """
 
-# how a run ends: its status, its output, and what it tells of a fault
+# how a run ends: its status, its output, and what it says of a fault
 End = tuple[int, str, str]
 
 NOTHING: End = (0, "", "")
 
 
 class Desk:
-    """A desk with one field of 100 pieces, and how often and where it is served."""
+    """A desk with one field of 100 pieces, which may be served several times, on one port."""
 
     def __init__(self, program: str, folder: str, name: str = "desk.db"):
         self.program, self.path = program, new_desk(program, folder, name)
@@ -76,7 +76,7 @@ class Desk:
         return self.ask("/v1/desk")["places"]
 
     def expect(self, states: Sequence[str], places: int, clock: int) -> None:
-        """The orders from 1 on stand so, and so many places are taken."""
+        """The orders from 1 on have these states, and so many places are taken."""
         found = [self.state(number) for number in range(1, len(states) + 1)]
         expect(found == list(states), f"{found} and not {list(states)}")
         told = self.ask("/v1/desk")
@@ -84,12 +84,12 @@ class Desk:
 
 
 def at(minute: int, seconds: float = 0) -> list[str]:
-    """What runs the tool at that minute, so many seconds later."""
+    """The words that run the tool at that minute and so many seconds."""
     return [sys.executable, "-c", AT, str(60 * minute + seconds), TOOL]
 
 
 class Clock:
-    """Runs on a port, with a file of what was seen."""
+    """Runs on a port, with a file of the minute that was seen last."""
 
     def __init__(self, port: int, folder: str, name: str = "seen"):
         self.port, self.path = port, os.path.join(folder, name)
@@ -105,7 +105,7 @@ class Clock:
         return end_of(self.start(minute, *options))
 
     def see(self, minute: int) -> None:
-        """As a run at that minute leaves it."""
+        """Writes the file as a run at that minute leaves it."""
         with open(self.path, "w", encoding="ascii") as file:
             file.write(f"{minute}\n")
 
@@ -129,14 +129,14 @@ def end_of(run: subprocess.Popen[str]) -> End:
 
 
 def expect_ended(found: End, minute: int, count: str) -> None:
-    """A run that tells that so many orders were due at that minute, and that all were ended."""
+    """The run says that so many orders were due at that minute and that all were ended."""
     status, out, errors = found
     is_told = out.startswith(f"orders due by {minute} (") and out.endswith(f"): {count}; `expire {minute}` is done\n")
     expect((status, errors) == (0, "") and is_told and out.count("\n") == 1, f"{found}")
 
 
 def expect_fault(found: End, *words: str) -> None:
-    """A run that did nothing, and says why in one line that has these words."""
+    """The run did nothing, and says why in one line, which has these words."""
     status, out, errors = found
     is_told = errors.startswith("stockdesk-clock: not done: ") and errors.count("\n") == 1
     expect((status, out) == (1, "") and is_told and all(word in errors for word in words), f"{found} without {words}")

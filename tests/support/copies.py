@@ -27,7 +27,7 @@ CLIENTS = 4
 # how often each client delivers, in seconds
 PAUSE = 0.04
 
-# a desk of which nobody hears for so long stands still, in seconds; a slow disk holds it for less
+# a desk that has not answered for so many seconds stands still; a slow disk stops it for less
 STANDS = 10
 
 SMALL_DISK = 16_000_000
@@ -39,7 +39,7 @@ NO_COPY = re.compile("stockdesk-backup: no copy was made: .+\n")
 
 @dataclass
 class Served:
-    """A desk that is served, over the front where there is one."""
+    """A desk that is served, behind the front where there is one."""
 
     process: subprocess.Popen
     file: str
@@ -53,7 +53,7 @@ def desk_of(service: Service, path: str) -> Served:
 
 @contextlib.contextmanager
 def served(program: str, folder: str) -> Iterator[Served]:
-    """Over the service alone it is one client's."""
+    """A desk that is served. Without a front it serves one client."""
     if fronts.is_there():
         with Front(program, folder) as front:
             yield Served(front.desk, front.file, front.connect, CLIENTS)
@@ -67,7 +67,7 @@ def served(program: str, folder: str) -> Iterator[Served]:
 @contextlib.contextmanager
 def alone(program: str, path: str) -> Iterator[Service]:
     service = Service(program, path, 1)
-    # these go on for longer than a test of the service
+    # these tests go on for longer than the service's clock allows
     service.clock.cancel()
     try:
         yield service
@@ -78,7 +78,7 @@ def alone(program: str, path: str) -> Iterator[Service]:
 
 @dataclass
 class Load:
-    """Clients that deliver, one piece at a time: the keys that were sent, and the places that were answered."""
+    """Clients that deliver, one piece at a time: the keys that they sent, and the places in their answers."""
 
     desk: Served
     pause: float
@@ -100,7 +100,7 @@ class Load:
         connection.close()
 
     def expect_goes_on(self) -> None:
-        """More is answered than was on its way: a desk that stands still answers nothing."""
+        """More is answered than what was on its way: a desk that stands still answers nothing."""
         want, latest = len(self.answered) + self.desk.clients + 1, time.monotonic() + STANDS
         while len(self.answered) < want and time.monotonic() < latest:
             time.sleep(0.005)
@@ -130,14 +130,14 @@ def words_of(desk: Served, folder: str, program: str) -> list[str]:
 
 
 def ended(words: list[str], limit: int | None = None) -> tuple[int, str, str]:
-    """How a tool ends, what it writes and what it tells; its files may have so many bytes."""
+    """How a tool ends, what it writes and what it says of a fault; a limit may say how many bytes its files may have."""
     bound = None if limit is None else lambda: resource.setrlimit(resource.RLIMIT_FSIZE, (limit, limit))
     run = subprocess.run(words, capture_output=True, timeout=SECONDS, preexec_fn=bound)
     return run.returncode, run.stdout.decode(), run.stderr.decode()
 
 
 def copied(words: list[str]) -> tuple[str, float]:
-    """The path of a copy that is made, and for how many milliseconds the desk was held."""
+    """The path of a copy that the tool makes, and for how many milliseconds it stopped the desk."""
     status, out, told = ended(words)
     held = HELD.fullmatch(told)
     expect((status, bool(held)) == (0, True) and NAME.fullmatch(out.rstrip("\n")), f"{status}, {out!r}, {told!r}")
@@ -150,7 +150,7 @@ def stands_still(process: subprocess.Popen) -> bool:
 
 
 def until_held(desk: Served, words: list[str]) -> subprocess.Popen:
-    """A tool that was started and has the desk held just now, or has ended."""
+    """A tool that was started and just now holds the desk still, or has ended."""
     tool = subprocess.Popen(words, stdout=subprocess.DEVNULL, stderr=subprocess.DEVNULL)
     while tool.poll() is None and not stands_still(desk.process):
         pass
@@ -158,8 +158,8 @@ def until_held(desk: Served, words: list[str]) -> subprocess.Popen:
 
 
 def expect_copy(program: str, path: str, before: list, sent: list[str]) -> None:
-    """It is one file, which the program opens; it has all that was answered before, each at its place, and nothing that was not
-    sent; the fields are as those make them."""
+    """The copy is one file, which the program opens. It has all that was answered before, each command at its place, and nothing
+    that was not sent; its fields are as these commands make them."""
     expect(not os.path.exists(path + "-wal"), f"{path} has a log")
     shown = done(program, ["run", path], "".join(f"? field N1 A-{n}\n" for n in range(1, FIELDS + 1)))
     with contextlib.closing(sqlite3.connect(path)) as database:
@@ -176,14 +176,16 @@ def expect_copy(program: str, path: str, before: list, sent: list[str]) -> None:
 
 
 def contents(folder: str) -> dict[str, bytes | None]:
-    """The bytes of each file in a folder, and the names of what else is there; nothing of a folder that is not there."""
+    """The bytes of each file in a folder, by name, and the names of what else is there; nothing for a folder that does not
+    exist."""
     names = os.listdir(folder) if os.path.isdir(folder) else []
     paths = {name: os.path.join(folder, name) for name in names}
     return {name: bytes_of(path) if os.path.isfile(path) else None for name, path in paths.items()}
 
 
 def expect_refused(words: list[str], want: str) -> None:
-    """With status 1 and one line, behind that of a hold if there was one; the folder of the file is as it was."""
+    """The tool ends with status 1 and one line, which comes after that of a hold if there was one; the file's folder is as it
+    was."""
     before = contents(os.path.dirname(words[2]))
     status, out, told = ended(words)
     line = told.splitlines()[-1] if told else ""

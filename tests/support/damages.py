@@ -1,4 +1,4 @@
-"""Random damage of a database: of the bytes of its file or its log, or of one of its rows."""
+"""Random damage of a database: to the bytes of its file or its log, or to one of its rows."""
 
 import contextlib
 from dataclasses import dataclass
@@ -12,7 +12,8 @@ GREATEST = 2**63 - 1
 
 
 def damaged(chance: Chance, data: bytes) -> bytes:
-    """A database's bytes with damage: bits turned, a page zeroed or put over another, the end cut off or more put behind."""
+    """A database's bytes with damage: bits are turned, a page is zeroed or put over another, the end is cut off, or more is put
+    behind the end."""
     file, pages = bytearray(data), max(1, len(data) // PAGE)
     first, other = PAGE * chance.whole(0, pages - 1), PAGE * chance.whole(0, pages - 1)
     kind = chance.whole(0, 5)
@@ -30,7 +31,7 @@ def damaged(chance: Chance, data: bytes) -> bytes:
 
 
 def turn_bits(chance: Chance, file: bytearray, first: int) -> None:
-    """Most of a page is empty, so half of the turned bits are where something is."""
+    """Turns bits. Most of a page is empty, so half of the turned bits are where something is written."""
     for _ in range(chance.whole(1, 8)):
         there = [at for at in range(first, min(first + PAGE, len(file))) if file[at]] if chance.share(50) else []
         at = chance.one_of(there or range(len(file)))
@@ -39,8 +40,8 @@ def turn_bits(chance: Chance, file: bytearray, first: int) -> None:
 
 @dataclass
 class RowChange:
-    """One row of a table is taken out, or one of its columns has another value: that of another row, or one near its own. The
-    numbers of the two rows go round."""
+    """One row of a table is taken out, or one of its columns gets another value: that of another row, or one near its own. The
+    numbers of the two rows wrap around."""
 
     table: str
     column: str
@@ -49,7 +50,7 @@ class RowChange:
     kind: int
 
     def put(self, path: str) -> None:
-        """Changes the file, but for what its tables do not take."""
+        """Changes the file, except where its tables do not accept the change."""
         with contextlib.closing(sqlite3.connect(path)) as database:
             if not database.execute("SELECT * FROM sqlite_schema WHERE name = ?", [self.table]).fetchall():
                 return
@@ -69,15 +70,15 @@ class RowChange:
 
 
 def others_of(value: int | str) -> list[int | str]:
-    """Six that are near it, or at the ends."""
+    """Six values that are near it, or at the ends of the range."""
     if isinstance(value, int):
         return [value + 1, value - 1, -1, 0, GREATEST, -GREATEST - 1]
     return ["", value + "0", "n1", value[:-1], value.lower(), value + " "]
 
 
 def mend_sums(path: str) -> None:
-    """Puts the sums of the other rows into those of fields, where the rows tell a desk."""
-    # a row that others tell of is not there, or a code is none; or a sum is beyond 64 bits
+    """Where the rows describe a desk, writes the sums of the other rows into the rows of fields."""
+    # a row that others refer to is missing, or a code is not one; or a sum is beyond 64 bits
     with contextlib.suppress(LookupError, OverflowError), contextlib.closing(sqlite3.connect(path)) as database, database:
         desk = desk_of(tables_of(path))
         numbers = [(*desk.numbers(name), *name) for name in desk.fields]

@@ -9,7 +9,7 @@ from support.service import TOGETHER, Service, ask, post
 
 
 class Chain:
-    """Desks that are served: each with two articles at one branch; the clock is at 10."""
+    """Desks that are served, each with two articles at one branch; the clock is at 10."""
 
     def __init__(self, program: str, folder: str, count: int, start: int, room: int):
         self.program, self.keys = program, 0
@@ -42,7 +42,7 @@ class Chain:
         return [self.shown(number, f"/v1/fields/N{number}/A-{article}")["value"] for number in range(len(self.services))]
 
     def free(self) -> bool:
-        """Whether no order holds anything."""
+        """Whether no order holds anything any more."""
         fields = [self.shown(number, f"/v1/fields/N{number}/A-1") for number in range(len(self.services))]
         return all(field["inf"] == field["value"] == field["sup"] for field in fields)
 
@@ -53,7 +53,7 @@ class Chain:
 
 @contextlib.contextmanager
 def chain(program: str, folder: str, count: int = 2, start: int = 40, room: int = 78) -> Iterator[Chain]:
-    """By default with room for 38 pieces more on each field."""
+    """Serves such desks. By default there is room for 38 pieces more on each field."""
     desks = Chain(program, folder, count, start, room)
     try:
         yield desks

@@ -1,4 +1,4 @@
-"""Desks by the rules for tests of deals: what they answer over HTTP, also with few places, and how a deal stands there."""
+"""Desks by the rules for tests of deals: what they answer over HTTP, also with few places left, and how a deal stands on them."""
 
 import json
 from collections.abc import Iterable, Sequence
@@ -8,7 +8,7 @@ from typing import Any
 from support.messages import answer_to
 from support.rules import ABORTED, COMMITTED, OPEN, PLACES, Order, Rules
 
-# a deal, the moment until which its first desk may wait for it, and the upper bound of its fields
+# the number of a deal, the moment until which its first desk may wait for it, and the upper bound of its fields
 NUMBER = 900_000_001
 MOMENT = 500
 ROOM = 100
@@ -21,14 +21,14 @@ Told = tuple[int, dict[str, Any]]
 
 
 class Places(Rules):
-    """A desk by the rules, of whose places some are taken already."""
+    """A desk by the rules; some of its places are taken already."""
 
     def __init__(self, taken: int = 0, places: int = PLACES):
         super().__init__(places)
         self.kept = {f"R{number}": (number, "expire 0") for number in range(1, taken + 1)}
 
     def does(self, key: str, command: str) -> Told:
-        """Does a command, and answers it."""
+        """Carries out a command, and answers it."""
         told = self.would(key, command)
         self.took(key, command, told)
         return told
@@ -37,12 +37,12 @@ class Places(Rules):
         return answer_to(self.reply(f"{key} {command}"))
 
     def took(self, key: str, command: str, told: Told) -> None:
-        """A command was answered so."""
+        """The command was answered so: carries it out if it was accepted and is new."""
         if told[0] == 200 and key not in self.kept:
             self.carry_out(key, command)
 
     def shows(self, target: str) -> Told:
-        """The answer to a view, of those that carriers ask for."""
+        """The answer to a view, for the views that carriers ask for."""
         _, version, view, *names = target.split("/")
         assert version == "v1"
         if view == "keys":
@@ -60,7 +60,7 @@ class Places(Rules):
         return [self.shows(f"/v1/orders/{each}")[1] for each in found[:SHOWN_AT_ONCE]]
 
     def answers(self, method: str, target: str, body: str | None) -> Told:
-        """What a message is answered, and does."""
+        """The answer to a message, which is carried out."""
         if method == "GET":
             return self.shows(target)
         return self.does(*command_in(body))
@@ -77,7 +77,8 @@ def is_all_used(order: Order | None) -> bool:
 
 
 def fault(desks: Sequence[Rules], number: int = NUMBER) -> str | None:
-    """Why what a deal has moved is neither all, nor nothing, nor under way; or why it may stay open for good."""
+    """What is wrong where what a deal has moved is neither all, nor nothing, nor under way, or where the deal may stay open for
+    ever; else None."""
     first, *others = [desk.orders.get(number) for desk in desks]
     if first is None:
         return "an order at another desk alone" if any(others) else None
@@ -88,7 +89,7 @@ def fault(desks: Sequence[Rules], number: int = NUMBER) -> str | None:
 
 
 def is_moved(desks: Sequence[Rules], number: int = NUMBER) -> bool:
-    """Whether all is moved, where a deal has ended; AssertionError: it has not."""
+    """Whether all is moved by a deal that has ended. AssertionError: it has not ended."""
     found = [desk.orders.get(number) for desk in desks]
     states = {order.state for order in found if order}
     moved = states == {COMMITTED} and all(found)
@@ -97,7 +98,7 @@ def is_moved(desks: Sequence[Rules], number: int = NUMBER) -> bool:
 
 
 def bounds_fault(desks: Iterable[Rules]) -> str | None:
-    """Which field an outcome of the open orders leads out of its bounds."""
+    """A field that some outcome of the open orders would lead out of its bounds, or None."""
     for desk in desks:
         for name, field in desk.fields.items():
             value, inf, sup = desk.numbers(name)
@@ -107,12 +108,13 @@ def bounds_fault(desks: Iterable[Rules]) -> str | None:
 
 
 def words_of(number: int, article: int) -> str:
-    """A desk's field."""
+    """The branch and the article of a desk's field."""
     return f"N{number} A-{article}"
 
 
 def others_command(chance: Random, number: int, expires: bool) -> str:
-    """A command of somebody else on the fields that a deal has at a desk, or an expiry, but of the moment that nobody sends."""
+    """A command of somebody else on the fields that a deal has at a desk; or an expiry, but never to the moment that nobody
+    sends."""
     words, order = words_of(number, chance.choice([1, 1, 2])), chance.randint(1, 4)
     moves = [f"{verb} {words} {chance.randint(1, 9)}" for verb in ("deliver", "writeoff")]
     opens = [f"open {order} 3999999999 {way} {words} {chance.randint(1, 4)}" for way in ("take", "add")]

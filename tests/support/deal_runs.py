@@ -1,7 +1,7 @@
-"""Runs of `stockdesk-between` before the built program, each a deal between two or three desks. At chosen messages carriers and
-desks are killed, before the message is delivered, behind it, or while the desk is at it; or it is kept back and comes much later.
-Others are at work, and desks are filled up, meanwhile. Behind each message what the deal has moved is all, nothing or under way;
-and each answer is the one that the rules want."""
+"""Runs of `stockdesk-between` on the built program, each with a deal between two or three desks. At chosen messages carriers and
+desks are killed: before the message is delivered, after it, or while the desk works on it; or the message is kept back and comes
+much later. Meanwhile others are at work, and desks are filled up. After each message what the deal has moved is all, nothing or
+under way, and each answer is the one that the rules give."""
 
 import os
 import random
@@ -23,7 +23,7 @@ CARRIER = os.path.join(DEPLOY, "stockdesk-between")
 KILLED = -9
 # in this many tries one carrier is not killed
 MOST_CALLS = 60
-# a desk that is killed while it is at a message is so within so many seconds
+# a desk that is to be killed while it works on a message is killed within so many seconds
 WITHIN = 0.004
 
 # who is killed
@@ -33,7 +33,7 @@ Victims = frozenset[str | int]
 
 @dataclass(frozen=True)
 class Stop:
-    """At which message of a run, at which point of it, who is killed."""
+    """At which message of a run, and at which point of that message, who is killed."""
 
     at: int
     point: str
@@ -42,7 +42,7 @@ class Stop:
 
 @dataclass(frozen=True)
 class Case:
-    """A run: its stops, and what else is so."""
+    """A run: its stops, and what else happens in it."""
 
     name: str
     stops: tuple[Stop, ...] = ()
@@ -94,7 +94,7 @@ class Run:
     # ---- messages
 
     def take(self, number: int, method: str, target: str, body: bytes | None) -> Told | None:
-        """A carrier's message on its way to a desk: one after the other."""
+        """A carrier's message on its way to a desk; messages come one after the other."""
         with self.lock:
             if self.is_over or self.fault:
                 return None
@@ -121,7 +121,7 @@ class Run:
         return f"K{self.chance.getrandbits(60)}"
 
     def stopped(self, stop: Stop, number: int, method: str, target: str, body: bytes | None) -> Told | None:
-        """A message at which somebody is killed."""
+        """Takes a message at which somebody is killed."""
         desk, told = self.desks[number], None
         self.counts.found[f"stops {stop.point}"] += 1
         if stop.point == "within":
@@ -136,7 +136,7 @@ class Run:
             self.meanwhile(each)
         if stop.point == "late" or stop.victims & {CARRIERS, number}:
             return None
-        # where another was killed, the way to this desk goes on
+        # where somebody else was killed, the way to this desk goes on
         return told or desk.answers(method, target, body)
 
     def kill(self, victim: str | int) -> None:
@@ -171,7 +171,7 @@ class Run:
     # ---- carriers
 
     def terms(self) -> list[str]:
-        """What the deal does, as words: transfers between two desks, else lines."""
+        """What the deal does, in words: transfers between two desks, lines between more."""
         if self.case.desks == 2:
             return [word for article in range(1, self.case.lines + 1) for word in ("--move", f"A-{article}", "7", "N0", "N1")]
         words = [
@@ -186,7 +186,7 @@ class Run:
         return subprocess.Popen(told, stdout=subprocess.PIPE, stderr=subprocess.PIPE, text=True)
 
     def play(self) -> None:
-        """Until a carrier is not killed; then what is late comes, and the deal is taken up."""
+        """Plays until a carrier is not killed; then late messages come in, and the deal is taken up."""
         words, ended = [*self.terms(), "--until", str(MOMENT)], []
         for _ in range(MOST_CALLS):
             with self.lock:
@@ -209,7 +209,7 @@ class Run:
             expect(status in (0, 1, KILLED) and not errors, f"status {status}: {out}{errors}")
 
     def take_up(self, was_told_moved: bool) -> None:
-        """The last carrier: behind it no order is open, and all is moved or nothing."""
+        """Runs the last carrier. After it no order is open, and all is moved or nothing."""
         resumes_all = self.case.resumes_all
         last = self.call("--resume-all", "--held", "--idle", "0") if resumes_all else self.call(str(NUMBER))
         out, errors = last.communicate(timeout=4 * SECONDS)
@@ -247,12 +247,13 @@ def play(templates: Templates, folder: str, case: Case, seed: object, counts: Co
 POINTS = ["before", "behind"]
 SIDES: list[str | int] = [CARRIERS, 0, 1]
 VICTIMS: list[Victims] = [frozenset(who) for count in (1, 2, 3) for who in combinations(SIDES, count)]
-# an undisturbed deal of one line has so many messages between two desks, and between three
+# how many messages an undisturbed deal of one line has between two desks, and between three
 STEPS, STEPS_OF_THREE = 10, 15
 
 
 def each_step(points: Sequence[str] = POINTS, victims: Sequence[Victims] = VICTIMS) -> Iterator[Case]:
-    """Between two desks: each message, point and victims once; messages that are late; and desks killed while they are at one."""
+    """Runs between two desks: one for each message, point and victims; runs with late messages; and runs where a desk is killed
+    while it works on a message."""
     for at in range(1, STEPS + 1):
         for who in victims:
             for point in points:
@@ -263,7 +264,7 @@ def each_step(points: Sequence[str] = POINTS, victims: Sequence[Victims] = VICTI
 
 
 def each_step_of_three() -> Iterator[Case]:
-    """Between three desks, of two lines at each, so with more uses."""
+    """Runs between three desks, with two lines at each, and so with more uses."""
     for at in range(1, STEPS_OF_THREE + 3):
         for point in POINTS:
             who: Victims = frozenset([CARRIERS, at % 3] if at % 2 else [CARRIERS])
@@ -271,7 +272,7 @@ def each_step_of_three() -> Iterator[Case]:
 
 
 def few_places(steps: Iterable[int]) -> Iterator[Case]:
-    """A desk with few places left, and one that is filled up behind a step."""
+    """Runs where a desk has few places left, and where a desk is filled up after a step."""
     for number, left in [(number, left) for left in (3, 4, 5, 6) for number in (0, 1)]:
         yield Case(f"{left} places", (Stop(6, "behind", frozenset([CARRIERS])),), left=((number, left),))
     for at in steps:
@@ -280,7 +281,7 @@ def few_places(steps: Iterable[int]) -> Iterator[Case]:
 
 
 def by_chance(count: int, seed: object) -> Iterator[Case]:
-    """Several stops, several carriers, others at work, little stock, little room, few places."""
+    """Runs with several stops and several carriers, others at work, little stock, little room and few places."""
     chance = random.Random(f"cases {seed}")
     for number in range(count):
         desks = chance.choice([2, 2, 3])

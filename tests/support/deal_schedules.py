@@ -1,7 +1,7 @@
-"""Carriers of deals in threads, before desks by the rules: at each message chance says who goes on, and whether the message is
-lost, late, or comes twice, the carrier is killed before it or behind it, or waits in vain, or others are at work. Behind each
-message what the deal has moved is all, nothing or under way, and at the end it is all or nothing. One thread runs at a time, so
-a seed tells all."""
+"""Carriers of deals in threads, on desks by the rules. At each message chance decides who goes on, and whether the message is
+lost, late or comes twice, whether the carrier is killed before or after it or waits in vain, or whether others are at work. After
+each message what the deal has moved is all, nothing or under way; at the end it is all or nothing. One thread runs at a time, so
+a seed determines everything."""
 
 import queue
 import random
@@ -31,9 +31,9 @@ from support.rules import ABORTED, COMMITTED, PLACES
 import stockdesk_deals
 from stockdesk_remote import Desk, NoAnswer
 
-# a run that goes on for so many messages has no end
+# a run that goes on for so many messages never ends
 MOST_MESSAGES = 3_000
-# what becomes of a message and its carrier; who has no answer asks again, or has waited in vain
+# what becomes of a message and of its carrier; a carrier that has no answer asks again, or has waited in vain
 TROUBLES = ["lost", "answer lost", "late", "twice", "killed before", "killed behind", "killed, late"]
 TROUBLES += ["in vain, before", "in vain, behind", "in vain, late"]
 SECONDS = 60
@@ -52,7 +52,7 @@ class Message:
 
 
 class Wire(Desk):
-    """A desk as a carrier asks it: the answer comes when the run lets it come."""
+    """A desk as a carrier asks it: an answer comes when the run lets it come."""
 
     def __init__(self, carrier: "Carrier", number: int):
         super().__init__(f"desk {number}")
@@ -63,7 +63,7 @@ class Wire(Desk):
 
 
 class Carrier(threading.Thread):
-    """A carrier that tells whenever it waits for an answer, and when it ends."""
+    """A carrier that says whenever it waits for an answer, and when it ends."""
 
     def __init__(self, act: Callable[["Carrier"], Any], told: "queue.Queue[Carrier]"):
         super().__init__(daemon=True)
@@ -192,11 +192,11 @@ class Run:
             self.next_one()
 
     def next_one(self) -> None:
-        """Waits for the one thread that runs."""
+        """Waits until the one thread that runs waits or has ended."""
         self.told.get(timeout=SECONDS)
 
     def carry(self, acts: Sequence[Callable[[Carrier], Any]]) -> list[Carrier]:
-        """Carriers at once, until all have ended."""
+        """Runs carriers at once, until all have ended."""
         carriers = [Carrier(act, self.told) for act in acts]
         for carrier in carriers:
             carrier.start()
@@ -214,14 +214,14 @@ class Run:
             expect(not waiting, "no end")
         finally:
             for carrier in carriers:
-                # those of a run that failed
+                # the carriers of a run that failed
                 carrier.answers.put(None)
         for carrier in carriers:
             expect(carrier.fault is None, f"{type(carrier.fault).__name__}: {carrier.fault}")
         return carriers
 
     def play(self) -> None:
-        """Until one is not killed; then what is late comes, and the deal is taken up."""
+        """Plays until a carrier is not killed; then late messages come in, and the deal is taken up."""
         told: list[Carrier] = []
         while not any(carrier.end for carrier in told):
             acts = self.chance.choice([[self.knows], [self.takes_up], [self.knows] * 2, [self.knows, self.takes_up, self.knows]])

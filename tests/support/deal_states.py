@@ -1,5 +1,6 @@
-"""All states of a deal's orders that can be reached where each command may come at any time while its guard holds: with all
-guards, or with one left out. An order is None, or its state and whether it has used all; the first desk's is in front."""
+"""All states of a deal's orders that can be reached where each command may come at any moment at which its guard holds: with all
+guards, or with one left out. An order is None, or its state and whether it has used all that it holds; that of the first desk
+stands first."""
 
 from collections.abc import Callable, Iterator
 
@@ -12,7 +13,7 @@ Guard = Callable[[Orders], bool]
 # the expiry that nobody sends
 EXPIRE = "expire"
 
-# each guard, by the verb of the command, and whether the desk is another than the first, that keeps it
+# for each guard the verb of its command, and whether it is for desks other than the first
 GUARDS: dict[str, tuple[str, bool, Guard]] = {
     "the order is at the first desk, before one is opened at another": ("open", True, lambda orders: orders[0] is not None),
     "all others have used all, before the first desk's order uses": (
@@ -40,7 +41,7 @@ def has_guards(step: Step, orders: Orders, without: str | None = None) -> bool:
 
 
 def done(step: Step, orders: Orders) -> Orders | None:
-    """The orders behind a command, or None where a desk refuses it."""
+    """The orders after a command, or None where a desk refuses it."""
     order = orders[step.side]
     if step.verb == "open":
         new = (OPEN, False) if order is None else None
@@ -59,7 +60,7 @@ def all_steps(desks: int) -> list[Step]:
 
 
 def after(orders: Orders, without: str | None = None) -> Iterator[Orders]:
-    """The states behind one command more."""
+    """The states after one command more."""
     for step in all_steps(len(orders)):
         found = done(step, orders) if has_guards(step, orders, without) else None
         if found:
@@ -67,7 +68,7 @@ def after(orders: Orders, without: str | None = None) -> Iterator[Orders]:
 
 
 def fault(orders: Orders) -> str | None:
-    """Why a state is neither all, nor nothing, nor under way; or why no command may end an order."""
+    """What is wrong with a state: it is neither all, nor nothing, nor under way; or no command may end an order."""
     first, *others = orders
     if first is None:
         return "an order at another desk alone: nothing may end it" if any(others) else None
@@ -80,7 +81,7 @@ def fault(orders: Orders) -> str | None:
 
 
 def reached(desks: int, without: str | None = None) -> tuple[list[Orders], str | None]:
-    """The states that can be reached, and the first fault among them, behind which none is looked for."""
+    """The states that can be reached, and the first fault among them, after which the search stops."""
     start: Orders = (None,) * desks
     ways = [start]
     seen = {start}

@@ -16,13 +16,13 @@ from support.messages import answer, compact
 from support.programs import SECONDS, done, expect
 from support.service import TOGETHER, Service
 
-# the most seconds of a desk, and how many connections it serves
+# how long a desk lives at most, in seconds, and how many connections it serves
 LIFE = 10 * SECONDS
 CONNECTIONS = 1_000_000
 
 
 class Templates:
-    """Files of desks to be copied: an empty one, and such with few places left."""
+    """Files of desks to be copied: an empty desk, and desks with few places left."""
 
     def __init__(self, program: str, folder: str):
         self.program, self.folder = program, folder
@@ -30,7 +30,7 @@ class Templates:
         self.desks: Desks | None = None
 
     def made_for(self, left: int | None) -> str:
-        """The path of one with so many places left, or with all."""
+        """The path of a desk with so many places left, or with all of them."""
         if left not in self.made:
             self.made[left] = os.path.join(self.folder, f"template-{left}.db")
             self.make(left)
@@ -46,7 +46,7 @@ class Templates:
 
 
 class Served:
-    """A desk in a file that is served, beside the same by the rules: each answer has to be the rules'."""
+    """A desk in a file that is served, beside the same desk by the rules: each answer has to be that of the rules."""
 
     def __init__(self, templates: Templates, folder: str, number: int, left: int | None = None):
         self.program, self.number = templates.program, number
@@ -82,7 +82,7 @@ class Served:
         return self.rules.shows(target) if method == "GET" else self.rules.would(*command_in(body))
 
     def answers(self, method: str, target: str, body: bytes | str | None = None) -> Told:
-        """What the desk answers, which is what the rules want."""
+        """What the desk answers; it has to be what the rules answer."""
         want, found = self.expected(method, target, body), self.asked(method, target, body)
         expect(found == want, f"desk {self.number}: {method} {target} {body!r}: {found} and not {want}")
         if method == "POST":
@@ -93,7 +93,8 @@ class Served:
         return self.answers("POST", "/v1/commands", compact({"key": key, "command": command}))
 
     def killed_within(self, method: str, target: str, body: bytes | None, seconds: float) -> Told | None:
-        """The desk is killed so long behind a message, and started again: the answer, if it came. What was answered is kept."""
+        """Kills the desk so many seconds after a message, and starts it again. Returns the answer, if it came; what was answered
+        is kept."""
         want, found = self.expected(method, target, body), None
         killer = threading.Timer(seconds, self.service.process.kill)
         killer.start()
@@ -123,7 +124,7 @@ class Served:
         expect(told[0] == 200, f"no field: {told}")
 
 
-# what is done with a message on its way to a desk: what it is answered, or None where no answer comes
+# what is done with a message on its way to a desk; returns the answer, or None where no answer comes
 Deliver = Callable[[int, str, str, bytes | None], Told | None]
 
 
@@ -140,7 +141,7 @@ class Way:
             def do_POST(self) -> None:
                 length = int(self.headers.get("Content-Length", 0))
                 body = self.rfile.read(length)
-                # a carrier may be killed within a message
+                # a carrier may be killed while its message is answered
                 told = deliver(number, self.command, self.path, body or None) if len(body) == length else None
                 if told is None:
                     self.close_connection = True

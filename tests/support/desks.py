@@ -1,4 +1,4 @@
-"""Files with rows of one's own in the tables of a new desk: changes of a good ledger, and desks of so many rows of a kind."""
+"""Files with chosen rows in the tables of a new desk: changes of a good ledger, and desks with so many rows of a kind."""
 
 import contextlib
 import os
@@ -14,7 +14,7 @@ OPEN_ORDER = ["field,N1,A-1,0,100,40,40,35,40", "orders,7,0,120,0", "line,7,1,N1
 
 
 class Desks:
-    """Files in a folder, each with rows of its own in the tables of a new desk."""
+    """Files in a folder, each a new desk with chosen rows in its tables."""
 
     def __init__(self, program: str, folder: str):
         self.program = program
@@ -23,7 +23,7 @@ class Desks:
 
     def put(self, rows: Iterable[str]) -> None:
         shutil.copyfile(self.new, self.path)
-        # nothing of what stood there before
+        # nothing stays of a file that was there before
         with contextlib.suppress(FileNotFoundError):
             os.remove(self.path + "-wal")
         found: dict[str, list[list[str]]] = {table: [] for table in COLUMNS}
@@ -38,7 +38,7 @@ class Desks:
             database.execute("PRAGMA journal_mode = WAL")
 
     def expect_end(self, rows: Iterable[str], want: End) -> None:
-        """A run on these rows ends so, and leaves the file as it was."""
+        """A run on a desk with these rows ends so, and leaves the file as it was."""
         self.put(rows)
         found = bytes_of(self.path)
         end = ended(self.program, ["run", self.path], "K99 expire 4000000000\n")
@@ -52,7 +52,7 @@ class Desks:
 
 
 def changed(change: Sequence[str]) -> list[str]:
-    """The good rows with parts put in place of others, which stand in front of them."""
+    """The good rows with parts replaced; each replacement stands after its part."""
     rows = GOOD
     for before, behind in zip(change[::2], change[1::2], strict=True):
         expect(rows.count(before) == 1, f"{before} is not there once")

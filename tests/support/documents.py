@@ -21,6 +21,6 @@ def links_of(document: str) -> Iterator[tuple[str, str, str]]:
 
 
 def headings_of(document: str) -> list[str]:
-    """As they are linked: in small letters, a hyphen for each space, and without other signs."""
+    """The names by which headings are linked: in small letters, with a hyphen for each space and without other signs."""
     titles = re.findall(r"^#+ (.*)$", CODE.sub("", text_of(document)), re.MULTILINE)
     return [re.sub(r"[^\w\- ]", "", title.lower()).replace(" ", "-") for title in titles]

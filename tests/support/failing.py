@@ -1,5 +1,5 @@
-"""Runs of the built program of which calls fail that else would not: allocations, reads and writes, and what its store calls; or
-whose syncs are slow."""
+"""Runs of the built program in which calls fail that otherwise would not: allocations, reads and writes, and the calls of its
+store; or in which syncs are slow."""
 
 import contextlib
 import errno
@@ -20,9 +20,9 @@ from support.programs import End, ended, expect
 
 SOURCE = os.path.join(os.path.dirname(os.path.abspath(__file__)), "failing.c")
 SLOW_SOURCE = os.path.join(TOP, "bench", "slow_sync.c")
-# a number that no call has
+# a number that no call reaches
 NEVER = 1 << 62
-# of so many allocations one is refused with all behind it
+# of so many allocations one is refused together with all that follow
 FOR_GOOD = 13
 LANES = min(4, os.cpu_count() or 1)
 # memory comes in few large pieces, which makes a run cheaper
@@ -33,7 +33,8 @@ T = TypeVar("T")
 
 @dataclass(frozen=True)
 class Failure:
-    """Which calls of a kind fail, and with what error: that with this number, from 1, alone or with all behind it."""
+    """Which calls of a kind fail, and with what error: the call with this number, counted from 1, alone or with all that
+    follow."""
 
     kind: str
     first: int
@@ -45,18 +46,18 @@ class Failure:
 
 
 def refusals(first: int, count: int) -> list[Failure]:
-    """Of so many allocations each is refused, from some number on, and one that does not come; and each of some of them, with all
-    behind it."""
+    """Refusals of each allocation from number `first` to number `count`, and of one that never comes; for some of them also
+    together with all that follow."""
     alone = [Failure("memory", number) for number in range(first, count + 2)]
     return alone + [Failure("memory", number, for_good=True) for number in range(first, count + 1, FOR_GOOD)]
 
 
 class NotBuilt(Exception):
-    """Why there is no library by which calls fail."""
+    """Why there is no library that makes calls fail."""
 
 
 def library_in(folder: str, source: str) -> str:
-    """The path of the library by which calls fail, or syncs are slow."""
+    """The path of the library that makes calls fail, or syncs slow."""
     if not (compiler := shutil.which("cc")):
         raise NotBuilt("cc not here")
     path = os.path.join(folder, os.path.basename(source).replace(".c", ".so"))
@@ -67,7 +68,7 @@ def library_in(folder: str, source: str) -> str:
 
 
 class Failing:
-    """The built program, the library by which its calls fail, and lanes: folders for runs that are tried side by side."""
+    """The built program, the library that makes its calls fail, and lanes: folders for runs that are tried side by side."""
 
     def __init__(self, program: str, folder: str):
         self.program, self.library, self.slow = program, library_in(folder, SOURCE), library_in(folder, SLOW_SOURCE)
@@ -86,7 +87,7 @@ class Failing:
             self.lanes.put(folder)
 
     def environment(self, failure: Failure, lane: str, micros: int = 0) -> dict[str, str]:
-        """In which the program is called so that calls fail, and so many microseconds go by behind each sync."""
+        """The environment in which the program's calls fail so; `micros` microseconds go by after each sync."""
         told = os.path.join(lane, "counted")
         with contextlib.suppress(FileNotFoundError):
             os.remove(told)
@@ -103,7 +104,7 @@ class Failing:
         }
 
     def counted(self, lane: str) -> int:
-        """How many calls there were in the run that is over."""
+        """How many calls there were in the run that just ended."""
         with open(os.path.join(lane, "counted"), encoding="ascii") as file:
             return int(file.read())
 
@@ -113,13 +114,13 @@ class Failing:
         return end, failure.first <= self.counted(lane)
 
     def count(self, kind: str, words: Sequence[str], text: str, lane: str) -> int:
-        """How many calls of a kind there are in a run of which none fails."""
+        """How many calls of a kind there are in a run where none fails."""
         status, _, errors = ended(self.program, words, text, environment=self.environment(Failure(kind, NEVER), lane))
         expect(status in (0, 2), f"{words}: {status}, {errors!r}")
         return self.counted(lane)
 
     def attempt(self, failures: Iterable[Failure], check: Callable[[Failure, str], T]) -> list[T]:
-        """Each failure is tried, side by side in as many lanes as there are."""
+        """Tries each failure, in as many lanes side by side as there are."""
 
         def check_in_lane(failure: Failure) -> T:
             with self.lane() as lane:
@@ -130,7 +131,7 @@ class Failing:
 
 
 class FailingCase(ProgramCase):
-    """Tests of the built program of which calls fail, on files in memory; left out where no library for that can be built."""
+    """Tests of the built program in which calls fail, on files in memory; left out where the library for that cannot be built."""
 
     failing: Failing
     lacking = ""

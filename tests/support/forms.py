@@ -1,4 +1,4 @@
-"""The forms that lines, replies and HTTP answers have, by the rules of the desk."""
+"""The forms that lines, replies and HTTP answers have by the rules of the desk."""
 
 import json
 import re
@@ -28,7 +28,7 @@ COMMANDS = [
     f"expire {MOMENT}",
 ]
 
-# a refusal's name stands at its code
+# the names of the refusals, by their codes
 REFUSALS = """- KeyReused Full FieldThere NoField BadBounds OrderThere NoOrder Ended Past SameField OtherWay TooManyLines
     TooLittle TooMuch NotHeld OverUse TransferFixed ClockBack Firm BadCommand""".split()
 REFUSED = "|".join(f"{code} {name}" for code, name in enumerate(REFUSALS) if name not in ("-", "BadCommand"))
@@ -54,7 +54,7 @@ HEAD = of_bytes(
 )
 SHEET = of_bytes(r"(?:[A-Z0-9][A-Z0-9 -]{15}(?: [ 0-9]{9}[0-9]){5}\n)*total {11} [ 0-9]{13}[0-9]\n")
 
-# the members of an object that an answer shows
+# the members of an object in an answer
 MEMBERS = {
     200: [
         {"place"},
@@ -68,7 +68,7 @@ FIXED = [UNREADABLE, (400, b'{"code":20,"line":0,"refused":"BadCommand"}'), (404
 
 
 def is_answer(line: bytes, reply: bytes) -> bool:
-    """Whether a line of a script may be answered so."""
+    """Whether this may be the reply to a line of a script."""
     if len(line) <= 4_096 and (request := REQUEST.fullmatch(line)):
         found = REPLY.fullmatch(reply)
         return found is not None and found[1] == request[1]
@@ -78,7 +78,8 @@ def is_answer(line: bytes, reply: bytes) -> bool:
 
 
 def is_object(status: int, body: bytes) -> bool:
-    """Whether the body is an object in its one spelling, with the members that an answer of this status has."""
+    """Whether the body is an object in the one spelling that the desk writes, with the members that an answer of this status
+    has."""
     if (status, body) in FIXED:
         return True
     value = json.loads(body)
@@ -88,7 +89,7 @@ def is_object(status: int, body: bytes) -> bool:
 
 
 def answers_of(text: bytes) -> list[tuple[int, bytes]] | None:
-    """The statuses and the bodies of answers one behind the other; None where they have another form."""
+    """The statuses and the bodies of answers that follow one another; None where the text has another form."""
     answers: list[tuple[int, bytes]] = []
     while text:
         head = HEAD.match(text)

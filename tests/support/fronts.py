@@ -1,5 +1,5 @@
 """A desk behind its front, for tests: a certificate, HAProxy with the configuration that is shipped, the program behind it, and
-what is asked through both. The users are those of the example, whose passwords are their names."""
+what is asked through both. The users are those of the example; their passwords are their names."""
 
 import base64
 import http.client
@@ -24,14 +24,14 @@ FIELDS = "".join(f"F{n} field N1 A-{n} 0 1000000 500\n" for n in range(1, 9))
 # a user of each group
 SHOP, WAREHOUSE, OFFICE, BETWEEN = "n1", "w1", "ho", "bt"
 
-# so much is answered that only the tests of the limits meet one
+# the front allows so many answers that only the tests of its limits meet a limit
 NO_LIMITS = dict.fromkeys(
     ["REQUESTS_BY_USER", "COMMANDS_BY_USER", "UNDER_WAY_BY_USER", "REQUESTS_BY_ADDRESS"]
     + ["CONNECTIONS_BY_ADDRESS", "HANDSHAKES_BY_ADDRESS", "FAILURES_BY_ADDRESS"],
     "1000000",
 )
 
-# as the service of systemd serves a desk
+# the options with which the service of systemd serves a desk
 TOGETHER = ["--together", "256"]
 
 Body = dict[str, Any]
@@ -65,7 +65,7 @@ def make_certificate(folder: str) -> None:
 
 
 def added(folder: str, name: str, more: str) -> str:
-    """The path of a copy of a file that is shipped, with this behind it."""
+    """The path of a copy of a file that is shipped, with `more` appended."""
     path = os.path.join(folder, name)
     with open(os.path.join(DEPLOY, name), encoding="utf-8") as shipped, open(path, "w", encoding="utf-8") as file:
         file.write(shipped.read() + more)
@@ -73,9 +73,9 @@ def added(folder: str, name: str, more: str) -> str:
 
 
 class Haproxy:
-    """HAProxy with the configuration that is shipped, or another, before a desk's port, both on 127.0.0.1. `more` is read behind
-    the configuration. Each of `shops`, such as "n2 1 N2", is one more user of the shops, with its orders and branches if it has
-    any; each of `users`, such as "w2 warehouse", one more of another group."""
+    """HAProxy with the configuration that is shipped, or with another, in front of a desk's port, both on 127.0.0.1. `more` is
+    read after the configuration. Each of `shops`, such as "n2 1 N2", is one more user of the shops, with his orders and branches
+    if he has any; each of `users`, such as "w2 warehouse", is one more user of another group."""
 
     def __init__(
         self,
@@ -145,13 +145,13 @@ class Haproxy:
         return found
 
     def tell(self, user: str, command: str, key: str | None = None, desk: str = "") -> tuple[int, Body]:
-        """The status and the object that answers a command, under a key of its own if none is given; `desk` as "/north"."""
+        """The status and the object that answer a command, sent under a new key if none is given; `desk` is as "/north"."""
         status, body = self.ask(user, "POST", f"{desk}/v1/commands", message(key or str(uuid.uuid4()), command))
         return status, json.loads(body)
 
 
 def served(program: str, file: str, port: int, **options: Any) -> subprocess.Popen[bytes]:
-    """A desk in a file, as the service of systemd serves it, which listens."""
+    """Serves the desk in a file as the service of systemd serves it, and returns the process once it listens."""
     words = [program, "serve", file, "--port", str(port), "--connections", "1000000", *TOGETHER]
     desk = subprocess.Popen(words, stdin=subprocess.DEVNULL, stdout=subprocess.PIPE, stderr=subprocess.PIPE, **options)
     told = desk.stdout and desk.stdout.readline()

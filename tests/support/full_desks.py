@@ -1,4 +1,4 @@
-"""Desks that are full, as rows: one that a new desk takes over, and some that need about as many places as it has."""
+"""Full desks, as rows: one that a new desk can take over, and some that need about as many places as there are."""
 
 import random
 
@@ -15,7 +15,8 @@ MIDDLE = 500_000_000
 
 
 def add_order(desk: Rules, generator: random.Random, number: int, state: str) -> None:
-    """Of ten orders one is a transfer, one is firm, and one has used something of each line; of a thousand lines one is large."""
+    """Adds an order. Of ten orders one is a transfer, one is firm, and one has used something of each line; of a thousand lines
+    one is large."""
     is_firm, is_transfer = state != ABORTED and generator.random() < 0.1, generator.random() < 0.1
     until = generator.randint(1 if is_firm else CLOCK + 1, 4_000_000_000)
     names = generator.sample(range(20), 2 if is_transfer else generator.randint(1, 4))
@@ -36,7 +37,7 @@ def leave_no_room(desk: Rules) -> None:
 
 
 def full_rows() -> list[str]:
-    """A desk of 10,000 fields and 90,000 orders that has 1,000 places left for what is not the end of an open order."""
+    """A desk of 10,000 fields and 90,000 orders that has 1,000 places left for commands other than the end of an open order."""
     generator, desk = random.Random(1986), Rules()
     desk.clock = CLOCK
     names = [(f"N{n % 20}", f"A{n // 20}") for n in range(FIELDS)]
@@ -51,8 +52,8 @@ def full_rows() -> list[str]:
 
 
 def long_rows(uses: int) -> tuple[list[str], int]:
-    """Two orders of 64 lines that each hold 1,000,000,000 pieces, of which so many millions in all are used; and how many places
-    a new desk needs: for fields and orders, for more on each line, for uses, and set aside."""
+    """Two orders of 64 lines, each of which holds 1,000,000,000 pieces; so many millions of these are used in all. And how many
+    places a new desk needs for them: for fields and orders, for more on each line, for uses, and set aside."""
     fields = [(f"N{n % 2}", f"A{n // 2}") for n in range(128)]
     rows = [f"field,{branch},{article},0,1000000000,0,0,0,1000000000" for branch, article in fields]
     rows += [f"orders,{number},0,60,0" for number in (1, 2)]

@@ -1,5 +1,5 @@
-"""What clients asked of a desk on several machines and were told, and the judgement: is there one order of all, which time
-allows, in which the rules answer so?"""
+"""What clients asked of a desk on several machines, what they were answered, and the judgement: is there one order of all
+commands, in agreement with time, in which the rules give these answers?"""
 
 import bisect
 import json
@@ -12,14 +12,14 @@ from support.messages import answer_to
 from support.rows import rows_by
 from support.rules import Rules
 
-# a key and its command, by places
+# a key and its command, in the order of places
 Kept = list[tuple[str, str]]
 
 
 @dataclass(eq=False)
 class Attempt:
-    """One time that a command was asked for. `reply` is what it was told: `done PLACE`, `refused CODE NAME LINE`, or nothing that
-    says what became of it."""
+    """One time that a command was asked for. `reply` is its answer: `done PLACE`, `refused CODE NAME LINE`, or nothing where no
+    answer says what became of the command."""
 
     key: str
     command: str
@@ -37,7 +37,7 @@ class Attempt:
         return f"{self.key} {self.command}"
 
     def fits(self, desk: Rules) -> bool:
-        # what is no command is answered without its key
+        # a text that is no command is answered without its key
         return desk.reply(self.line()) in (f"{self.key} {self.reply}", f"- {self.reply}")
 
     def __str__(self) -> str:
@@ -46,7 +46,7 @@ class Attempt:
 
 @dataclass(eq=False)
 class View:
-    """What a target showed."""
+    """The answer to a view."""
 
     target: str
     start: float
@@ -68,7 +68,7 @@ class History:
 
 
 def shown(desk: Rules, target: str) -> tuple[int, dict[str, Any]]:
-    """What the rules show at a target."""
+    """What the rules show for the target of a view."""
     kind, *names = target.removeprefix("/v1/").split("/")
     if kind == "desk":
         counts = {"fields": len(desk.fields), "open": len(desk.open), "orders": len(desk.orders), "places": len(desk.kept)}
@@ -80,7 +80,7 @@ def shown(desk: Rules, target: str) -> tuple[int, dict[str, Any]]:
 
 
 def reply_to(status: int, body: str) -> str:
-    """What a script is told where HTTP answers so; nothing where the answer says not what became of a command."""
+    """The line that answers a script where HTTP answers so; nothing where the answer does not say what became of a command."""
     if status not in (200, 400, 409):
         return ""
     told = json.loads(body)
@@ -88,8 +88,8 @@ def reply_to(status: int, body: str) -> str:
 
 
 class Windows:
-    """Which ledgers, by their places, may have answered between two moments: all that was told done before has its place there,
-    and nothing that was first asked for later."""
+    """Which ledgers, by their places, may have answered between two moments: all commands that were answered as done before the
+    first moment are in such a ledger, and none that was asked for only after the second."""
 
     def __init__(self, attempts: Iterable[Attempt], kept: Kept):
         self.count = len(kept)
@@ -130,7 +130,7 @@ def first_asked(attempts: Iterable[Attempt], kept: Kept) -> dict[str, float]:
 
 
 def wrong_places(history: History, kept: Kept, windows: Windows) -> list[str]:
-    """Answers that are not kept, and places that were not asked for, or before time allows."""
+    """Commands that were answered as done and are not kept, and places that nobody asked for, or that came before time allows."""
     lost = [each for each in history.attempts if (at := each.place()) and kept[at - 1 : at] != [(each.key, each.command)]]
     wrong = [f"is not kept: {each}" for each in lost]
     wrong += [f"nobody asked for {key} {command}" for key, command in kept if key not in windows.asked]
@@ -141,7 +141,7 @@ def wrong_places(history: History, kept: Kept, windows: Windows) -> list[str]:
 
 
 def done_after_all(attempts: Iterable[Attempt], kept: Kept) -> list[str]:
-    """Commands that are done, though who asked last for them was told that they are refused."""
+    """Commands that are done although the client that asked last for them was told that they are refused."""
     last = {each.key: each for each in sorted(attempts, key=lambda each: each.start)}
     commands = dict(kept)
     return [
@@ -150,7 +150,7 @@ def done_after_all(attempts: Iterable[Attempt], kept: Kept) -> list[str]:
 
 
 class Explained:
-    """Refusals and views, each of which has to be that of a ledger of its time."""
+    """Refusals and views, each of which has to be the answer of a ledger of its time."""
 
     def __init__(self, history: History, windows: Windows):
         asks: list[Attempt | View] = [*(each for each in history.attempts if each.is_refused()), *history.views]
@@ -160,7 +160,8 @@ class Explained:
         self.open: list[tuple[int, int, Attempt | View]] = []
 
     def look(self, desk: Rules) -> list[str]:
-        """Those that the desk, which has come to a place, answers so are explained; those behind whose time it is are wrong."""
+        """The desk has come to a place. Answers that are those of this desk are explained; answers whose time ends here
+        unexplained are returned as wrong."""
         place = len(desk.kept)
         while self.coming and self.coming[-1][0] <= place:
             self.open.append(self.coming.pop())
@@ -171,7 +172,7 @@ class Explained:
 
 
 def wrong_answers(history: History, kept: Kept, windows: Windows, rows: list[str]) -> list[str]:
-    """What the rules do not answer so, and rows that are not theirs."""
+    """Answers that the rules do not give, and rows that the rules do not have."""
     desk, explained = Rules(), Explained(history, windows)
     wrong = explained.look(desk)
     for place, (key, command) in enumerate(kept, 1):
@@ -185,7 +186,7 @@ def wrong_answers(history: History, kept: Kept, windows: Windows, rows: list[str
 
 
 def judged(history: History, tables: list[list[str]]) -> tuple[list[str], Mapping[str, int]]:
-    """What is wrong with what was told, and with the rows of all machines; and how much was looked at."""
+    """What is wrong with the answers, and with the rows of all machines; and how much was looked at."""
     rows = [line.split("|") for line in tables[0] if line.startswith("kept|")]
     kept = [(key, command) for _, key, _, command in sorted(rows, key=lambda row: int(row[2]))]
     wrong = [f"machine {nr} has other rows: {sorted(set(each) ^ set(tables[0]))[:4]}" for nr, each in enumerate(tables, 1)]

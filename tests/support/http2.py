@@ -18,7 +18,7 @@ def is_there() -> bool:
 
 
 class Http2:
-    """A client that speaks HTTP/2 and sends what it is told, good or bad. With a window of 0 it may be sent no body."""
+    """A client that speaks HTTP/2 and sends what it is given, good or bad. With a window of 0 it may be sent no body."""
 
     def __init__(self, front: Haproxy, window: int | None = None):
         from h2.config import H2Configuration
@@ -53,7 +53,8 @@ class Http2:
             pass
 
     def send(self, headers: Headers, body: bytes | None, is_ended: bool = True, trailers: Headers | None = None) -> int:
-        """A message at once: its head, its body if it has one, and its end unless it is to have none."""
+        """Sends a message at once: its head, its body if it has one, and its end unless `is_ended` is false. Returns its
+        stream."""
         stream = self.state.get_next_available_stream_id()
         self.state.send_headers(stream, headers, end_stream=is_ended and body is None and trailers is None)
         if body is not None:
@@ -64,7 +65,8 @@ class Http2:
         return stream
 
     def answer(self, stream: int, seconds: float = 1.0) -> tuple[str, str]:
-        """The status and the body that answer a stream, as far as they come; no status where it is reset or all is closed."""
+        """The status and the body that answer a stream, as far as they come; no status where the stream is reset or all is
+        closed."""
         from h2 import events
         from h2.exceptions import ProtocolError
 

@@ -1,5 +1,5 @@
-"""Random lines of scripts, files of requests and changes of bytes. They are drawn with the rules beside them, so that many an
-amount stands just at a bound, and orders are mostly those that are there."""
+"""Random lines of scripts, files of requests, and changes of bytes. They are drawn with the rules beside them, so that many an
+amount lies just at a bound, and most orders that are named exist."""
 
 import re
 from collections.abc import Callable, Sequence
@@ -9,16 +9,16 @@ from support.chance import Chance
 from support.rules import ADD, LINES, TAKE, Name, Order, Rules
 from support.stretches import SAID, key_of
 
-# what most scripts have; the first ones are tried first where a case is made smaller
+# the verbs of most scripts; the first ones are tried first where a case is made smaller
 VERBS = "field deliver writeoff rebound open open open transfer more more use use use release firm commit abort expire".split()
-# those of desks on which much is open
+# the verbs for desks on which much is open
 OPENING = "open open open open transfer transfer more more more use use use release firm commit abort deliver expire".split()
-# the verb of what a kind of file says
+# the verb of the requests that a file of each kind says
 OF_FILES = {"orders": "open", "deliveries": "deliver", "bounds": "rebound"}
 
 OF_ORDERS = "more use release firm commit abort".split()
 
-# numbers at an edge of some range, words that are no numbers, and words that are no codes, or long ones
+# numbers at an edge of some range, words that are no numbers, and words that are no codes or are long codes
 EDGES = "0 1 64 1000000 1000001 999999999 1000000000 1000000001 4000000000 4000000001 9223372036854775808".split()
 NO_NUMBERS = ["", "01", "-1", "+1", "1.0", "1e3", " 1", "one", "\u0661"]
 CODES = ["n1", "-A", "K_1", "N" * 8, "N" * 9, "A" * 16, "A" * 17, "K" * 36, "K" * 37, "take", "add"]
@@ -38,7 +38,7 @@ def names_of(branches: int, articles: int, long: bool = False) -> list[Name]:
     return [(f"BRANCH{b:02}", f"ARTICLE-{a:08}") if long else (f"N{b}", f"A-{a}") for b, a in pairs]
 
 
-# the fields that a script is about: one or two hot ones, some, so many that an order has 64 lines, and long codes
+# the fields that a script is about: one or two busy ones, some, so many that an order has 64 lines, and some with long codes
 SOME = names_of(4, 5)
 FIELDS = [names_of(1, 1), names_of(2, 1), names_of(3, 2), SOME, SOME, names_of(8, 9), names_of(8, 9, long=True)]
 
@@ -49,13 +49,13 @@ class Known:
 
     names: list[Name]
     verbs: Sequence[str] = tuple(VERBS)
-    # what amounts mostly are, where they are not small
+    # about how large an amount is, where it is not small
     amounts: Sequence[int] = ()
     desk: Rules = field(default_factory=Rules)
     lines: list[bytes] = field(default_factory=list)
 
     def say(self, text: bytes) -> bytes:
-        """A line, or more than one where its bytes were changed."""
+        """Says a line, or more than one where its bytes were changed."""
         self.lines.append(text)
         for line in text.split(b"\n"):
             self.desk.take(line)
@@ -73,12 +73,12 @@ def name_of(chance: Chance, known: Known) -> Name:
 
 
 def pieces(number: int) -> int:
-    """The next number to this one that is a quantity."""
+    """The quantity that is nearest to this number."""
     return max(1, min(LARGEST, number))
 
 
 def quantity(chance: Chance, known: Known, name: Name, way: str) -> int:
-    """A small one, just what may be taken or added, or one more or less, or a large one."""
+    """A small quantity, just what may be taken or added, one more or one less than that, or a large one."""
     kind = chance.whole(0, 19)
     if kind >= 18:
         return chance.one_of([LARGEST, 400_000, 1_000])
@@ -105,7 +105,7 @@ def moved(way: str) -> Callable[[Chance, Known], str]:
 
 
 def bounds_words(chance: Chance, known: Known) -> str:
-    """Mostly bounds that leave no room, or nearly so."""
+    """The words of bounds, which mostly leave no room, or nearly none."""
     name = name_of(chance, known)
     if name not in known.desk.fields or chance.share(30):
         return f"{' '.join(name)} {chance.one_of(BOUNDS).rsplit(' ', 1)[0]}"
@@ -115,7 +115,7 @@ def bounds_words(chance: Chance, known: Known) -> str:
 
 
 def until(chance: Chance, known: Known) -> int:
-    """Soon, at last, or now, which is too late."""
+    """A moment for an order: soon, the last of all, or now, which is too late."""
     kind = chance.whole(0, 19)
     return LAST if kind >= 14 else known.desk.clock if kind == 13 else min(LAST, known.desk.clock + chance.whole(1, 100))
 
@@ -125,7 +125,8 @@ def new_number(chance: Chance, known: Known) -> int:
 
 
 def open_words(chance: Chance, known: Known) -> str:
-    """Mostly a few lines on neighbouring fields, now and then about 64, the more so where there are as many fields."""
+    """The words of an order: mostly a few lines on neighbouring fields, now and then about 64; more often so where there are as
+    many fields."""
     is_long = chance.share(25 if len(known.names) >= LINES else 2)
     count = chance.one_of([64, 64, 63, 65]) if is_long else chance.whole(1, 4)
     first, ways = chance.whole(0, len(known.names) - 1), chance.whole(0, 15)
@@ -144,7 +145,7 @@ def transfer_words(chance: Chance, known: Known) -> str:
 
 
 def order_of(chance: Chance, known: Known) -> Order | None:
-    """Mostly one of the last that are open."""
+    """An order: mostly one of the last that are open."""
     orders = list(known.desk.open.values() if chance.whole(0, 9) < 9 else known.desk.orders.values())
     return chance.one_of(orders[:-9:-1]) if orders else None
 
@@ -155,7 +156,7 @@ def number_words(chance: Chance, known: Known) -> str:
 
 
 def field_beside(chance: Chance, known: Known) -> str | None:
-    """The number of an order of 64 lines, where there is one, and a field that it has no line on."""
+    """The number of an order of 64 lines, where there is one, and a field on which it has no line."""
     full = [order for order in known.desk.open.values() if len(order.lines) == LINES]
     beside = [(order.number, name) for order in full[:1] for name in known.desk.fields if order.line_on(name) is None]
     if not beside or not chance.share(70):
@@ -165,7 +166,7 @@ def field_beside(chance: Chance, known: Known) -> str | None:
 
 
 def line_words(chance: Chance, known: Known) -> tuple[str, Name, str, int]:
-    """The number of an order, mostly a field of its, its way there, and what it may still use."""
+    """The number of an order, a field (mostly one of the order's), the way of its line there, and what that may still use."""
     order = order_of(chance, known)
     if order is None or chance.share(15):
         return str(order.number if order else 1), name_of(chance, known), chance.one_of([TAKE, ADD]), 1
@@ -182,13 +183,13 @@ def more_words(chance: Chance, known: Known) -> str:
 
 
 def used_words(chance: Chance, known: Known) -> str:
-    """Of a use or a release: mostly one, all that is held, or one more or less."""
+    """The words of a use or a release: of one piece, of all that is left, of one more or one less than that, or of half of it."""
     number, name, _, left = line_words(chance, known)
     return f"{number} {' '.join(name)} {pieces(chance.one_of([1, left, left + 1, left - 1, left // 2]))}"
 
 
 def moment_words(chance: Chance, known: Known) -> str:
-    """Now or soon, the moment of an order, or before now."""
+    """The words of a moment: now, soon, the moment of an order, or before now."""
     kind, order = chance.whole(0, 9), order_of(chance, known)
     if kind == 9:
         return str(max(0, known.desk.clock - 1))
@@ -215,7 +216,7 @@ WORDS: dict[str, Callable[[Chance, Known], str]] = {
 
 
 def command(chance: Chance, known: Known) -> str:
-    """A command, of which now and then a word is an odd one."""
+    """A command; now and then one of its words is an odd one."""
     verb = chance.one_of(known.verbs)
     if verb in OF_ORDERS and not known.desk.open and chance.share(80):
         verb = "open"
@@ -226,7 +227,7 @@ def command(chance: Chance, known: Known) -> str:
 
 
 def view(chance: Chance, known: Known) -> str:
-    """A field or an order, now and then an odd one."""
+    """A view of a field or an order, now and then with an odd word."""
     words = ["order", number_words(chance, known)] if chance.share(50) else ["field", *name_of(chance, known)]
     if chance.share(4):
         words[chance.whole(1, len(words) - 1)] = chance.one_of(ODD_WORDS)
@@ -237,8 +238,8 @@ def view(chance: Chance, known: Known) -> str:
 
 
 def request(chance: Chance, known: Known) -> bytes:
-    """Mostly a command under a new key, else a line that was said before, its command under a new key, or another one under its
-    key."""
+    """Mostly a command under a new key; else a line that was said before, its command under a new key, or another command under
+    its key."""
     kind, before = chance.whole(0, 99), known.lines[:-20:-1]
     if kind < 85 or not before:
         return known.key() + b" " + command(chance, known).encode()
@@ -249,7 +250,7 @@ def request(chance: Chance, known: Known) -> bytes:
 
 
 def line(chance: Chance, known: Known) -> bytes:
-    """A line that is said: mostly a request, else an ask, or a line whose bytes are changed."""
+    """A line that is said: mostly a request, else a view, or a line whose bytes are changed."""
     kind = chance.whole(0, 99)
     if kind >= 90:
         return known.say(f"? {view(chance, known)}".encode())
@@ -258,19 +259,21 @@ def line(chance: Chance, known: Known) -> bytes:
 
 
 def request_of(chance: Chance, known: Known, kind: str) -> bytes:
-    """A request that a file of a kind says, or one of it that was said before, or its key; but not the key of the last line."""
+    """A request that a file of this kind says: a new one, one that was said before, or another under its key; but never the key
+    of the last line."""
     last = key_of(known.lines[-1]) if known.lines else b""
     said = [line for line in known.lines if SAID[kind].fullmatch(line) and key_of(line) != last]
     if said and chance.share(10):
         return known.say(chance.one_of(said[:-20:-1]))
-    # an order of more lines is no record's
+    # no records say an order of more lines
     words = " ".join([OF_FILES[kind], *WORDS[OF_FILES[kind]](chance, known).split(" ")[: 2 + 4 * LINES]])
     key = key_of(chance.one_of(said[:-20:-1])) if said and chance.share(4) else known.key()
     return known.say(key + b" " + words.encode())
 
 
 def known_fields(chance: Chance, verbs: Sequence[str] = tuple(VERBS)) -> Known:
-    """Nothing but some fields, with bounds of three kinds that may be tight, or leave room, or wide ones for large amounts."""
+    """A desk with nothing but some fields. Their bounds are of three kinds: such as may be tight, such as leave room, or wide
+    ones for large amounts."""
     names, kind = chance.one_of(FIELDS), chance.whole(0, 9)
     known = Known(names, verbs, LARGE_AMOUNTS if kind >= 8 else ())
     made = chance.whole(0, 6 * len(names))
@@ -285,7 +288,7 @@ def say_lines(chance: Chance, known: Known, average: int, most: int) -> None:
 
 
 def script(chance: Chance, average: int = 50, most: int = 100) -> list[bytes]:
-    """Fields, and then about so many lines. Most scripts have commands of all kinds, some mostly of one."""
+    """Fields, and then about so many lines. Most scripts have commands of all kinds, some scripts mostly one kind."""
     verbs = [*VERBS, *[chance.one_of(VERBS)] * 80] if chance.share(20) else VERBS
     known = known_fields(chance, verbs)
     say_lines(chance, known, average, most)
@@ -296,7 +299,7 @@ def script(chance: Chance, average: int = 50, most: int = 100) -> list[bytes]:
 
 
 def changed(chance: Chance, text: bytes) -> bytes:
-    """The bytes with a few changes: some are put in, left out, doubled, or one bit of one is turned."""
+    """The bytes with a few changes: some are put in, left out or doubled, or one bit of a byte is turned."""
     for _ in range(chance.whole(1, 4)):
         first = chance.whole(0, len(text))
         there = text[first : first + chance.whole(1, 12)]
@@ -318,7 +321,7 @@ def together(chance: Chance) -> int:
 
 
 def fed(text: bytes) -> str:
-    """A script as one can feed it to the program: its lines, or the `printf` that writes them where they have odd bytes."""
+    """A script as it can be fed to the program: its lines, or where these have odd bytes a `printf` that writes them."""
     if re.fullmatch(rb"(?:[ -~]*\n)*", text):
         return text.decode()
     signs = {ord("\n"): "\\n", ord("'"): "'\\''", ord("\\"): "\\\\", ord("%"): "%%"}

@@ -1,4 +1,4 @@
-"""Calls of the built program with a file of orders that are killed, and called again with the same file until one ends by
+"""Calls of the built program with a file of orders. The calls are killed, and made again with the same file until one ends by
 itself."""
 
 import os
@@ -18,13 +18,13 @@ FIELD = f"K1 field N1 A-1 0 1000000000 {START}\n"
 
 
 def orders_of(every: int) -> list[list[object]]:
-    """A file of orders: each of so many is on a field that is not there, so that it is refused whenever it comes."""
+    """A file of orders. One in `every` orders is on a field that does not exist, so it is refused whenever it comes."""
     rows: list[list[object]] = [[f"F{n}", n, 500, "take", "N1", "A-1" if n % every else "B-9", 1] for n in range(1, COUNT + 1)]
     return [["key", "order", "until", "way", "branch", "article", "qty"], *rows]
 
 
 def called(program: str, words: Sequence[str], seconds: float) -> tuple[bytes, bool]:
-    """Calls the program, and kills it after so many seconds: its output, and whether it was killed."""
+    """Calls the program, and kills it after so many seconds. Returns its output, and whether it was killed."""
     process = subprocess.Popen([program, *words], stdout=subprocess.PIPE, stderr=subprocess.PIPE)
     try:
         out, errors = process.communicate(timeout=seconds)
@@ -36,8 +36,8 @@ def called(program: str, words: Sequence[str], seconds: float) -> tuple[bytes, b
 
 
 class Killed:
-    """Calls that are killed, with one file of orders and the same words behind it, each on a copy of one desk or on what the call
-    before it has left there."""
+    """Calls that are killed, with one file of orders and the same words after it, each on a copy of one desk or on what the call
+    before it left there."""
 
     def __init__(self, program: str, folder: str, orders: list[list[object]], words: list[str]):
         self.program, self.folder, self.words = program, folder, words
@@ -52,15 +52,16 @@ class Killed:
         return shutil.copy(self.desk, os.path.join(self.folder, name))
 
     def whole(self, name: str, words: Sequence[str]) -> tuple[bytes, str]:
-        """What is written in a call that nobody kills, and the desk that it leaves."""
+        """What a call that nobody kills writes, and the desk that it leaves."""
         path = self.copy(name)
         return "\n".join([*done(self.program, ["orders", path, self.records, *words]), ""]).encode(), path
 
     def look(self, path: str, out: bytes) -> None:
-        """What is looked at behind each call that was killed: the desk that it has left, and what it has written."""
+        """Looks, after each call that was killed, at the desk that it left and at what it wrote."""
 
     def until_whole(self, path: str, seconds: float) -> bytes:
-        """Calls until a call ends by itself, of which each is killed within about so many seconds: what the last one writes."""
+        """Calls until a call ends by itself; each call is killed within about so many seconds. Returns what the last call
+        wrote."""
         out, is_killed = self.call(path, seconds)
         while is_killed:
             self.killed += 1

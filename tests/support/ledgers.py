@@ -1,9 +1,10 @@
-"""A good ledger as the rows of its tables, what is shown of it, and changes of these rows: some leave them good, and each of the
-others is a single breach of the rules for them."""
+"""A good ledger as the rows of its tables, what views show of it, and changes of these rows: some leave them good, and each of
+the others breaks a single rule for them."""
 
-# A ledger with orders of all kinds and states. The settled values are 40 + 10 - 4, where 4 is what a committed order has used,
-# then 5, 10 + 4, where 4 is what an open firm order has used, 5 - 2 + 4, and 20 - 4. Of the first 35 may be taken, to the second
-# 15 added; and the firm order, which holds 9 on its two fields, may add and take 5 more.
+# A ledger with orders of all kinds and states. The settled values of its fields, in their order, are 40 + 10 - 4 (a committed
+# order has used 4), 5, 10 + 4 (an open firm order has used 4), 5 - 2 + 4, and 20 - 4. From the first field 35 may still be taken,
+# and to the second 15 added; the firm order, which holds 9 on each of its two fields, may still add 5 to one and take 5 from the
+# other.
 GOOD = """desk,1,2,100,23
 field,N1,A-1,0,100,40,46,11,46
 field,N1,B-2,0,20,5,5,5,20
@@ -52,7 +53,7 @@ kept,K23,23,expire 100
 firm,20
 firm,23"""
 
-# what is shown of it, and done to it
+# lines of a script on it, each with its answer
 SHOWN = [
     ("? field N1 A-1", "? field N1 A-1 lo 0 hi 100 value 46 inf 11 sup 46"),
     ("? field N1 B-2", "? field N1 B-2 lo 0 hi 20 value 5 inf 5 sup 20"),
@@ -85,7 +86,7 @@ SHOWN = [
     ("? field N2 C-3", "? field N2 C-3 lo 0 hi 30 value 15 inf 15 sup 15"),
 ]
 
-# parts of the good rows, each with what is put in its place: they are still good
+# parts of the good rows, each with what is put in its place; the rows are still good
 STILL_GOOD = [
     ("desk,1,2,100,23", "desk,1,2,0,23"),
     ("desk,1,2,100,23", "desk,1,2,4000000000,23"),
@@ -100,17 +101,17 @@ STILL_GOOD = [
     ("kept,K23,23,expire 100", "kept,abcdefghijklmnopqrstuvwxyz-012345678,23,expire 4000000000"),
     ("kept,K15,15,use 22 N2 A-1 2\nkept,K16,16,", "kept,K15,16,use 22 N2 A-1 2\nkept,K16,15,"),
     ("line,21,1,N1,A-1,0,3,0", "line,21,1,N2,A-1,1,3,3"),
-    # what a firm order has used does not come back, so a bound may stand at the value
+    # what a firm order has used does not come back, so a bound may be equal to the value
     ("field,N1,D-4,0,30,10,14,14,19", "field,N1,D-4,14,19,10,14,14,19"),
     ("field,N2,C-3,0,30,20,16,11,16", "field,N2,C-3,11,16,20,16,11,16"),
-    # a committed order counts alike, firm or not
+    # a committed order counts the same, whether it is firm or not
     ("firm,20\n", ""),
     (
         *("orders,23,0,90,0", "orders,23,0,90,1"),
         *("field,N1,D-4,0,30,10,14,14,19", "field,N1,D-4,0,30,10,14,14,14"),
         *("field,N2,C-3,0,30,20,16,11,16", "field,N2,C-3,0,30,20,16,16,16"),
     ),
-    # of the open orders the other one is firm
+    # of the two open orders the other one is firm
     (
         *("firm,20\nfirm,23", "firm,7"),
         *("field,N1,A-1,0,100,40,46,11,46", "field,N1,A-1,0,100,40,26,11,26"),
@@ -132,7 +133,7 @@ STILL_GOOD = [
     ),
 ]
 
-# likewise: there is no longer one row of `desk` of the version
+# these and all that follow break a rule: there is no longer one row of `desk`, with the version
 NO_DESK = [
     ("desk,1,2,100,23\n", ""),
     ("desk,1,2,100,23", "desk,1,2,100,23\ndesk,2,2,100,23"),
@@ -142,7 +143,7 @@ NO_DESK = [
     ("desk,1,2,100,23", "desk,1,3,100,23"),
 ]
 
-# likewise: the desk, codes and ranges, moves, orders and kept keys that are none
+# here the desk, codes and ranges, moves, orders or kept keys are not allowed
 BAD_ROWS = [
     ("desk,1,2,100,23", "desk,0,2,100,23"),
     ("desk,1,2,100,23", "desk,2,2,100,23"),
@@ -206,7 +207,7 @@ BAD_ROWS = [
     ("kept,K21,21,firm 23", "kept,K21,21,firm"),
 ]
 
-# likewise: lines, and the numbers that fields have by them
+# here lines, and the numbers of fields that follow from them
 BAD_LINES = [
     ("line,7,1,", "orders,24,0,130,2\nline,7,1,"),
     ("kept,K01,", "line,24,1,N1,A-1,0,0,0\nkept,K01,"),
@@ -234,7 +235,7 @@ BAD_LINES = [
     ("line,22,2,N2,A-1,1,6,2", "line,22,2,N1,B-2,1,6,2"),
     ("line,22,2,N2,A-1,1,6,2", "line,22,2,N2,A-1,1,7,2"),
     ("line,22,2,N2,A-1,1,6,2", "line,22,2,N2,A-1,1,6,1"),
-    # bounds that an outcome passes
+    # bounds that some outcome of the open orders goes beyond
     ("field,N1,A-1,0,100,40,46,11,46", "field,N1,A-1,12,100,40,46,11,46"),
     ("field,N1,A-1,0,100,40,46,11,46", "field,N1,A-1,0,45,40,46,11,46"),
     ("field,N1,B-2,0,20,5,5,5,20", "field,N1,B-2,0,19,5,5,5,20"),
@@ -248,7 +249,7 @@ BAD_LINES = [
     ("field,N1,A-1,0,100,40,46,11,46", "field,N1,A-1,0,100,40,46,11,47"),
     ("field,N1,A-1,0,100,40,46,11,46", "field,N1,A-1,0,100,40,46,11,45"),
     ("field,N1,A-1,0,100,40,46,11,46", "field,N1,A-1,0,100,41,46,11,46"),
-    # what an open order has used is not settled, and what a committed one has used is
+    # what an open order has used is not settled, and what a committed order has used is
     ("field,N1,A-1,0,100,40,46,11,46", "field,N1,A-1,0,100,40,26,11,26"),
     ("field,N1,B-2,0,20,5,5,5,20", "field,N1,B-2,0,20,5,5,5,19"),
     ("field,N2,A-1,0,50,5,7,7,7", "field,N2,A-1,0,50,5,3,3,3"),
@@ -256,9 +257,9 @@ BAD_LINES = [
     ("orders,20,1,900,1", "orders,20,1,900,2", "firm,20\n", ""),
 ]
 
-# likewise: rows of firm orders, and the numbers that fields have by them
+# here rows of firm orders, and the numbers of fields that follow from them
 BAD_FIRMS = [
-    # an order that is aborted, having used nothing or something
+    # an order that is aborted, and has used nothing or something
     ("firm,23", "firm,21\nfirm,23"),
     ("firm,23", "firm,22\nfirm,23"),
     (
@@ -266,16 +267,16 @@ BAD_FIRMS = [
         *("field,N1,D-4,0,30,10,14,14,19", "field,N1,D-4,0,30,10,10,10,10"),
         *("field,N2,C-3,0,30,20,16,11,16", "field,N2,C-3,0,30,20,20,20,20"),
     ),
-    # no order, and no number of an order
+    # a number that no order has, and numbers that no order can have
     ("firm,23", "firm,8\nfirm,23"),
     ("firm,23", "firm,23\nfirm,999999999"),
     ("firm,20", "firm,0\nfirm,20"),
     ("firm,20", "firm,-20\nfirm,20"),
     ("firm,23", "firm,23\nfirm,1000000000"),
-    # an open order that is firm, or is not, by these rows alone
+    # an open order that becomes firm, or is no longer firm, by these rows alone
     ("\nfirm,23", ""),
     ("firm,20", "firm,7\nfirm,20"),
-    # what is used, and what is held beyond it
+    # what a firm order has used, and what it holds beyond that
     ("field,N1,D-4,0,30,10,14,14,19", "field,N1,D-4,0,30,10,10,10,19"),
     ("field,N1,D-4,0,30,10,14,14,19", "field,N1,D-4,0,30,10,14,10,19"),
     ("field,N1,D-4,0,30,10,14,14,19", "field,N1,D-4,0,30,10,14,14,23"),
@@ -295,7 +296,7 @@ BAD_FIRMS = [
         *("line,23,2,N1,D-4,1,9,4", "line,23,2,N1,D-4,1,9,10"),
         *("field,N1,D-4,0,30,10,14,14,19", "field,N1,D-4,0,30,10,20,20,20"),
     ),
-    # bounds that an outcome passes
+    # bounds that some outcome of the open orders goes beyond
     ("field,N1,D-4,0,30,10,14,14,19", "field,N1,D-4,0,18,10,14,14,19"),
     ("field,N1,D-4,0,30,10,14,14,19", "field,N1,D-4,15,30,10,14,14,19"),
     ("field,N2,C-3,0,30,20,16,11,16", "field,N2,C-3,0,15,20,16,11,16"),

@@ -1,4 +1,4 @@
-"""Random messages of HTTP: streams of them, and what many clients ask at once. They are drawn as lines of scripts are."""
+"""Random messages of HTTP: streams of them, and what many clients ask at once. They are drawn as the lines of scripts are."""
 
 import json
 import re
@@ -35,7 +35,7 @@ def target(chance: Chance, known: Known) -> str:
 
 
 def body_of(chance: Chance, known: Known) -> str:
-    """Mostly that of a command."""
+    """The body of a message: mostly a command."""
     kind = chance.whole(0, 199)
     if kind >= 196:
         return chance.one_of(BODIES)
@@ -45,7 +45,7 @@ def body_of(chance: Chance, known: Known) -> str:
 
 
 def text_of(chance: Chance, known: Known) -> bytes:
-    """A message: two of three are commands. Few are such that the connection ends behind them."""
+    """A message: two of three are commands. After few of them the connection ends."""
     if chance.whole(0, 2) < 2:
         method, path, body = "POST", "/v1/commands", body_of(chance, known)
     else:
@@ -60,14 +60,14 @@ def text_of(chance: Chance, known: Known) -> bytes:
 
 
 def stream(chance: Chance, known: Known) -> bytes:
-    """Messages one behind the other, now and then changed, or cut anywhere."""
+    """Messages one after the other, now and then with changed bytes, or cut off anywhere."""
     text = b"".join(chance.several(lambda chance: text_of(chance, known), 3, 6))
     text = changed(chance, text) if chance.share(15) else text
     return text[: chance.whole(0, len(text))] if chance.share(15) else text
 
 
 def streams(chance: Chance) -> list[bytes]:
-    """Those of some connections to one desk, behind the messages that make its fields."""
+    """The streams of some connections to one desk; the messages that make its fields come first."""
     known = known_fields(chance)
     begin = b"".join(ask_of(line.decode()).text for line in known.lines)
     return [begin, *chance.several(lambda chance: stream(chance, known), 10, 20)]
@@ -77,7 +77,7 @@ def streams(chance: Chance) -> list[bytes]:
 
 
 def ask(chance: Chance, known: Known) -> Ask:
-    """Some come again, and some ask for nothing that is there; the headers are any."""
+    """What a client asks. Some questions come again, and some are about nothing that exists; the headers are any."""
     kind = chance.whole(0, 99)
     if kind >= 95:
         text, want = chance.one_of(FIXED)
@@ -94,13 +94,13 @@ def ask(chance: Chance, known: Known) -> Ask:
 
 
 def talks_of(chance: Chance, asks: Sequence[Ask], clients: int) -> list[list[Ask]]:
-    """The questions of each client, in turn one of these. What some ask last cannot be read."""
+    """The questions of each client, which are dealt out in turn. The last question of some clients cannot be read."""
     ends = [[Ask(chance.one_of(LAST), "", UNREADABLE)] if chance.share(20) else [] for _ in range(clients)]
     return [[*asks[client::clients], *ends[client]] for client in range(clients)]
 
 
 def some_known() -> Known:
-    """What is known of a desk with some fields, which are there before any question."""
+    """A desk with some fields, which are there before any question."""
     known = Known(SOME)
     for key, words in SOME_FIELDS:
         known.say(f"{key} {words}".encode())
@@ -108,6 +108,6 @@ def some_known() -> Known:
 
 
 def load(seed: int, clients: int, count: int) -> list[list[Ask]]:
-    """So many questions of each client about some fields."""
+    """The questions of each client, `count` of them, about some fields."""
     chance, known = Seeded(seed), some_known()
     return talks_of(chance, [ask(chance, known) for _ in range(clients * count)], clients)

@@ -1,4 +1,4 @@
-"""Messages of HTTP and their answers as bytes, and what HTTP answers where a script is answered by a line."""
+"""Messages of HTTP and their answers as bytes, and the HTTP answer that stands for each line of a script's answers."""
 
 import json
 from typing import Any
@@ -13,7 +13,7 @@ REASONS = {
 
 
 def compact(value: object) -> str:
-    """An object in its one spelling."""
+    """An object in the one spelling that the desk writes."""
     return json.dumps(value, separators=(",", ":"), sort_keys=True)
 
 
@@ -28,7 +28,7 @@ def answer(status: int, body: str) -> bytes:
 
 
 def message_of(line: str) -> bytes:
-    """The message that asks for the same as a line of a script, or for a sheet: `? sheet BRANCH`."""
+    """The message that asks for the same as this line of a script, or for a sheet: `? sheet BRANCH`."""
     key, command = line.split(" ", 1)
     if key == "?":
         kind, *names = command.split()
@@ -37,13 +37,13 @@ def message_of(line: str) -> bytes:
 
 
 def answer_of(line: str) -> bytes:
-    """The answer where a script is answered by this line."""
+    """The answer of HTTP, as bytes, where a script is answered by this line."""
     status, body = answer_to(line)
     return answer(status, compact(body))
 
 
 def answer_to(line: str) -> tuple[int, dict[str, Any]]:
-    """The status and the object that HTTP answers where a script is answered by this line."""
+    """The status and the object of HTTP's answer where a script is answered by this line."""
     _, kind, *words = line.split()
     if kind == "none":
         return 404, {"error": "none"}

@@ -11,7 +11,7 @@ OLDER = ["long", "transfer", "many"]
 
 
 def older(folder: str, name: str) -> str:
-    """A copy of a file that a program of version 1 wrote, with nothing of what lay beside the last one."""
+    """The path of a copy of a file that a program of version 1 wrote; what lay beside an earlier copy is removed."""
     path = os.path.join(folder, f"{name}.db")
     with contextlib.suppress(FileNotFoundError):
         os.remove(f"{path}-wal")

@@ -1,4 +1,4 @@
-"""Whether what many clients were answered at once fits one order of all that they asked, by the rules of the desk."""
+"""Whether the answers that many clients heard at once fit one order of all that they asked, by the rules of the desk."""
 
 from bisect import bisect_left, bisect_right
 from collections.abc import Callable, Iterable, Sequence
@@ -11,7 +11,7 @@ from support.rows import rows_by
 from support.rules import Rules
 from support.tables import rows_of, tables_of
 
-# the commands of places 1, 2, 3 and so on, each with its key
+# commands by their places, from 1 on, each with its key
 Order = list[tuple[str, str]]
 
 
@@ -24,7 +24,7 @@ def desk_with(program: str, folder: str, order: Order, name: str = "desk.db") ->
 
 
 def rules_behind(order: Order) -> Rules:
-    """What the rules say behind these commands."""
+    """The rules after these commands."""
     rules = Rules()
     for key, command in order:
         rules.carry_out(key, command)
@@ -32,7 +32,7 @@ def rules_behind(order: Order) -> Rules:
 
 
 def told_order(before: Order, asks: Iterable[Ask]) -> Order:
-    """The commands in the order of the places that they were told, behind those that were there before; none is missing."""
+    """The commands in the order of the places in their answers, after those that were there before; none is missing."""
     lines = {place: {line} for place, line in enumerate(before, 1)}
     for ask in asks:
         if (place := ask.place()) is not None:
@@ -44,13 +44,13 @@ def told_order(before: Order, asks: Iterable[Ask]) -> Order:
 
 
 def running(numbers: Iterable[int], choose: Callable[[int, int], int]) -> list[int]:
-    """Of each number and those before it the one that is chosen."""
+    """For each number, the one that is chosen among it and all before it."""
     return list(accumulate(numbers, choose))
 
 
 class Bounds:
-    """Behind which places a question may be answered, by moments: what was told before it was sent comes before it, and what was
-    sent behind its answer comes behind it."""
+    """After how many places a question may be answered, by moments: what was answered before the question was sent comes before
+    it, and what was sent after its answer comes after it."""
 
     def __init__(self, order: Order, before: int, asks: Iterable[Ask]):
         places = {f"{key} {command}": place for place, (key, command) in enumerate(order, 1) if place > before}
@@ -74,14 +74,15 @@ class Bounds:
 
 @dataclass
 class Talk:
-    """What one client asked, in its order; how much of that fits so far, and behind how many places at least the rest does."""
+    """What one client asked, in its order; how many of its questions fit so far, and the least number of places after which the
+    next may be answered."""
 
     asks: Sequence[Ask]
     least: int
     fitting: int = 0
 
     def go_on(self, desk: Rules, bounds: Bounds) -> None:
-        """Questions are answered as early as their answers allow."""
+        """Answers questions by the rules, each as early as its answer allows."""
         behind = len(desk.kept)
         while self.fitting < len(self.asks):
             ask = self.asks[self.fitting]
@@ -94,11 +95,12 @@ class Talk:
 
 
 def expect_one_order(order: Order, before: int, talks: Iterable[Sequence[Ask]]) -> Rules:
-    """Each answer is that of the rules behind some place of this order, so many of which were there before all questions: a
-    client's in its order, and all in the order of time. The desk behind them."""
+    """Expects that each answer is that of the rules after some place of this order, of which `before` places were there before
+    all questions: the questions of one client come in its order, and all come in the order of time. Returns the desk after all
+    commands."""
     talks = list(talks)
     each = [Talk([ask for ask in asks if not ask.is_lost()], before) for asks in talks]
-    # what was sent and not answered may be done, too
+    # what was sent and not answered may still have been done
     desk, bounds = Rules(), Bounds(order, before, [ask for asks in talks for ask in asks])
     for place, (key, command) in enumerate(order, 1):
         if place > before:
@@ -118,8 +120,8 @@ def all_go_on(talks: Iterable[Talk], desk: Rules, bounds: Bounds) -> None:
 
 
 def expect_kept(path: str, before: Order, talks: Iterable[Sequence[Ask]]) -> Order:
-    """A desk that was stopped has kept all that was told, nothing that was not sent or was told to lack memory, and what that
-    leads to by the rules: all commands by their places, those before first."""
+    """Expects that a desk that was stopped has kept all that was answered as done; nothing that was not sent, or that was
+    answered as out of memory; and what the rules make of it. Returns all commands by their places, those of `before` first."""
     talks = list(talks)
     kept = sorted(tables_of(path)["kept"], key=lambda row: row.place)
     order = [(row.reqkey, row.words) for row in kept]

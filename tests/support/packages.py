@@ -1,4 +1,4 @@
-"""The package, as the one command builds it, and fresh Debians to build it in and to install it on."""
+"""The package, as its one command builds it, and fresh Debian systems in which it is built and installed."""
 
 import contextlib
 import os
@@ -14,12 +14,12 @@ from support.programs import expect
 
 PACKAGE = os.path.join(DEPLOY, "package")
 
-# what it is built of, beside the program
+# what the package is built from, beside the program
 SOURCES = ["CHANGELOG.md", "CONTRIBUTING.md", "README.md", "crates.txt", "debian", "deploy", "docs", "examples"]
 
 BUILT = os.path.join("crates", "stockdesk", "out", "stockdesk")
 
-# runs a line of shell and gives its output
+# runs a line of shell and returns its output
 Inside = Callable[[str], str]
 
 
@@ -28,14 +28,14 @@ def run(words: Sequence[str], **options: Any) -> subprocess.CompletedProcess[str
 
 
 def built(folder: str) -> str:
-    """The path of the package, which was built there."""
+    """The path of the package, built in that folder."""
     told = run([PACKAGE, folder])
     expect(told.returncode == 0, f"no package: {told.stderr}")
     return told.stdout.strip()
 
 
 def put_sources(folder: str, program: str | None = None) -> None:
-    """Copies what the package is built of into a new folder, with a program where there is one."""
+    """Copies what the package is built from into a new folder, with a program where there is one."""
     os.mkdir(folder)
     for name in SOURCES:
         source, copy = os.path.join(TOP, name), os.path.join(folder, name)
@@ -64,7 +64,7 @@ def newer(path: str, folder: str) -> str:
 
 @contextlib.contextmanager
 def fresh_debian(root: str, *options: str) -> Iterator[Inside]:
-    """A fresh Debian in a new folder, made with these options, and what runs a line in it."""
+    """A fresh Debian in a new folder, made with these options; yields what runs a line in it."""
     made = run(["mmdebstrap", "--variant=minbase", *options, "bookworm", root])
     if made.returncode != 0:
         raise unittest.SkipTest(f"no Debian could be fetched: {made.stderr[-200:]}")

@@ -1,5 +1,5 @@
-"""Power cuts after every system call of the built program: calls are recorded, after each of them the files are laid as a power
-cut may leave them, and the program opens these."""
+"""Power cuts after every system call of the built program. The calls of a run are recorded; after each call, files are laid out
+as a power cut at that moment may leave them, and the program opens those files."""
 
 import os
 import shutil
@@ -12,14 +12,14 @@ from support.programs import End, done, ended, expect, new_desk, note
 from support.recorded import SYNCS, Call, Disk, record, traced
 from support.tables import rows_of, sqlite3
 
-# how many, where some syncs are left out
+# how many cuts are tried where some syncs are left out
 BLIND_CUTS = 200
-# in one cut of so many the opening is recorded, too, and cut
+# in one of so many cuts, the opening that follows is recorded too, and cut in its turn
 OPENINGS = 8
 NAME = "desk.db"
-# why none are tried
+# why no power cuts are tried
 NO_CUTS = "no strace that may trace, or no other SQLite, is here"
-# stands among the calls where the desk is made
+# a call that stands among those by which the desk is made
 MADE = Call("made", "", "", "", b"", 0)
 
 Found = list[str] | End
@@ -43,14 +43,14 @@ def calls_of(program: str, words: list[str], text: str = "") -> list[Call]:
 
 
 def without_some_syncs(calls: Sequence[Call]) -> list[Call]:
-    """The same, but for every other sync."""
+    """The same calls, with every other sync left out."""
     left_out = [call for call in calls if call.name in SYNCS][::2]
     return [call for call in calls if call not in left_out]
 
 
 def may_be_kept(ends: Sequence[int], told: int) -> list[int]:
-    """How many requests may be kept where so many were told, in batches that end there: a batch is kept before the first of it is
-    told, and the next one behind its last."""
+    """How many requests may be kept, where `told` of them were answered and the batches end at `ends`: a batch is kept before its
+    first request is answered, and the next batch only after the last one is."""
     behind = [end for end in ends if end > told][:1]
     return [told, *behind] if told in ends else behind
 
@@ -61,9 +61,9 @@ def lines_in(written: bytes) -> int:
 
 @dataclass
 class Recorded:
-    """Calls that were recorded, with their folder and its files before the first of them; and what may be found by how many
-    replies were written whole, where None says that the desk is not made yet. How many these are is told of all that was
-    written: they are its lines, or something else."""
+    """Calls that were recorded, with their folder and its files before the first call; and what may be found, by how many replies
+    were written whole (None: the desk is not made yet). The replies are counted in all that the calls wrote: by lines, or by
+    something else."""
 
     folder: str
     files: dict[str, bytes]
@@ -115,7 +115,7 @@ class Cuts:
         self.lost += self.opened(files) not in self.recorded.may(replies)
 
     def after_each(self, disk: Disk, calls: Sequence[Call], count: int) -> None:
-        """Cuts the power so often, about as often after each of the calls that the disk carries out."""
+        """Cuts the power `count` times in all, about equally often after each of the calls, which the disk carries out."""
         written, made = b"", MADE not in calls
         for number, call in enumerate(calls):
             if call is MADE:
@@ -137,5 +137,5 @@ def try_cuts(program: str, folder: str, recorded: Recorded, seed: int, count: in
 
 
 def may_be_cut() -> bool:
-    """Whether calls can be recorded here, and rows be read."""
+    """Whether calls can be recorded here and rows can be read."""
     return sqlite3 is not None and traced()

@@ -1,4 +1,4 @@
-"""Runs of the built program and their ends, the files that they read and write, and what a test tells beside its outcome."""
+"""Runs of the built program and their ends, the files that they read and write, and what a test reports beside its outcome."""
 
 import csv
 import os
@@ -11,10 +11,10 @@ from collections.abc import Iterable, Sequence
 SECONDS = 30
 FILES = os.path.join(os.path.dirname(os.path.dirname(os.path.abspath(__file__))), "files")
 
-# how a program ends: its status, its output, and what it tells of a fault
+# how a program ends: its status, its output, and what it says of a fault
 End = tuple[int, bytes, bytes]
 
-# how a program ends that writes nothing but this
+# how a program ends that writes nothing except this fault
 WELL: End = (0, b"", b"")
 NOT_A_DESK: End = (3, b"", b"stockdesk: not a desk\n")
 OLD_VERSION: End = (3, b"", b"stockdesk: old version\n")
@@ -23,12 +23,12 @@ STORE: End = (1, b"", b"stockdesk: store\n")
 MEMORY: End = (1, b"", b"stockdesk: memory\n")
 IO: End = (1, b"", b"stockdesk: io\n")
 
-# files with bytes that are no desk, and what a run on them ends with
+# files whose bytes are no desk, each with how a run on it ends
 NO_DESK = [(b"this is no database, but some text", STORE), (b"S", STORE), (b"", NOT_A_DESK)]
 
 
 def note(text: str) -> None:
-    """Tells a number that was found, on the line on which the test is told."""
+    """Writes a number that was found on the line on which the test is reported."""
     print(f"{text}; ", end="", file=sys.stderr, flush=True)
 
 
@@ -45,8 +45,8 @@ def ended(
     limit: tuple[int, int] | None = None,
     environment: dict[str, str] | None = None,
 ) -> End:
-    """The status of a run, its output and what it tells of a fault; under a limit, as of the bytes that a file may have, or in
-    another environment."""
+    """The status of a run, its output and what it says of a fault; under a limit, for example on the bytes that a file may have,
+    or in another environment."""
     run = subprocess.run(
         [program, *words],
         input=text.encode() if isinstance(text, str) else text,
@@ -54,7 +54,7 @@ def ended(
         env=environment,
         capture_output=True,
         timeout=SECONDS,
-        # what is over the limit is refused, and is no signal
+        # what goes beyond the limit is refused, and raises no signal
         restore_signals=limit is None,
         preexec_fn=limit and (lambda: resource.setrlimit(limit[0], (limit[1], limit[1]))),
     )

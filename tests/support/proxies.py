@@ -1,4 +1,5 @@
-"""nginx and Caddy in front of a desk, for tests: what each is told, and how it is run. All of it listens on 127.0.0.1 alone."""
+"""nginx and Caddy in front of a desk, for tests: the configuration of each, and how it is run. All of it listens on 127.0.0.1
+alone."""
 
 import contextlib
 import os
@@ -13,7 +14,7 @@ from support.cases import path_of
 from support.fronts import free_port, make_certificate
 from support.programs import SECONDS, expect
 
-# what stands around a site: only where its files lie, and that it is no daemon
+# what stands around a site: only where its files lie, and that nginx does not become a daemon
 NGINX = """daemon off;
 pid FOLDER/nginx.pid;
 events {
@@ -35,7 +36,7 @@ CADDY = """{
 }
 SITE"""
 
-# connections to the desk that are kept, and one for each message
+# two sites: one keeps its connections to the desk, the other opens one for each message
 KEPT = """upstream desk {
     server DESK;
     keepalive 64;
@@ -63,12 +64,12 @@ PASSED = """http://:PORT {
 }
 """
 
-# where the authority lies that Caddy makes for itself
+# where Caddy keeps the authority that it makes for itself
 AUTHORITY = "caddy/pki/authorities/local/root.crt"
 
 
 def told(path: str) -> str:
-    """What the documents have an operator write to this path."""
+    """What the documents tell an operator to write to this path."""
     with open(os.path.join(TOP, "docs", "OPERATING.md"), encoding="utf-8") as file:
         found = re.findall(f"^cat > {re.escape(path)} <<'?END'?\n(.*?)^END$", file.read(), re.DOTALL | re.MULTILINE)
     expect(len(found) == 1, f"the documents tell {len(found)} times what is in {path}")
@@ -80,7 +81,7 @@ def output_of(*words: str) -> str:
 
 
 def told_nginx(folder: str, user: str) -> str:
-    """The site of nginx that the documents tell, with a user whose password is his name."""
+    """The site of nginx that the documents show, with a user whose password is his name."""
     make_certificate(folder)
     with open(os.path.join(folder, "users"), "w", encoding="ascii") as file:
         file.write(f"{user}:{output_of('openssl', 'passwd', '-6', user)}\n")
@@ -91,7 +92,7 @@ def told_nginx(folder: str, user: str) -> str:
 
 
 def told_caddy(user: str) -> str:
-    """The same of Caddy."""
+    """The site of Caddy that the documents show, with the same user."""
     site = told("/etc/caddy/Caddyfile").replace("127.0.0.1:8080", "DESK").replace("localhost", "https://localhost:PORT")
     return site.replace("$(caddy hash-password)", output_of(str(path_of("caddy")), "hash-password", "--plaintext", user))
 
@@ -130,7 +131,7 @@ class Proxy:
         self.end()
 
     def wait(self) -> None:
-        """Until it listens."""
+        """Waits until it listens."""
         last = time.monotonic() + SECONDS
         while self.process.poll() is None and time.monotonic() < last:
             try:
@@ -142,7 +143,8 @@ class Proxy:
             expect(False, f"it does not listen: {log.read()}")
 
     def context(self, authority: str) -> ssl.SSLContext:
-        """Which trusts an authority whose certificate lies in the folder. Caddy listens before it has made that and its own."""
+        """A context that trusts the authority whose certificate lies in the folder. Caddy listens before it has made its
+        authority and its certificate."""
         path = os.path.join(self.folder, authority)
         last = time.monotonic() + SECONDS
         while time.monotonic() < last:

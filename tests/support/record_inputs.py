@@ -1,4 +1,4 @@
-"""Random files of requests, most of them as they should be."""
+"""Random files of requests, most of them well formed."""
 
 from dataclasses import dataclass
 
@@ -9,8 +9,8 @@ from support.stretches import HEADERS, file_of
 
 @dataclass
 class Records:
-    """A file of requests of a kind, the lines that make the fields before, the lines that it says, or None where its bytes were
-    changed, and how many requests are carried out together, each time that it comes."""
+    """A file of requests of a kind; the lines that make the fields before it; the lines that it says, or None where its bytes
+    were changed; and, for each time that it is given to the program, how many requests are carried out together."""
 
     kind: str
     before: list[bytes]

@@ -1,5 +1,5 @@
-"""The system calls of a run that can change files, with their bytes, as strace records them; and a disk that carries them out and
-may lose what was not synced."""
+"""The system calls by which a run may change files, with their bytes, as strace records them; and a disk that carries these calls
+out and may lose what was not synced."""
 
 import os
 import re
@@ -13,13 +13,13 @@ from support.programs import SECONDS, expect
 
 SECTOR = 512
 
-# all calls by which a program changes files or names; one that is recorded and not understood ends the test
+# all calls by which a program changes files or names; a recorded call that is not understood ends the test
 CHANGES = (
     "open,openat,creat,write,writev,pwrite64,pwritev,pwritev2,truncate,ftruncate,fallocate,fsync,fdatasync,rename,renameat,"
     "renameat2,unlink,unlinkat,link,linkat,mkdir,mkdirat,sync_file_range,copy_file_range,sendfile"
 )
 SYNCS = ("fsync", "fdatasync")
-# those by which a service sends, too
+# with the calls by which a service sends
 SENDS = ("write", "sendto")
 LONGEST = 1 << 20
 CALL = re.compile(r"(\w+)\((.*)\)\s+= (-?\d+)(?:<([^>]*)>)?")
@@ -34,7 +34,7 @@ def bytes_in(text: str) -> bytes:
 
 @dataclass(eq=False)
 class Call:
-    """A call: its name, the number and the path of its file, its words, the bytes among them, and what came back."""
+    """A call: its name, the number and the path of its file, its words, the bytes among these, and what it returned."""
 
     name: str
     number: str
@@ -45,7 +45,7 @@ class Call:
 
 
 def read_call(line: str) -> Call | None:
-    """The call that a line of strace tells, if it tells one. An opening is of the file that came of it."""
+    """The call on a line of strace, if there is one. The path of an opening is that of the file it opened."""
     if not (found := CALL.match(line)):
         return None
     name, words, result, opened = found.groups()
@@ -56,19 +56,20 @@ def read_call(line: str) -> Call | None:
 
 
 def traced() -> bool:
-    """Whether there is a strace that may trace here."""
+    """Whether strace is here and may trace."""
     if not shutil.which("strace"):
         return False
     return subprocess.run(["strace", "-o", os.devnull, "true"], capture_output=True, check=False).returncode == 0
 
 
 def recorder(path: str) -> list[str]:
-    """What stands in front of a program whose calls are recorded in a file; it stays the child of whoever begins it."""
+    """The words that stand in front of a program to record its calls in a file; the program stays the child of the process that
+    begins it."""
     return ["strace", "-D", "-y", "-xx", "-s", str(LONGEST), "-o", path, "-e", f"trace={CHANGES},sendto,sendmsg,sendmmsg"]
 
 
 def recorded_in(path: str) -> list[Call]:
-    """The calls in their order."""
+    """The calls, in their order."""
     with open(path, encoding="ascii") as file:
         return [call for call in map(read_call, file) if call]
 
@@ -83,7 +84,7 @@ def record(program: str, words: list[str], text: str) -> tuple[int, list[Call]]:
 
 
 class File:
-    """The bytes of a file that were synced, and what was written since: parts at places, and lengths."""
+    """The bytes of a file that were synced, and what was written since then: parts with their places, and lengths."""
 
     def __init__(self, data: bytes = b"") -> None:
         self.synced = data
@@ -107,7 +108,7 @@ class File:
         self.parts, self.lengths = [], []
 
     def left(self, chance: Random) -> bytes:
-        """What a power cut leaves: of what was not synced any sectors, and any length that it had."""
+        """What a power cut leaves: any of the sectors that were not synced, and any length that the file had since."""
         share = chance.choice([0, 1, chance.random()])
         length = chance.choice([len(self.synced), *self.lengths])
         ends = [at + len(data) for at, data in self.parts]
@@ -121,7 +122,8 @@ class File:
 
 
 class Disk:
-    """A folder: its files, which of their names were synced, and those given since. Calls on other paths are no matter of it."""
+    """A folder: its files, which of their names were synced, and which names were given since. Calls on other paths are
+    ignored."""
 
     def __init__(self, folder: str, files: dict[str, bytes]) -> None:
         self.folder = os.path.realpath(folder)
@@ -135,7 +137,7 @@ class Disk:
         expect("O_TRUNC" not in call.words, f"{name} is opened without its bytes")
 
     def change(self, file: File, call: Call) -> None:
-        """Carries out a call on a file, whose last word is a place or a length."""
+        """Carries out a call on a file; the last word of the call is a place or a length."""
         if call.name in SYNCS:
             file.sync()
         elif call.name == "pwrite64":
@@ -146,7 +148,7 @@ class Disk:
             raise AssertionError(f"a call that is not understood: {call}")
 
     def carry_out(self, call: Call) -> bytes:
-        """Carries out a call, and gives what it has written on standard output, or sent."""
+        """Carries out a call, and returns what it wrote on standard output or sent."""
         if call.name in SENDS and (call.number == OUTPUT or call.path.startswith(("socket:", "TCP"))):
             return call.data[: max(0, call.result)]
         if call.path == self.folder and call.name in SYNCS:
@@ -162,7 +164,7 @@ class Disk:
         return b""
 
     def left(self, chance: Random) -> dict[str, bytes]:
-        """The files by their names as a power cut leaves them: of the names that were not synced any."""
+        """The files, by name, that a power cut leaves: any of the names that were not synced."""
         share = chance.choice([0, 1, chance.random()])
         names = {name: file for name, file in self.names.items() if name in self.synced or chance.random() < share}
         return {name: file.left(chance) for name, file in names.items()}

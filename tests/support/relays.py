@@ -1,4 +1,4 @@
-"""What stands between a client and a desk and does its worst, or in the place of a desk."""
+"""What stands between a client and a desk and causes faults, or stands in a desk's place."""
 
 import contextlib
 import http.client
@@ -13,9 +13,9 @@ SECONDS = 60
 
 
 class Relay(http.server.ThreadingHTTPServer):
-    """Hands each message on to a desk. One may have a fault, by its number from 1: `lost`, its answer does not come back; `away`,
-    it does not arrive; `busy`, a front answers in place of the desk; `late`, it arrives once `goes_on` is set; `killed`, the
-    client is, before it has the answer; `ended`, the client is killed, and it does not arrive."""
+    """Hands each message on to a desk. A message may have a fault, by its number from 1. `lost`: its answer does not come back.
+    `away`: it does not arrive. `busy`: a front answers in place of the desk. `late`: it arrives only when `goes_on` is set.
+    `killed`: the client is killed before it has the answer. `ended`: the client is killed and the message does not arrive."""
 
     daemon_threads = True
 
@@ -26,7 +26,7 @@ class Relay(http.server.ThreadingHTTPServer):
         self.desk, self.faults = port, faults
         self.client: subprocess.Popen[str] | None = None
         self.came, self.goes_on = threading.Event(), threading.Event()
-        # what each message shows of its user
+        # what each message says about its user
         self.shown: list[str | None] = []
         self.thread = threading.Thread(target=self.serve_forever, kwargs={"poll_interval": 0.01})
         self.thread.start()
@@ -91,7 +91,7 @@ class Handler(http.server.BaseHTTPRequestHandler):
 
 
 class FalseDesk(socketserver.ThreadingTCPServer):
-    """Answers whatever comes by these bytes and closes; or, without any, never."""
+    """Answers whatever comes with these bytes and closes; where there are none, never answers."""
 
     daemon_threads = True
 
@@ -113,7 +113,7 @@ class FalseAnswer(socketserver.BaseRequestHandler):
 
 @contextlib.contextmanager
 def false_desk(told: bytes | None) -> Iterator[int]:
-    """The port of what is no desk."""
+    """The port of something that is no desk."""
     with FalseDesk(told) as server:
         thread = threading.Thread(target=server.serve_forever, kwargs={"poll_interval": 0.01})
         thread.start()

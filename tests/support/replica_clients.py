@@ -1,4 +1,5 @@
-"""Clients of a desk on three machines: each asks, here and there, until it is answered or gives up, and notes what it is told."""
+"""Clients of a desk on three machines: each asks, at one machine or another, until it is answered or gives up, and notes its
+answers."""
 
 import asyncio
 import random
@@ -14,7 +15,7 @@ from support.programs import expect
 
 BRANCHES, ARTICLES = ["N1", "S2"], ["A-1", "B-2", "C-3"]
 NO_ANSWER = (OSError, EOFError, asyncio.TimeoutError)
-# answers behind which nobody knows whether it was done
+# answers after which nobody knows whether the command was done
 AGAIN = {408, 429, 500, 502, 503, 504}
 
 # an address and a port
@@ -23,14 +24,14 @@ Place = tuple[str, int]
 
 @dataclass
 class Known:
-    """The greatest revision of the log that a client was told."""
+    """The greatest revision of the log that a client has been told."""
 
     revision: int = 0
 
 
 @dataclass
 class Wire:
-    """A connection to a machine, or by TLS to its front, which is made anew when it broke."""
+    """A connection to a machine, or with TLS to its front; it is made anew after it broke."""
 
     place: Place
     known: Known | None = None
@@ -74,7 +75,7 @@ class Wire:
 
 @dataclass
 class Stock:
-    """What clients ask for: small fields, so that a good part is refused."""
+    """What clients ask for: the fields are small, so that many commands are refused."""
 
     random: random.Random
     clock: int = 0
@@ -118,7 +119,7 @@ class Stock:
         return self.random.choices(kinds, [26, 23, 36, 3, 4])[0]()
 
     def key(self, client: int, count: int, command: str) -> str:
-        """The clock is moved by many, under one key for each moment."""
+        """The key of a command. Many clients move the clock, with one key for each moment."""
         return command.replace("expire ", "clock-") if command.startswith("expire ") else f"c{client}-{count}"
 
     def target(self, key: str) -> str:
@@ -127,7 +128,7 @@ class Stock:
 
 
 class Client:
-    """A client by its number. It has a wire to each place, and some copies of what it asks come late."""
+    """A client with its number. It has a wire to each machine, and some copies of what it asks come late."""
 
     def __init__(self, number: int, stock: Stock, history: History, wires: list[Wire], pause: float):
         self.number, self.stock, self.history, self.wires, self.pause = number, stock, history, wires, pause
@@ -163,7 +164,7 @@ class Client:
         return attempt
 
     def send_late(self, key: str, command: str) -> None:
-        """A copy of what was asked and not answered, as the client knew it then, is on its way for some seconds."""
+        """A copy of a command that was not answered, with what the client knew of the log then, arrives some seconds later."""
         old = self.random.choice(self.wires)
         known = Known(old.known.revision) if old.known else None
 

@@ -15,14 +15,14 @@ from support.replica_network import MACHINES, Failed
 from support.replicas import PORT, UP_SECONDS, Machines
 
 PARTS = ["etcd", "replica", "desk", "front"]
-# what a full disk keeps free, in bytes
+# how much a full disk keeps free, in bytes
 SPARE = 4_096
 
 Fault = Callable[[], Awaitable[None]]
 
 
 class Faults:
-    """Faults of the machines, with how many there were of each kind."""
+    """Faults of the machines, and how many there were of each kind."""
 
     def __init__(self, machines: Machines, seed: int, small_disk: str | None):
         self.machines, self.random, self.small_disk = machines, random.Random(seed), small_disk
@@ -35,7 +35,7 @@ class Faults:
         self.told.append(f"{time.monotonic():.1f} {kind} {text}")
 
     def machine(self, who: str = "any") -> int:
-        """A machine: the leader's, a follower's or any."""
+        """The number of a machine: the leader's, a follower's or any."""
         leader = self.machines.leader() if who != "any" else None
         if leader is None or who == "any":
             return self.random.choice(MACHINES)
@@ -135,14 +135,14 @@ class Faults:
     # ---- all of it
 
     def faults(self) -> Counter[str]:
-        """How many there were of each kind, without copies and compactions."""
+        """How many faults there were of each kind; copies and compactions are not counted."""
         return Counter({kind: count for kind, count in self.counts.items() if not kind.startswith(("copy", "compaction"))})
 
     def count(self) -> int:
         return self.faults().total()
 
     def planned(self) -> list[Fault]:
-        """The faults, in any order, but that the log is compacted behind the machine that needs all of it."""
+        """The faults, in any order, except that the log is compacted only after the machine that needs all of it is back."""
         early = [*self.kills(), *self.pauses(), *[self.back_up] * 3, *([self.fill_disk] * 2 if self.small_disk else [])]
         early += self.cuts() if self.machines.network.can_cut else []
         self.random.shuffle(early)

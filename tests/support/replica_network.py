@@ -1,5 +1,5 @@
-"""Where machines of a test lie: in network namespaces on a bridge of their own, with ways that can be cut; else on addresses of
-the loopback, without."""
+"""Where the machines of a test are: in network namespaces on a bridge of their own, with ways that can be cut; or else on
+addresses of the loopback, whose ways cannot."""
 
 import os
 import subprocess
@@ -13,7 +13,7 @@ TABLE = "table inet cut { chain in { type filter hook input priority 0; }; chain
 
 
 class Failed(Exception):
-    """A command that did not end well, and what it told."""
+    """A command that did not end well, and what it wrote."""
 
 
 def run(*words: str, seconds: float = SECONDS) -> str:
@@ -42,7 +42,7 @@ class Loopback:
         return self.address(machine)
 
     def inside(self, machine: int) -> list[str]:
-        """What a command is run by on a machine."""
+        """The words that run a command on a machine."""
         return []
 
     def up(self) -> None:
@@ -59,7 +59,7 @@ class Loopback:
 
 
 class Spaces(Loopback):
-    """Each machine has a network namespace; clients are outside of all."""
+    """Each machine has a network namespace; clients are outside of all of them."""
 
     can_cut = True
 
@@ -96,14 +96,14 @@ class Spaces(Loopback):
         run(*self.inside(machine), "nft", TABLE)
 
     def down(self) -> None:
-        """What is there of it goes."""
+        """Removes what there is of it."""
         words = [f"ip netns del {self.space(machine)}" for machine in MACHINES]
         words += [f"ip link del {self.name}v{machine}" for machine in MACHINES]
         for line in [*words, f"ip link del {self.name}"]:
             subprocess.run(line.split(), capture_output=True)
 
     def cut(self, machine: int, others: Sequence[str], ways: Sequence[str] = ("in", "out"), share: int = 100) -> None:
-        """Of what comes to the machine from those addresses, goes there, or both, that share is lost, by hundreds."""
+        """Loses `share` percent of what comes to the machine from those addresses, of what goes to them, or of both."""
         rules = [f"add rule inet cut {way} ip {'saddr' if way == 'in' else 'daddr'} {other}" for way in ways for other in others]
         chance = "" if share == 100 else f" numgen random mod 100 < {share}"
         run(*self.inside(machine), "nft", "; ".join(f"{rule}{chance} drop" for rule in rules))
@@ -114,7 +114,7 @@ class Spaces(Loopback):
 
 
 def made_network() -> Loopback:
-    """Namespaces where they can be made."""
+    """Network namespaces where they can be made, else the loopback."""
     if os.geteuid() == 0 and path_of("ip") and path_of("nft"):
         spaces = Spaces()
         try:

@@ -1,5 +1,6 @@
-"""Three machines that hold a desk, in one process: their code, over a log and desks that are models. Time is counted in turns of
-the event loop; a put may be kept late, unheard or not at all, a machine may lag and stop, and copies come late.
+"""Three machines that hold a desk, in one process: the code of the tool, over a log and desks that are models. Time is counted in
+turns of the event loop. A put may be kept late, or without an answer, or not at all; a machine may lag and stop; and copies of
+commands come late.
 
     python3 -m support.replica_steps COUNT [FIRST]    plays so many cases, from that one on, and tells the first that is wrong"""
 
@@ -25,9 +26,9 @@ from support.rows import rows_by
 from support.rules import Rules
 
 MACHINES, CLIENTS, COMMANDS = 3, 5, 14
-# in turns of the event loop: how long clients wait, and what may come late
+# how long clients wait, and how late something may come, in turns of the event loop
 PATIENCE, LATE = 80, 400
-# a case that goes on for longer hangs
+# a case that takes longer hangs
 CASE_SECONDS = 60
 
 FIELDS = ["N1 A-1", "N2 A-1"]
@@ -35,7 +36,7 @@ VIEWS = [*(f"/v1/fields/{name.replace(' ', '/')}" for name in FIELDS), "/v1/orde
 
 
 class Gone(Exception):
-    """The machine stopped before its answer."""
+    """The machine stopped before it answered."""
 
 
 class Chance(random.Random):
@@ -148,7 +149,7 @@ class ModelConnection(Connection):
 
 
 class Place:
-    """A machine's place: its rules last, the machine runs and stops."""
+    """A machine's place: the rules of its desk stay, the machine runs and stops."""
 
     def __init__(self, number: int, kept: Kept):
         self.name, self.kept, self.chance = f"m{number}", kept, kept.chance
@@ -157,7 +158,7 @@ class Place:
         self.tasks: list[asyncio.Task[Any]] = []
 
     async def start(self) -> None:
-        # one that was broken off on its start
+        # the machine may have been broken off while it started
         self.cancel()
         rows = [f"{key} {words}".encode() for key, (_, words) in sorted(self.rules.kept.items(), key=lambda each: each[1][0])]
         self.commands = ModelConnection(self.rules, self.chance, self.chance.choice([2, 8]))
@@ -186,7 +187,7 @@ class Place:
                 task.result()
 
     def stop(self) -> None:
-        """What the desk was given may be done, though nobody hears of it."""
+        """What the desk was given may be done, though nobody reads an answer."""
         self.machine = None
         self.cancel()
         for _ in range(self.chance.randint(0, len(self.commands.messages))):
@@ -196,7 +197,7 @@ class Place:
 
 
 class Shop:
-    """A client: it asks, here and there, until it is answered or gives up; copies of its commands come late."""
+    """A client. It asks, at one machine or another, until it is answered or gives up; copies of its commands come late."""
 
     def __init__(self, number: int, case: "Case"):
         self.number, self.case, self.chance = number, case, case.chance
@@ -232,7 +233,7 @@ class Shop:
         attempt = Attempt(key, command, self.case.now())
         self.case.history.attempts.append(attempt)
         left = [False]
-        # one that is gone is noticed, or not
+        # that a client is gone is noticed, or not
         is_noticed, known = self.chance.random() < 0.5, self.known
         line = attempt.line().encode()
         answer = await self.told(lambda machine: machine.command(line, known, lambda: is_noticed and left[0]))
@@ -279,7 +280,7 @@ class Case:
         return next(self.moments)
 
     def send_late(self, line: bytes, known: int) -> None:
-        """A copy of a command, with what its client knew, comes some time later, and nobody hears what becomes of it."""
+        """Some time later a copy of a command comes, with what its client knew of the log; nobody reads its answer."""
 
         async def work() -> None:
             await self.chance.turns(LATE)
@@ -346,7 +347,7 @@ async def wrong_of(seed: int, counts: dict[str, int]) -> list[str]:
 
 
 def play(first: int, count: int) -> tuple[list[str], dict[str, int]]:
-    """What is wrong in the first case that is, and what all looked at."""
+    """What is wrong in the first case that is wrong, and what all cases looked at."""
     stockdesk_machine.HEAR_SECONDS = 0
     counts: dict[str, int] = {}
     for seed in range(first, first + count):

@@ -1,14 +1,16 @@
-"""Random logs, and a machine that carries one out and is stopped and started again, wherever: its code over a log that is
-written, and a desk that is a model.
+"""Random logs, and a machine that carries out such a log and is stopped and started again anywhere. The machine is the code of
+the tool; the log is written beforehand, and the desk is a model.
 
     python3 -m support.replica_walks COUNT    tells the first case that is wrong"""
 
 import asyncio
+import contextlib
 import copy
+import io
 import os
 import random
 import sys
-from collections.abc import AsyncIterator, Callable
+from collections.abc import AsyncIterator, Callable, Iterable
 
 import support  # noqa: F401
 import stockdesk_machine
@@ -16,14 +18,14 @@ from stockdesk_desk import Answer, Connection, Desk
 from stockdesk_log import Entry, Log, ToldMark
 from stockdesk_machine import Machine
 from stockdesk_tools import Fault
-from stockdesk_walk import Walk
+from stockdesk_walk import Walk, link
 from support.replica_steps import answer_of
 from support.rows import rows_by
 from support.rules import Rules
 
 WORDS = [f"{kind} N1 A-1 {many}" for kind in ("deliver", "writeoff") for many in (1, 2, 3)]
 WORDS += ["open 1 5 take N1 A-1 2", "open 2 5 add N1 A-1 2", "commit 1", "abort 2", "use 1 N1 A-1 1", "expire 1", "expire 5"]
-# behind so many answers a desk is stopped, or it is not
+# after so many answers the desk is stopped; None where it is not
 STOPS = [1, 1, 2, 3, 5, 9, 20, None]
 
 
@@ -32,7 +34,7 @@ class Stopped(Exception):
 
 
 class WrittenLog(Log):
-    """A log that is there, and what machines have told at its marks."""
+    """A log that is written already, and the marks that machines have told."""
 
     def __init__(self, entries: list[Entry]):
         self.entries, self.told = entries, set[ToldMark]()
@@ -53,7 +55,8 @@ class WrittenLog(Log):
 
 
 class StoppedConnection(Connection):
-    """A connection to the rules, which answer at once, so many messages. The last one is carried out, and nobody hears of it."""
+    """A connection to the rules, which answer at once, for so many messages. The last of these is carried out, but its answer
+    never comes."""
 
     def __init__(self, rules: Rules, stop: int | None):
         self.begin()
@@ -68,7 +71,7 @@ class StoppedConnection(Connection):
 
 
 def random_value(chance: random.Random, revision: int, fixed: dict[str, str]) -> bytes:
-    """Few keys, mostly each with one command, asked for at some revision before."""
+    """A value for one of a few keys, mostly with the same command each time, asked for at some earlier revision."""
     base = max(0, revision - chance.choice([1, 1, 2, 3, 6]))
     keys = chance.choices(list(fixed), k=chance.choice([1, 1, 2, 4]))
     lines = [f"{key} {fixed[key] if chance.random() < 0.9 else chance.choice(WORDS)}" for key in keys]
@@ -76,7 +79,8 @@ def random_value(chance: random.Random, revision: int, fixed: dict[str, str]) ->
 
 
 def random_log(chance: random.Random) -> list[Entry]:
-    """A small field, so that much is refused now and accepted later; some marks, and revisions that are not the log's."""
+    """A log about a small field, so that much is refused now and accepted later; with some marks, and with revisions that are not
+    the log's."""
     fixed = {f"K{each}": chance.choice(WORDS) for each in range(chance.choice([3, 6, 12]))}
     entries, mark = [Entry(1, b"lines a 0 0\nF field N1 A-1 0 4 2")], 0
     for _ in range(chance.randrange(3, 40)):
@@ -113,7 +117,7 @@ async def wrong_of(seed: int) -> str:
     await is_carried_out(WrittenLog(entries), whole, None)
     try:
         while not await is_carried_out(log, rules, chance.choice(STOPS)):
-            # a machine begins anew from nothing, or from a copy
+            # the machine begins anew, with no desk or with a copy
             rules = Rules() if chance.random() < 0.03 else copy.deepcopy(rules)
     except Fault as fault:
         return f"case {seed}: {fault}"
@@ -124,6 +128,30 @@ async def wrong_of(seed: int) -> str:
 def first_wrong(count: int) -> str:
     stockdesk_machine.HEAR_SECONDS = 0
     return next((wrong for seed in range(count) if (wrong := asyncio.run(wrong_of(seed)))), "")
+
+
+async def words_on_the_way(log: WrittenLog) -> str:
+    """What a machine says that begins with no desk and carries the log out."""
+    machine = Machine("m1", log, Walk([]), Desk(StoppedConnection(Rules(), None), []), 10)
+    with contextlib.redirect_stderr(io.StringIO()) as said:
+        await machine.carry_out()
+        await asyncio.gather(*machine.telling)
+    return said.getvalue()
+
+
+def said_on_the_way(log: WrittenLog) -> str:
+    stockdesk_machine.HEAR_SECONDS = 0
+    return asyncio.run(words_on_the_way(log))
+
+
+def said_of_marks(others: Iterable[int], own: Iterable[int]) -> str:
+    """What a machine says that passes marks at the revisions 5 and 9, where another one with the same desk has told marks at the
+    revisions `others`, and this one, before it lost its desk, at the revisions `own`."""
+    line = b"F field N1 A-1 0 4 2"
+    log = WrittenLog([Entry(1, b"lines a 0 0\n" + line), Entry(5, b"mark 0"), Entry(9, b"mark 5")])
+    for name, revisions in [("m2", others), ("m1", own)]:
+        log.told |= {ToldMark(revision, name, 1, link(b"", line).hex()) for revision in revisions}
+    return said_on_the_way(log)
 
 
 def main() -> None:

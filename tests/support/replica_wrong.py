@@ -29,7 +29,7 @@ KEPT_OVER = """        if line in self.rows:
         return False
 """
 
-# of each how it is tried, its module, a part of it, and what is put in that place
+# for each: how it is tried, its module, a part of that, and what is put in place of the part
 STEPS, WALKS = ("support.replica_steps", "150"), ("support.replica_walks", "2000")
 WRONG = {
     "older copies count": (STEPS, "stockdesk_walk", LATE, "return base < self.mark"),
@@ -48,7 +48,8 @@ WRONG = {
 
 
 def changed_tools(folder: str, module: str, part: str, other: str) -> str:
-    """The tool for several machines with another part in one of its modules, in a folder that is made; its path."""
+    """The path of the tool for several machines, copied into a folder that is made, with a part of one of its modules
+    replaced."""
     shutil.copytree(DEPLOY, folder, ignore=shutil.ignore_patterns("page", "__pycache__"))
     path = os.path.join(folder, f"{module}.py")
     with open(path, encoding="utf-8") as file:
@@ -60,7 +61,7 @@ def changed_tools(folder: str, module: str, part: str, other: str) -> str:
 
 
 def play_wrong(name: str, folder: str) -> str:
-    """What is found first in cases of a wrong program, whose modules lie in a folder that is made."""
+    """What the cases of a wrong program find first; its modules lie in a folder that is made."""
     (trial, count), module, part, other = WRONG[name]
     changed_tools(folder, module, part, other)
     tests = os.path.dirname(os.path.dirname(os.path.abspath(__file__)))

@@ -21,16 +21,16 @@ from support.tables import rows_of
 
 REPLICA = os.path.join(DEPLOY, "stockdesk-replica")
 PORT, FRONT_PORT, PEER_PORT, ETCD_PORT = 8080, 8443, 2380, 2379
-# what is asked of etcd in a test may take so long, and a machine to come up, in seconds
+# how long, in seconds, a question to etcd may take in a test, and how long a machine may take to come up
 ETCD_SECONDS, UP_SECONDS = 10, 120
 
 KINDS = ["etcd", "replica", "front"]
-# a part of a machine
+# a kind of process and the machine it runs on
 Part = tuple[str, int]
 
 
 def told_to_operators(part: str) -> str:
-    """The one block of the operators' guide that has this part."""
+    """The one block of the operators' guide that contains this text."""
     with open(os.path.join(TOP, "docs", "REPLICAS.md"), encoding="utf-8") as file:
         found = [block for block in re.findall(r"^```sh\n(.*?)^```$", file.read(), re.DOTALL | re.MULTILINE) if part in block]
     expect(len(found) == 1, f"the guide has {len(found)} blocks with {part}")
@@ -38,15 +38,15 @@ def told_to_operators(part: str) -> str:
 
 
 def make_certificates(folder: str, net: str) -> None:
-    """An authority, and of each machine a certificate with its key, as the guide tells."""
-    # on the loopback a member comes from another address than its own
+    """Makes an authority, and for each machine a certificate with its key, as the guide says."""
+    # on the loopback a member's connections come from an address other than its own
     names = "subjectAltName=IP:127.0.0.1,IP:" if net.startswith("127.") else "subjectAltName=IP:"
     script = told_to_operators("-subj /CN=members").replace("10.0.0.", f"{net}.").replace("subjectAltName=IP:", names)
     subprocess.run(["sh", "-ec", script], cwd=folder, check=True, capture_output=True)
 
 
 def settings_of(machine: int, net: str, folder: str) -> dict[str, str]:
-    """What the guide tells the member of etcd on a machine, with its name and addresses."""
+    """What the guide gives to the member of etcd on a machine, with this machine's name and addresses."""
     lines = re.findall(r"^(ETCD_\w+)=(.*)$", told_to_operators("cat > /etc/default/etcd"), re.MULTILINE)
     own = {name: value.replace("m1", f"m{machine}").replace("10.0.0.1", f"{net}.{machine}") for name, value in lines}
     own["ETCD_INITIAL_CLUSTER"] = dict(lines)["ETCD_INITIAL_CLUSTER"].replace("10.0.0.", f"{net}.")
@@ -54,7 +54,7 @@ def settings_of(machine: int, net: str, folder: str) -> dict[str, str]:
 
 
 class Machines:
-    """The machines, in a folder; what of them ends is started again, as systemd does it."""
+    """The machines, in a folder. A process of theirs that ends is started again, as systemd does it."""
 
     def __init__(self, program: str, folder: str, mark_lines: int = 20_000, has_fronts: bool = True):
         self.program, self.root, self.mark_lines = program, folder, mark_lines
@@ -151,7 +151,7 @@ class Machines:
             await asyncio.sleep(0.02)
 
     def down(self) -> None:
-        """Ends all of it."""
+        """Ends all processes, and removes the network."""
         self.wanted.clear()
         for process in self.processes.values():
             with contextlib.suppress(ProcessLookupError):
@@ -160,7 +160,7 @@ class Machines:
             process.wait()
         self.network.down()
         for machine in MACHINES:
-            # a desk ends with its replica, and has the lock until then
+            # a desk ends with its replica, and holds its lock until then
             with contextlib.suppress(FileNotFoundError):
                 run("flock", f"{self.desk(machine)}.lock", "true")
 
@@ -171,7 +171,7 @@ class Machines:
     # ---- processes
 
     def pid(self, kind: str, machine: int) -> int | None:
-        """The process of a part of a machine; that of a desk is the child of its replica's."""
+        """The process of a part of a machine; for a desk it is the child of its replica's process."""
         process = self.processes.get(("replica" if kind == "desk" else kind, machine))
         if process is None or process.poll() is not None:
             return None
@@ -210,7 +210,7 @@ class Machines:
         return None
 
     def marks(self, machine: int) -> list[tuple[int, str]]:
-        """The revision and the machine of each mark that was told."""
+        """The revision and the machine of each mark in the log."""
         keys = self.etcdctl(machine, "get", "--prefix", f"{self.log}/marks/", "--keys-only").split()
         return [(int(key.split("/")[-2]), key.split("/")[-1]) for key in keys]
 
@@ -220,7 +220,8 @@ class Machines:
         await asyncio.to_thread(run, *words)
 
     def compact(self) -> int:
-        """The log goes up to the newest mark that all machines have told; which that is, or 0."""
+        """Compacts the log up to the newest mark that every machine has passed. Returns that mark's revision, or 0 where there is
+        none."""
         told = self.marks(1)
         newest = [max((revision for revision, name in told if name == f"m{each}"), default=0) for each in MACHINES]
         if min(newest):
@@ -229,7 +230,7 @@ class Machines:
         return min(newest)
 
     def member(self, donor: int, machine: int) -> str | None:
-        """The number of a machine's member, as another has it."""
+        """The identifier of a machine's member, as another member lists it."""
         peer = f"https://{self.address(machine)}:{PEER_PORT}"
         lines = self.etcdctl(donor, "member", "list").splitlines()
         return next((line.split(",")[0] for line in lines if peer in line), None)
@@ -270,7 +271,7 @@ class Machines:
         self.state = "existing"
 
     def back_up(self, machine: int) -> str | None:
-        """The path of a copy of a desk that is served meanwhile, if it could be made."""
+        """The path of a copy of a desk, made while the desk is served, if it could be made."""
         copies = os.path.join(self.root, f"copies{machine}")
         os.makedirs(copies, exist_ok=True)
         with open(f"{self.folder(machine)}/pid", encoding="ascii") as file:
@@ -283,7 +284,7 @@ class Machines:
         run(sys.executable, RESTORE, copy, self.desk(machine), "--program", self.program)
 
     def tables(self) -> list[list[str]]:
-        """The rows of each desk, which nobody has open. The program finds all of them good."""
+        """The rows of each desk; nobody has the desks open. The program has to find all of them good."""
         for machine in MACHINES:
             done(self.program, ["run", self.desk(machine)])
         return [rows_of(self.desk(machine)) for machine in MACHINES]

@@ -1,15 +1,16 @@
-"""How tests are told: each on a line, by the name by which it is chosen, with what it notes and, if it is slow, its time."""
+"""How tests are reported: each on a line, by the name by which it can be chosen, with what it notes and, if it is slow, its
+time."""
 
 import time
 import unittest
 from typing import Any
 
-# the time is told from so many seconds on
+# the time is written for tests that take so many seconds or more
 SLOW = 5.0
 
 
 class TimedResult(unittest.TextTestResult):
-    """Tells a name, then notes, the time and the outcome, as they come."""
+    """Writes a test's name, then its notes, its time and its outcome, as they come."""
 
     began: float | None = None
 
@@ -21,7 +22,7 @@ class TimedResult(unittest.TextTestResult):
         super().startTest(test)
 
     def tell_time(self) -> None:
-        """Of the test that ends; nothing where a class could not begin."""
+        """Writes the time of the test that ends; nothing where a class could not begin."""
         took = time.monotonic() - self.began if self.began else 0
         if self.showAll and took >= SLOW:
             self.stream.write(f"{took:.0f} s; ")

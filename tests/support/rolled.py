@@ -1,4 +1,5 @@
-"""Desks to be rolled over, how the tool ends on them, and what stands in the new one, by the rules and nothing of the tool."""
+"""Desks to be rolled over, how the tool ends on them, and what has to stand in the new desk, by the rules and without the
+tool."""
 
 import contextlib
 import os
@@ -21,12 +22,12 @@ from support.tables import sqlite3, tables_of
 
 TOOL = os.path.join(DEPLOY, "stockdesk-rollover")
 
-# a full desk takes its time
+# a full desk takes long
 PATIENCE = 20 * SECONDS
 
 KEY = re.compile(r"rollover-[0-9a-f]{20}-[1-9][0-9]*")
 
-# a desk with orders of all kinds that are open
+# a desk with open orders of all kinds
 SCRIPT = """K1 field N1 A-1 0 100 40
 K2 field N2 A-1 0 100 40
 K3 open 7 60 take N1 A-1 20 add N2 A-1 5
@@ -37,7 +38,7 @@ K7 transfer 9 60 A-1 N1 N2 1
 K8 expire 10
 """
 
-# the tables in which a new desk has what the rules make of the old one, and no row else
+# the tables in which a new desk has what the rules make of the old one, and no other row
 STANDING = ["field", "move", "orders", "line", "firm"]
 
 
@@ -47,7 +48,7 @@ def lines_open(desk: Rules) -> list[tuple[Order, Line]]:
 
 
 def count_shapes(seen: Seen, desk: Rules) -> None:
-    """Counts what a desk has that rolls over, of what is rare."""
+    """Counts the rare things that a desk has when it is rolled over."""
     lines, orders = lines_open(desk), desk.open.values()
     firm = [(order, line) for order, line in lines if order.state == FIRM]
     seen.add("open orders", len(orders))
@@ -75,8 +76,8 @@ def asked(path: str, query: str) -> list[Any]:
 
 @dataclass
 class Old:
-    """The commands that make a desk, the last of them those that leave some fields no room; whether the session of these is
-    killed; and a number that tells what comes to both desks behind the roll-over."""
+    """The commands that make a desk, the last of which leave some fields no room; whether the session that carries out these last
+    ones is killed; and a seed for the commands that come to both desks after the roll-over."""
 
     lines: list[bytes]
     last: list[bytes]
@@ -95,7 +96,7 @@ def joined(lines: Iterable[bytes]) -> bytes:
 
 
 def old_desk(chance: Chance) -> Old:
-    """A script, and bounds of some fields that are then what their open orders may come to."""
+    """A script, and then bounds for some fields that are just what their open orders may lead to."""
     known = known_fields(chance, OPENING)
     say_lines(chance, known, average=80, most=150)
     lines, last = list(known.lines), list[bytes]()
@@ -107,7 +108,7 @@ def old_desk(chance: Chance) -> Old:
 
 
 def desk_of(program: str, folder: str, text: str = SCRIPT) -> tuple[str, str]:
-    """A desk of these commands, and the path of a new one."""
+    """Makes a desk with these commands; returns its path, and the path of a new desk."""
     path = new_desk(program, folder, "old.db")
     done(program, ["run", path], text)
     return path, os.path.join(folder, "new.db")
@@ -126,7 +127,7 @@ def play_and_kill(program: str, path: str, text: str | bytes) -> None:
 
 
 def made(program: str, folder: str, old: Old, empty: str) -> tuple[str, str]:
-    """The desk, which is made of an empty one, and a closed copy of it to be read."""
+    """Makes the old desk of an empty one; returns its path, and the path of a closed copy, which is for reading."""
     path, name = os.path.join(folder, "old.db"), os.path.join(folder, "closed.db")
     shutil.copyfile(empty, path)
     done(program, ["run", path], joined(old.lines))
@@ -138,7 +139,7 @@ def made(program: str, folder: str, old: Old, empty: str) -> tuple[str, str]:
 
 
 def closed(program: str, path: str, name: str) -> str:
-    """A copy of a desk with its log in the file and none beside it."""
+    """A copy of a desk, closed: its log is in the file, and none lies beside it."""
     for end in ["", "-wal"]:
         shutil.copyfile(path + end, name + end)
     done(program, ["run", name], "")
@@ -147,7 +148,7 @@ def closed(program: str, path: str, name: str) -> str:
 
 
 def tool_ended(program: str, words: Sequence[str], limit: int | None = None) -> End:
-    """How the tool ends: its status, its output, what it tells of a fault; under a limit of the bytes that a file may have."""
+    """How the tool ends: its status, its output, and what it says of a fault; a limit may say how many bytes a file may have."""
     run = subprocess.run(
         [TOOL, "--program", program, *words],
         capture_output=True,
@@ -158,12 +159,12 @@ def tool_ended(program: str, words: Sequence[str], limit: int | None = None) -> 
 
 
 def lying(path: str) -> dict[str, bytes]:
-    """The bytes of a file and of what lies beside it."""
+    """The bytes of a file and of the files beside it."""
     return {end: bytes_of(path + end) for end in ["", "-wal", "-shm", "-journal"] if os.path.exists(path + end)}
 
 
 def rolled(program: str, old: str, new: str) -> list[str]:
-    """What the tool tells of a roll-over that is done; the old desk lies as it lay."""
+    """Rolls a desk over; returns the lines that the tool writes. The old desk is left as it was."""
     found = lying(old)
     status, out, errors = tool_ended(program, [old, new])
     expect((status, errors) == (0, b""), f"{status}, {errors!r}")
@@ -184,12 +185,12 @@ def expect_only(folder: str, names: Iterable[str]) -> None:
 
 
 def desk_in(path: str) -> Rules:
-    """The desk that the rows of a file tell."""
+    """The desk that the rows of a file describe."""
     return rows.desk_of(tables_of(path))
 
 
 def expect_standing(old: str, new: str) -> None:
-    """The new desk stands where the rules have it stand behind the old one, and has nothing else."""
+    """The new desk stands where the rules have it stand after the old one, and has nothing else."""
     wanted, found = rows.tables_by(desk_in(old).rolled_over()), tables_of(new)
     for table in STANDING:
         odd = next((pair for pair in zip_longest(wanted[table], found[table]) if pair[0] != pair[1]), None)
@@ -200,7 +201,7 @@ def expect_standing(old: str, new: str) -> None:
 
 
 def told_numbers(old: Rules, new: Rules) -> list[int]:
-    """The numbers that the tool's lines have, in their order."""
+    """The numbers in the lines that the tool has to write, in their order."""
     settled = [(order.number, line.used) for order, line in lines_open(old) if order.settled(line)]
     empty = sum(line.held == order.settled(line) for order, line in lines_open(old))
     ended = [sum(order.state == state for order in old.orders.values()) for state in (COMMITTED, ABORTED)]
@@ -222,7 +223,7 @@ def expect_told(told: Iterable[str], old: str, new: str) -> None:
 
 
 def expect_whole(old: str, new: str) -> None:
-    """A roll-over left all that it should, in the file alone."""
+    """A roll-over left all that it should, in one file with no log beside it."""
     expect(not os.path.exists(f"{new}-wal"), "a log was left")
     expect(os.stat(new).st_nlink == 1, "it has another name, too, with which the program refuses it")
     expect_standing(old, new)
@@ -230,7 +231,7 @@ def expect_whole(old: str, new: str) -> None:
 
 
 def replies(program: str, path: str, folder: str, text: str) -> list[str]:
-    """What a copy of a desk answers, but for the places."""
+    """What a copy of a desk answers, without the places."""
     copy = shutil.copyfile(path, os.path.join(folder, "copy.db"))
     with contextlib.suppress(FileNotFoundError):
         os.remove(f"{copy}-wal")
@@ -242,14 +243,14 @@ def asks_of(order: Order) -> list[str]:
 
 
 def commits(orders: Iterable[Order], generator: random.Random) -> str:
-    """Each order is committed, and each of its fields is asked for then."""
+    """Commands that commit each order, and after each a view of each of its fields."""
     chosen = list(orders)
     generator.shuffle(chosen)
     return "".join(f"C{order.number} commit {order.number}\n" + "".join(asks_of(order)) for order in chosen)
 
 
 def acts_on(order: Order, line: Line) -> list[str]:
-    """What may be done with a line, and what is refused."""
+    """Commands that act on a line, some accepted and some refused."""
     number, field, left = order.number, " ".join(line.name), line.held - line.used
     acts = [f"{verb} {number} {field} {pieces}" for verb in ["use", "release"] for pieces in (1, max(1, left // 2))]
     acts += [f"use {number} {field} {min(1_000_000, left + 1)}", f"more {number} {line.way} {field} 1"]
@@ -257,7 +258,7 @@ def acts_on(order: Order, line: Line) -> list[str]:
 
 
 def acts(orders: Iterable[Order], clock: int, generator: random.Random) -> str:
-    """What may be done with the orders, or is refused, in random order; the ends of orders among it."""
+    """Commands that act on the orders, accepted or refused, in random order; the ends of orders are among them."""
     lines = [(order, line) for order in orders for line in order.lines]
     all_acts = [f"expire {moment}" for moment in [max(0, clock - 1), clock, clock + 30, clock + 100]]
     all_acts += [act for order, line in lines for act in acts_on(order, line)]
@@ -267,8 +268,8 @@ def acts(orders: Iterable[Order], clock: int, generator: random.Random) -> str:
 
 
 def expect_same_future(program: str, folder: str, old: str, new: str, seed: int, most: int = 100) -> None:
-    """What the first commands on both come to is the same, for all open orders or so many of them: their ends, and every
-    third time what may be done before."""
+    """The first commands on either desk are answered alike, for all open orders or for `most` of them: their ends, and every
+    third time the acts that may come before."""
     generator, desk = random.Random(seed), desk_in(new)
     chosen = generator.sample(sorted(desk.open), min(most, len(desk.open)))
     orders = [desk.open[number] for number in sorted(chosen)]

@@ -1,4 +1,4 @@
-"""The rows that a desk has by the rules, the desk that rows tell, and which rows no desk has."""
+"""The rows that a desk has by the rules, the desk that rows describe, and what is wrong with rows that describe none."""
 
 import re
 from collections.abc import Iterator
@@ -41,7 +41,7 @@ from support.tables import (
 )
 
 VERSION = 2
-# the numbers by which these are stored
+# the numbers by which kinds, ways and states are stored
 KINDS, WAYS, STATES = [PLAIN, TRANSFER], [TAKE, ADD], [OPEN, COMMITTED, ABORTED]
 
 GREATEST_LEVEL, GREATEST_MOMENT, GREATEST_NUMBER, GREATEST_MOVE = 1_000_000_000, 4_000_000_000, 999_999_999, 1_000_000
@@ -58,16 +58,25 @@ def is_command(words: str) -> bool:
 
 def tables_by(desk: Rules) -> Tables:
     """The rows of all tables in the order of their keys."""
-    orders = [order for _, order in sorted(desk.orders.items())]
+    return {table: sorted(rows) for table, rows in rows_as_they_came(desk).items()}
+
+
+def rows_as_they_came(desk: Rules) -> Tables:
+    """The rows of all tables, those of each in the order in which they came; but the lines of an order stand together, and firm
+    orders in the order in which they were opened."""
     return {
-        "desk": [DeskRow(1, VERSION, desk.clock, len(desk.kept))],
-        "field": [field_row(desk, name) for name in sorted(desk.fields)],
-        "move": [MoveRow(place, *name, pieces) for place, name, pieces in desk.moves],
-        "orders": [OrderRow(it.number, KINDS.index(it.kind), it.until, stored(it.state)) for it in orders],
-        "line": [line_row(order, nr, line) for order in orders for nr, line in enumerate(order.lines, 1)],
-        "kept": [KeptRow(key, *kept) for key, kept in sorted(desk.kept.items())],
-        "firm": [FirmRow(number) for number in sorted(desk.firms)],
+        "desk": [desk_row(desk)],
+        "field": [field_row(desk, name) for name in desk.fields],
+        "move": [move_row(*move) for move in desk.moves],
+        "orders": [order_row(order) for order in desk.orders.values()],
+        "line": [row for order in desk.orders.values() for row in line_rows(order)],
+        "kept": [kept_row(desk, key) for key in desk.kept],
+        "firm": [FirmRow(number) for number in desk.orders if number in desk.firms],
     }
+
+
+def desk_row(desk: Rules) -> DeskRow:
+    return DeskRow(1, VERSION, desk.clock, len(desk.kept))
 
 
 def field_row(desk: Rules, name: tuple[str, str]) -> FieldRow:
@@ -75,13 +84,25 @@ def field_row(desk: Rules, name: tuple[str, str]) -> FieldRow:
     return FieldRow(*name, field.lo, field.hi, field.start, *desk.numbers(name))
 
 
-def line_row(order: Order, nr: int, line: Line) -> LineRow:
-    return LineRow(order.number, nr, *line.name, WAYS.index(line.way), line.held, line.used)
+def move_row(place: int, name: tuple[str, str], pieces: int) -> MoveRow:
+    return MoveRow(place, *name, pieces)
 
 
-def stored(state: str) -> int:
+def order_row(order: Order) -> OrderRow:
     """A firm order is stored as an open one, and in a table of its own."""
-    return STATES.index(OPEN if state == FIRM else state)
+    state = OPEN if order.state == FIRM else order.state
+    return OrderRow(order.number, KINDS.index(order.kind), order.until, STATES.index(state))
+
+
+def line_rows(order: Order) -> list[LineRow]:
+    return [
+        LineRow(order.number, nr, *line.name, WAYS.index(line.way), line.held, line.used)
+        for nr, line in enumerate(order.lines, 1)
+    ]
+
+
+def kept_row(desk: Rules, key: str) -> KeptRow:
+    return KeptRow(key, *desk.kept[key])
 
 
 def rows_by(desk: Rules) -> list[str]:
@@ -89,11 +110,11 @@ def rows_by(desk: Rules) -> list[str]:
     return lines_of_rows(tables_by(desk))
 
 
-# ---- the desk of rows
+# ---- the desk that rows describe
 
 
 def desk_of(tables: Tables) -> Rules:
-    """The desk that rows tell in which nothing is wrong. The numbers of its fields are summed from the others."""
+    """The desk that rows describe; nothing may be wrong with them. The numbers of its fields are summed from the other rows."""
     desk = Rules()
     desk.clock = tables["desk"][0].clock
     desk.fields = {(row.branch, row.article): Field(row.lo, row.hi, row.start, row.start) for row in tables["field"]}
@@ -117,11 +138,11 @@ def order_of(row: OrderRow, lines: list[LineRow], is_firm: bool) -> Order:
     return Order(row.number, KINDS[row.kind], row.until, found, FIRM if is_firm and state == OPEN else state)
 
 
-# ---- rows of no desk
+# ---- rows that describe no desk
 
 
 def faults(tables: Tables) -> list[str]:
-    """What is wrong with rows that no desk has. The sums are looked at where nothing else is wrong."""
+    """What is wrong with rows that describe no desk. The sums are looked at only where nothing else is wrong."""
     if "firm" not in tables:
         return ["the tables of version 1"]
     found = [
@@ -135,7 +156,7 @@ def faults(tables: Tables) -> list[str]:
 
 
 def faults_of_the_desk(tables: Tables) -> Iterator[str]:
-    """Its one row, the order of all rows, and the kept commands, which have the places from 1 on."""
+    """Faults of the desk's one row, of the order of all rows, and of the kept commands, which have the places from 1 on."""
     if len(tables["desk"]) != 1 or tables["desk"][0][:2] != (1, VERSION):
         yield f"another version: {tables['desk']}"
         return
@@ -198,7 +219,7 @@ def faults_of_orders(tables: Tables) -> Iterator[str]:
 
 
 def faults_of_lines(order: OrderRow, lines: list[LineRow], names: set[tuple[str, str]]) -> Iterator[str]:
-    """1 to 64 lines, numbered from 1, on as many fields."""
+    """Faults of an order's lines: there have to be 1 to 64, numbered from 1, on as many fields."""
     on = [(line.branch, line.article) for line in lines]
     if not 1 <= len(lines) <= LINES or [line.nr for line in lines] != list(range(1, len(lines) + 1)):
         yield f"lines that are not numbered from 1: {order}, {lines}"
@@ -218,7 +239,7 @@ def faults_of_firms(tables: Tables) -> Iterator[str]:
 
 
 def wrong_sums(tables: Tables) -> Iterator[str]:
-    """A value, an infimum or a supremum that is not the sum."""
+    """Each value, infimum or supremum that is not the sum of the other rows."""
     desk = desk_of(tables)
     for row in tables["field"]:
         wanted = field_row(desk, (row.branch, row.article))

@@ -1,4 +1,4 @@
-"""The rules of a desk in Python: what it answers to a line of a script, or a message, what that changes, and what a roll-over
+"""The rules of a desk in Python: what it answers to a line of a script or to a message, what that changes, and what a roll-over
 makes of the desk. A field's numbers are summed anew whenever they are asked for."""
 
 import re
@@ -11,7 +11,8 @@ from support.messages import answer, answer_of
 PLAIN, TRANSFER = "plain", "transfer"
 TAKE, ADD = "take", "add"
 OPEN, FIRM, COMMITTED, ABORTED = "open", "firm", "committed", "aborted"
-# how many of each there may be: commands that are done or set aside, one for each open order; fields, orders, lines of an order
+# how many there may be: of commands that are done or set aside (one for each open order), of fields, of orders, and of lines of
+# an order
 PLACES, FIELDS, ORDERS, LINES = 200_000, 10_000, 100_000, 64
 BAD = "- refused 20 BadCommand 0"
 
@@ -21,7 +22,7 @@ Effect = Callable[[], None]
 
 
 class Refused(Exception):
-    """A check that fails: the name of the refusal, and the line of an order that it is about."""
+    """A check that fails: the name of the refusal, and the number of the order's line that it is about."""
 
 
 def refuse(is_refused: bool, name: str, nr: int = 0) -> None:
@@ -31,7 +32,7 @@ def refuse(is_refused: bool, name: str, nr: int = 0) -> None:
 
 @dataclass
 class Field:
-    """The bounds of a field, its start, and what deliveries and write-offs have made of that."""
+    """The bounds of a field, its start, and the total of its deliveries and write-offs since."""
 
     lo: int
     hi: int
@@ -45,7 +46,7 @@ class Field:
 
 @dataclass
 class Line:
-    """What an order holds of a field, and has used of that."""
+    """What an order holds on a field, and how much of that it has used."""
 
     name: Name
     way: str
@@ -54,6 +55,10 @@ class Line:
 
     def sign(self) -> int:
         return 1 if self.way == ADD else -1
+
+    def unused(self) -> int:
+        """What it holds and has not used."""
+        return self.held - self.used
 
 
 @dataclass
@@ -71,19 +76,19 @@ class Order:
         return next((line for line in self.lines if line.name == name), None)
 
     def together(self, line: Line) -> list[Line]:
-        """The lines that a use or a release on this one acts on."""
+        """The lines that a use or a release on this line acts on."""
         return self.lines if self.kind == TRANSFER else [line]
 
     def settled(self, line: Line) -> int:
-        """What the line has moved its field by, whatever comes."""
+        """By how much the line has moved its field, whatever comes."""
         return line.used if self.state in (FIRM, COMMITTED) else 0
 
     def left(self, line: Line) -> int:
-        """What of the line may still move the field."""
+        """How much of the line may still move the field."""
         return line.held - self.settled(line) if self.is_open() else 0
 
     def rest(self) -> "Order":
-        """What a roll-over leaves of an open order: of each line what is not settled, and no line that is all settled."""
+        """What a roll-over leaves of an open order: of each line what is not settled; a line that is settled completely goes."""
         settled = [(line, self.settled(line)) for line in self.lines]
         lines = [Line(line.name, line.way, line.held - moved, line.used - moved) for line, moved in settled if line.held > moved]
         return Order(self.number, self.kind, self.until, lines, self.state)
@@ -98,13 +103,13 @@ class Rules:
         self.fields: dict[Name, Field] = {}
         self.orders: dict[int, Order] = {}
         self.open: dict[int, Order] = {}
-        # the lines of all orders on each field
+        # for each field, the lines of all orders on it
         self.lines: dict[Name, list[tuple[Order, Line]]] = {}
         self.moves: list[tuple[int, Name, int]] = []
         self.firms: set[int] = set()
         self.kept: dict[str, tuple[int, str]] = {}
 
-    # ---- what is answered, by which nothing changes
+    # ---- what is answered without a change
 
     def reply(self, line: str) -> str:
         """The line by which a line of a script is answered."""
@@ -128,7 +133,7 @@ class Rules:
         """The answer to the message that asks for the same as this line, or for a sheet."""
         if line.startswith("? sheet ") and re.fullmatch(BRANCH, line[8:]):
             return answer(200, self.sheet(line[8:]))
-        # what is no view leads nowhere
+        # what is no view has no target
         is_other = line.startswith("? ") and not ASK.fullmatch(line.encode())
         return answer_of("? none" if is_other else self.reply(line))
 
@@ -162,7 +167,7 @@ class Rules:
         ]
         return "\n".join([*lines, "total".ljust(16) + f"{sum(row[2] for row in found):15}", ""])
 
-    # ---- what is done
+    # ---- what is changed
 
     def take(self, line: bytes) -> str:
         """Answers a line of a script, and does what it accepts."""
@@ -173,13 +178,13 @@ class Rules:
         return reply
 
     def carry_out(self, key: str, command: str) -> None:
-        """Does a command, which is accepted."""
+        """Carries a command out, which is accepted."""
         effect = self.plan(command)
         self.kept[key] = len(self.kept) + 1, command
         effect()
 
     def plan(self, command: str) -> Effect:
-        """What the command does; or it is refused, and nothing is done."""
+        """What the command would do. Raises Refused where it is refused; nothing is changed."""
         verb, *words = command.split()
         self.check_full(verb)
         plans: dict[str, Callable[..., Effect]] = {
@@ -200,7 +205,7 @@ class Rules:
         return plans[verb](*words)
 
     def check_full(self, verb: str) -> None:
-        """The end of an order has its place, which was set aside."""
+        """Refuses a command that has no place left. The end of an order has its place, which was set aside."""
         if verb in ("commit", "abort"):
             return
         begins = verb in ("open", "transfer")
@@ -212,7 +217,7 @@ class Rules:
         return self.fields[name]
 
     def check_room(self, name: Name, way: str, quantity: int, nr: int = 0) -> None:
-        """So much more may be taken or added, whatever becomes of the open orders."""
+        """Refuses unless so many pieces can be taken or added whatever becomes of the open orders."""
         field = self.field_at(name, nr)
         _, inf, sup = self.numbers(name)
         refuse(way == TAKE and inf - quantity < field.lo, "TooLittle", nr)
@@ -311,12 +316,12 @@ class Rules:
         return hold
 
     def lines_of(self, number: str, name: Name, quantity: str) -> list[Line]:
-        """The lines that a use or a release of so much acts on."""
+        """The lines that a use or a release of so many pieces acts on."""
         order = self.open_order(int(number))
         line = order.line_on(name)
         if line is None:
             raise Refused("NotHeld", 0)
-        refuse(int(quantity) > line.held - line.used, "OverUse")
+        refuse(int(quantity) > line.unused(), "OverUse")
         return order.together(line)
 
     def plan_use(self, number: str, branch: str, article: str, quantity: str) -> Effect:
@@ -352,11 +357,11 @@ class Rules:
 
         return make_firm
 
-    # ---- what is made of it
+    # ---- what a roll-over makes of it
 
     def rolled_over(self) -> "Rules":
-        """The desk that a roll-over makes of it, but for its kept keys: the fields stand where they stood, and the open orders
-        hold what may still move them. Nothing else is there."""
+        """The desk that a roll-over makes of it, apart from its kept keys: the fields stand where they stood, and the open orders
+        hold what may still move them. There is nothing else in it."""
         new = Rules()
         new.clock = self.clock
         new.fields = {name: field.stands_at(self.numbers(name)[0]) for name, field in self.fields.items()}

@@ -1,4 +1,4 @@
-"""The built program as it serves a desk to connections, and what is asked of it there."""
+"""The built program as it serves a desk over connections, and what is asked of it there."""
 
 import contextlib
 import http.client
@@ -15,18 +15,18 @@ from support.messages import compact
 from support.programs import SECONDS, End, expect
 
 JSON = "application/json"
-# what makes a service one of many connections at once
+# the options with which a service serves many connections at once
 TOGETHER = ["--together", "1000"]
-# what is no number of requests that are carried out together, and none of connections that are there at once
+# words that are no number of requests to be carried out together, and words that are no number of connections
 NO_NUMBERS = ["0", "x", "+1", "01", "", " 1", "1.0", "1_0", "99999999999999999999"]
 NOT_TOGETHER, NOT_CLIENTS = [*NO_NUMBERS, "1001"], [*NO_NUMBERS, "4001"]
 
-# a resource, and how much of it there may be
+# a resource, and the limit on it
 Limit = tuple[int, int]
 
 
 def limited(limit: int | Limit | None) -> Callable[[], None] | None:
-    """What sets a limit in the process that is begun, the hard one too."""
+    """What sets a limit, soft and hard, in the process that is begun."""
     if limit is None:
         return None
     kind, size = (resource.RLIMIT_FSIZE, limit) if isinstance(limit, int) else limit
@@ -34,7 +34,7 @@ def limited(limit: int | Limit | None) -> Callable[[], None] | None:
 
 
 class NotServed(AssertionError):
-    """A service that tells no port, and how it ended."""
+    """A service that does not say its port, and how it ended."""
 
     def __init__(self, end: End):
         super().__init__(f"no port: {end}")
@@ -42,8 +42,8 @@ class NotServed(AssertionError):
 
 
 class Service:
-    """A desk in a file that is served to so many connections; its file may grow to so many bytes, or there is so much of another
-    resource. What stands in front of the program has it run."""
+    """A desk in a file, served to so many connections. A limit may say how many bytes its file may have, or how much there is of
+    another resource. The words of `runner` stand in front of the program, as of a tool that runs it."""
 
     def __init__(
         self,
@@ -81,7 +81,7 @@ class Service:
         return http.client.HTTPConnection("127.0.0.1", self.port, timeout=SECONDS)
 
     def end(self) -> End:
-        """How it ends, and what it writes behind its port."""
+        """How it ends, and what it wrote after its port."""
         out, errors = self.process.communicate()
         self.clock.cancel()
         return self.process.returncode, out, errors
@@ -91,7 +91,7 @@ class Service:
         expect(found == want, f"serve: {found} and not {want}")
 
 
-# the status, the type and the body of an answer
+# an answer: its status, its type and its body
 Answer = tuple[int, str | None, str]
 
 
@@ -106,14 +106,15 @@ def post(connection: http.client.HTTPConnection, key: str, command: str) -> Answ
 
 
 def answered(port: int, pieces: list[bytes], is_reset: bool = False) -> bytes:
-    """What is answered to these pieces, sent one by one, until the connection ends; or the connection is reset behind them."""
+    """What is answered to these pieces, which are sent one by one, until the connection ends; or the connection is reset after
+    the pieces."""
     found = b""
     with socket.create_connection(("127.0.0.1", port), SECONDS) as connection:
         connection.setsockopt(socket.IPPROTO_TCP, socket.TCP_NODELAY, 1)
         if is_reset:
-            # it is closed without a farewell
+            # the connection is closed without a farewell
             connection.setsockopt(socket.SOL_SOCKET, socket.SO_LINGER, struct.pack("ii", 1, 0))
-        # the other end may have closed behind what it could not read
+        # the other end may have closed it after bytes that it could not read
         with contextlib.suppress(OSError):
             for piece in pieces:
                 connection.sendall(piece)

@@ -1,5 +1,5 @@
-"""A desk in a file, whatever is done to it one after the other: sessions that end or are killed, files of requests, sheets. Each
-answer is that of the rules, and at the end so are the rows."""
+"""A desk in a file, and what is done to it step by step: sessions that end or are killed, files of requests, sheets. Each answer
+has to be that of the rules, and so do the rows at the end."""
 
 import contextlib
 import os
@@ -21,7 +21,7 @@ from support.tables import rows_of
 
 @strategies.composite
 def at_desk(draw: Callable[[Any], Any], make: Callable[[Chance, Known], T]) -> T:
-    """What is made by what is known of the desk that a machine has."""
+    """What `make` makes of what is known about the machine's desk."""
     return make(Drawn(draw), draw(strategies.runner()).known)
 
 
@@ -30,13 +30,13 @@ def lines(chance: Chance, known: Known) -> list[bytes]:
 
 
 def requests(chance: Chance, known: Known) -> tuple[str, list[bytes]]:
-    """Some of a kind of file."""
+    """A kind of file, and some requests that a file of this kind says."""
     kind = chance.one_of(list(HEADERS))
     return kind, chance.several(lambda chance: request_of(chance, known, kind), 8, 30)
 
 
 class DeskInAFile(RuleBasedStateMachine):
-    """A desk, and what the rules make of it."""
+    """A desk, beside what the rules make of the same lines."""
 
     def __init__(self, program: str, folder: str, empty: str, seen: Seen):
         super().__init__()
@@ -67,7 +67,7 @@ class DeskInAFile(RuleBasedStateMachine):
             self.say(text)
 
     def say(self, text: bytes) -> None:
-        """Each line of the text, which may be more than one where bytes were changed."""
+        """Says each line of the text; there may be more than one where bytes were changed."""
         for each in text.split(b"\n"):
             self.told.append(each.decode("latin-1"))
             self.expect([self.session.ask(each)], [self.desk.take(each)])

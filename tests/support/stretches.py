@@ -1,4 +1,4 @@
-"""Scripts in stretches: neighbouring lines that one file of requests says, and those that none says."""
+"""Scripts in stretches: neighbouring lines that one file of requests can say, and neighbouring lines that no file can say."""
 
 from collections.abc import Iterable
 
@@ -10,7 +10,7 @@ HEADERS = {
     "bounds": "key,branch,article,lo,hi",
 }
 
-# of each kind of file the requests that its records say
+# for each kind of file, the requests that its records say
 SAID = {
     "orders": of_bytes(f"{KEY} open {ORDER} {MOMENT}(?: {HELD} {QUANTITY}){{1,64}}"),
     "deliveries": of_bytes(f"{KEY} deliver {FIELD} {QUANTITY}"),
@@ -36,7 +36,7 @@ def records_of(kind: str, line: bytes) -> list[list[bytes]]:
 
 
 def file_of(kind: str, lines: Iterable[bytes]) -> bytes:
-    """The file of requests that says the lines, as bytes."""
+    """The file of requests, as bytes, that says the lines."""
     records = [b",".join(record) for line in lines for record in records_of(kind, line)]
     return b"\n".join([HEADERS[kind].encode(), *records, b""])
 
@@ -46,8 +46,8 @@ def key_of(line: bytes) -> bytes:
 
 
 def stretches(lines: Iterable[bytes]) -> list[tuple[str | None, list[bytes]]]:
-    """The lines in stretches, each with its kind: neighbours of one kind, but that two orders under one key are not neighbours in
-    a file, where they would be one."""
+    """The lines in stretches, each with its kind. Neighbours of one kind are in one stretch, except two orders under one key: in
+    a file they would be one order."""
     found: list[tuple[str | None, list[bytes]]] = []
     for line in lines:
         kind = kind_of(line)

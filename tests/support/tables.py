@@ -9,7 +9,7 @@ try:
 except ImportError:
     sqlite3 = None  # type: ignore[assignment]
 
-# of each kind of row the columns of the key come first
+# for each kind of row its columns, those of the key first
 
 
 class DeskRow(NamedTuple):
@@ -76,13 +76,14 @@ ROWS: dict[str, Any] = {
 }
 KEYS = {"desk": 1, "field": 2, "move": 1, "orders": 1, "line": 2, "kept": 1, "firm": 1}
 COLUMNS: dict[str, list[str]] = {table: list(row._fields) for table, row in ROWS.items()}
+TYPES: dict[str, list[type]] = {table: list(row.__annotations__.values()) for table, row in ROWS.items()}
 
-# the rows of each table, in the order of their keys where a desk has them
+# the rows of each table; a desk has them in the order of their keys
 Tables = dict[str, list[Any]]
 
 
 def is_able() -> bool:
-    """Whether Python has an SQLite that knows STRICT tables."""
+    """Whether Python has an SQLite that supports STRICT tables."""
     return sqlite3 is not None and sqlite3.sqlite_version_info >= (3, 37)
 
 
@@ -111,17 +112,16 @@ def rows_of(path: str) -> list[str]:
 
 
 def tables_in(lines: Iterable[str]) -> Tables:
-    """The rows that stand in lines, as `firm,7`, in the order of their keys."""
+    """The rows that lines such as `firm,7` say, in the order of their keys."""
     found: Tables = {table: [] for table in ROWS}
     for line in lines:
         table, *words = line.split(",")
-        types = ROWS[table].__annotations__.values()
-        found[table].append(ROWS[table]._make(kind(word) for kind, word in zip(types, words, strict=True)))
+        found[table].append(ROWS[table]._make(kind(word) for kind, word in zip(TYPES[table], words, strict=True)))
     return {table: sorted(rows, key=lambda row: row[: KEYS[table]]) for table, rows in found.items()}
 
 
 def put_rows(database: "sqlite3.Connection", rows: Mapping[str, Iterable[Any]]) -> None:
-    """Puts rows into the tables of a new desk, whose own row is removed."""
+    """Puts rows into the tables of a new desk, after removing that desk's own row."""
     database.execute("DELETE FROM desk")
     for table, columns in COLUMNS.items():
         database.executemany(f"INSERT INTO {table} VALUES ({', '.join('?' * len(columns))})", rows.get(table, []))

@@ -1,4 +1,4 @@
-"""Bodies by which a shop would have something done that it may not do, of whatever version of HTTP they are sent by."""
+"""Bodies with which a shop would try to have something done that it may not do, in whatever version of HTTP they are sent."""
 
 import json
 

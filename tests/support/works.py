@@ -1,4 +1,5 @@
-"""Works on a desk, which write a line for each thing that they do; and what they may leave where a call fails within them."""
+"""Works on a desk, which write a line for each thing that they do; and what such a work may leave where a call fails within
+it."""
 
 import contextlib
 import hashlib
@@ -26,10 +27,10 @@ EACH_KIND = [
     ("M11 firm 20", "M11 done 11"),
     ("? order 7", "? order 7 plain 120 open take N1 A-1 19 4 add N2 A-1 3 0"),
     ("M12 use 20 N2 A-1 4", "M12 done 12"),
-    # 40 + 10 - 2, of which 4 are settled; 6 of the transfer and 19 may still be taken
+    # 40 + 10 - 2, less the 4 that the firm transfer has used; its other 6, and the 19 of order 7, may still be taken
     ("? field N1 A-1", "? field N1 A-1 lo 10 hi 90 value 44 inf 19 sup 44"),
     ("M13 commit 7", "M13 done 13"),
-    # 40, of which 6 may be taken
+    # the value is 40, from which the 6 of the transfer may still be taken
     ("M14 open 8 500 take N1 A-1 25", "M14 refused 13 TooLittle 1"),
     ("M15 open 9 500 take N1 A-1 1", "M15 done 14"),
     ("M16 abort 9", "M16 done 15"),
@@ -49,12 +50,12 @@ OPEN_AND_FIRM = [line for line, _ in EACH_KIND]
 @dataclass
 class Work:
     """What the program is called with, where `desk` stands for the path of a desk and `requests` for that of a file of requests;
-    what that file or its input has in it; and the lines that it writes, `size` of them at a time."""
+    what that file, or else the input, has in it; and the lines that the program writes, `size` of them at a time."""
 
     words: list[str]
     text: str
     replies: list[str]
-    # the same as a script, which for each line that is written has one
+    # the same as a script, which has one line for each line that is written
     script: list[str] = field(default_factory=list)
     size: int = 1
     # the lines by which the desk was made
@@ -87,7 +88,7 @@ G3,52,900,take,N1,A-1,7
 DELIVERIES = "key,branch,article,qty\nG1,N1,A-1,5\nG2,N9,A-1,1\nG3,N1,A-1,6\n"
 BOUNDS = "key,branch,article,lo,hi\nG1,N1,A-1,0,95\nG2,N9,A-1,0,1\nG3,N1,A-1,1,96\n"
 
-# files of requests: what a script answers that asks for the same
+# for files of requests: the answers to a script that asks for the same
 FILES = {
     ("orders", ORDERS): [
         ("G1 open 50 900 take N1 A-1 5 add N2 A-1 1", "G1 done 18"),
@@ -106,7 +107,7 @@ FILES = {
     ],
 }
 
-# the value 40, of which 6 may be taken, and 9, to which 6 may be added
+# the value 40, from which 6 may be taken, and 9, to which 6 may be added
 SHEETS = [
     Work(
         ["sheet", "desk", "N1"],
@@ -139,7 +140,7 @@ def remove_desk(path: str) -> None:
 
 
 def copy_desk(path: str, other: str) -> None:
-    """A desk with its log, where it is there, in place of another."""
+    """Copies a desk, with its log if it has one, in place of another."""
     remove_desk(other)
     for end in ("", "-wal"):
         if os.path.exists(path + end):
@@ -147,7 +148,7 @@ def copy_desk(path: str, other: str) -> None:
 
 
 def files_at(path: str) -> bytes:
-    """What stands for the bytes of a desk and its log."""
+    """A text that stands for the bytes of a desk and its log."""
     found = hashlib.sha256()
     for end in ("", "-wal"):
         if os.path.exists(path + end):
@@ -156,8 +157,8 @@ def files_at(path: str) -> bytes:
 
 
 class OnCopies:
-    """A work, done on copies of one desk. The rows that it leaves behind each of its lines are those that an undisturbed script
-    leaves, each of whose lines is a session of its own."""
+    """A work, done on copies of one desk. The rows after each of its lines have to be those that an undisturbed script leaves,
+    each of whose lines is a session of its own."""
 
     def __init__(self, failing: Failing, folder: str, work: Work):
         self.failing, self.program, self.work = failing, failing.program, work
@@ -169,18 +170,18 @@ class OnCopies:
             file.write("" if work.is_script else work.text)
         self.input = work.text if work.is_script else ""
         self.whole = "".join(reply + "\n" for reply in work.replies)
-        # files that were looked at already, each with what was told
+        # files that were looked at already, each with how much was answered, the fault and the kind of call
         self.seen: set[tuple[bytes, int, End, str]] = set()
 
     def copied(self, lane: str, words: list[str]) -> tuple[str, list[str]]:
-        """The path of a copy, and the words with what they stand for."""
+        """The path of a copy, and the words in which paths stand for their names."""
         path = os.path.join(lane, "desk.db")
         copy_desk(self.desk, path)
         stands_for = {"desk": path, "requests": self.requests}
         return path, [stands_for.get(word, word) for word in words]
 
     def expect_done_again(self, path: str, words: list[str], told: int) -> None:
-        """The work goes on behind what was told, or is done again, and then all is told and kept."""
+        """The work goes on after the `told` lines that were written, or is done again; then all is written and kept."""
         lines = self.work.replies[told:] if self.work.is_script else self.work.replies
         rest = "".join(line + "\n" for line in self.work.script[told:]) if self.work.is_script else ""
         found = done(self.program, words, rest)
@@ -188,14 +189,15 @@ class OnCopies:
         expect(rows_of(path) == self.rows[-1], f"{told} told: other rows at last")
 
     def left_by(self, told: int, fault: End, kind: str) -> list[Found]:
-        """What the file may have in it where so many lines were told whole, and then a call of this kind failed: a write fails
-        behind what it tells of, and the store on the way."""
+        """The rows that the file may have where `told` lines were written whole and then a call of this kind failed: a write
+        fails after what it says is kept, the store fails on the way there."""
         last, list_end = len(self.rows) - 1, (told // self.work.size + 1) * self.work.size
         after, more = self.rows[min(told, last)], self.rows[min(list_end, last)]
         return [more] if kind == "write" else [after, more] if fault == STORE else [after]
 
     def expect_left(self, path: str, words: list[str], told: int, fault: End, kind: str) -> None:
-        """The next run opens the desk, and finds what was told; nothing is looked at where the very same was left before."""
+        """The next run opens the desk and finds all that was answered. Nothing is looked at where exactly the same was left
+        before."""
         seen = files_at(path), told, fault, kind
         if seen in self.seen:
             return
@@ -206,8 +208,9 @@ class OnCopies:
         self.seen.add(seen)
 
     def expect_cut(self, failure: Failure, lane: str, faults: list[End]) -> int | None:
-        """Where the call fails, the run ends with a fault of these behind a beginning of the answer, and what was told is kept:
-        so many lines. None where the call does not come, or the run can do without it, and it ends well."""
+        """Where the call fails, the run ends with one of these faults after a beginning of the answer, and all that was answered
+        is kept. Returns how many lines that is; None where the call does not come, or where the run can do without it and ends
+        well."""
         path, words = self.copied(lane, self.work.words)
         (status, out, errors), came = self.failing.ended(words, self.input, failure, lane)
         of = f"{self.work}, {failure}: {status}, {out!r}, {errors!r}"
@@ -222,26 +225,27 @@ class OnCopies:
         return told if is_cut else None
 
     def count(self, kind: str, words: list[str], text: str) -> int:
-        """How many calls of a kind there are in a run of which none fails, on a copy of the desk."""
+        """How many calls of a kind there are in a run on a copy of the desk where none fails."""
         with self.failing.lane() as lane:
             return self.failing.count(kind, self.copied(lane, words)[1], text, lane)
 
     def expect_cuts(self, failures: list[Failure], faults: list[End]) -> list[int]:
-        """How many lines were told in each run that was cut."""
+        """How many lines were written in each run that was cut."""
         told = self.failing.attempt(failures, lambda failure, lane: self.expect_cut(failure, lane, faults))
         cut = [lines for lines in told if lines is not None]
         expect(cut, f"{self.work}: none is cut")
         return cut
 
     def expect_each_cut(self, kind: str, faults: list[End], error: int) -> list[int]:
-        """The same of each call of a kind. It can do without none."""
+        """The same for each call of a kind. The run can do without none of them."""
         count = self.count(kind, self.work.words, self.input)
         told = self.expect_cuts([Failure(kind, number, error=error) for number in range(1, count + 2)], faults)
         expect(len(told) == count, f"{self.work}, {kind}, error {error}: {len(told)} of {count} are cut")
         return told
 
     def expect_cut_alike(self, kind: str, faults: list[End], error: int) -> None:
-        """The same of each call of a kind. It can do without none without which it cannot do for good."""
+        """The same lines are written where a call of the kind fails alone as where all that follow fail too, whichever call it
+        is."""
         numbers = range(1, self.count(kind, self.work.words, self.input) + 1)
         alone, for_good = (
             self.expect_cuts([Failure(kind, number, is_for_good, error) for number in numbers], faults)

@@ -1,4 +1,4 @@
-"""Carriers of deals that are wrong, each in one thing: edits of the carrier's module."""
+"""Carriers of deals, each wrong in one thing: edits of the carrier's module."""
 
 import os
 import sys
@@ -11,7 +11,7 @@ FIRST_LOOK = """        early = [self.seen_if_there(side) for side in others]
         first.order = self.seen(first)
 """
 
-# what is wrong, and each text that is replaced by another
+# for each wrong carrier its name, and each text that is replaced with the text in its place
 WRONG: dict[str, list[tuple[str, str]]] = {
     "opens at another desk before the order is at the first": [
         ('return Step(0, "open") if goes_on else None', 'return Step(len(orders) - 1, "open") if goes_on else None'),
@@ -68,7 +68,7 @@ def edited(name: str) -> types.ModuleType:
         assert text.count(old) == 1, f"{name}: {text.count(old)} times {old!r}"
         text = text.replace(old, new)
     module = types.ModuleType(f"wrong_{list(WRONG).index(name)}")
-    # dataclasses look their module up
+    # a dataclass looks its module up there
     sys.modules[module.__name__] = module
     exec(compile(text, SOURCE, "exec"), module.__dict__)
     return module

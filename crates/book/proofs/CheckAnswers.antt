@@ -1,13 +1,21 @@
 -- What the comparisons of a program say of the checks of a command.
-use Rattle.ledger.proofs.Prelude.{Add, Bool, BreaksBound, Check, Command, Deliver, Each, Err, FallsBelow, Field, FirstFailure, Good, IsDistinct, IsFalse, IsNone, IsSome, IsTrue, Ledger, List, MAX_ORDER_LINES, More, Name, None, Ok, OpenLine, Option, Order, Refusal, Result, RisesAbove, Some, Take, Way, Writeoff, [], ap, arith, bound, checks, drop, false, field_named, find, full, get_or, inl, inr, is_open, is_some, is_transfer, length, length-take, line_checks, line_name, line_on, loose_checks, map, name_of, new_line, new_order, next, no_field, numbered, on, order_numbered, pos, same_name, subst, sym, take, true≢false, with_order, ℕ, ◌++◌, ◌+ℤ◌, ◌+◌, ◌-ℤ◌, ◌<ℤ◌, ◌<◌, ◌↔◌, ◌∙◌, ◌∷◌, ◌≡◌, ◌≢◌, ◌≤◌}
-use Rattle.book.proofs.Prelude.{FieldEntry, Finds, IsUpToDate, field_of}
+use Rattle.ledger.proofs.Prelude.{Add, Bool, BreaksBound, Check, Command, Deliver, Each, Err, FallsBelow, Field,
+    FirstFailure, Good, IsFalse, IsNone, IsSome, IsTrue, Ledger, List, MAX_ORDER_LINES, More, Name, None, Ok, OpenLine,
+    Option, Order, Refusal, Result, RisesAbove, Some, Take, Way, Writeoff, [], ap, arith, bound, checks, drop, false,
+    field_named, find, full, get_or, inl, inr, is_open, is_some, is_transfer, length, length-take, line_checks,
+    line_name, line_on, loose_checks, map, name_of, new_line, new_order, next, no_field, numbered, on, order_numbered,
+    pos, same_name, subst, sym, take, true≢false, with_order, ℕ, ◌++◌, ◌+ℤ◌, ◌+◌, ◌-ℤ◌, ◌<ℤ◌, ◌<◌, ◌↔◌, ◌∙◌, ◌∷◌, ◌≡◌,
+    ◌≢◌, ◌≤◌, IsDistinct}
+use Rattle.book.proofs.Prelude.{FieldEntry, Finds, IsUpToDate, field_of, IsFound}
 use Rattle.ledger.specs.declared.order.Kind.{Kind}
 use Rattle.ledger.specs.declared.order.Line.{Line}
 use Rattle.words.specs.declared.reply.Refusal.TheVariants.{Full, OtherWay, TooManyLines, TransferFixed}
 use Rattle.std.specs.Result.{IsErrAnd}
 use Rattle.ledger.specs.Next.{moved_at_once}
 use Rattle.ledger.specs.Answers.{OfLine, OfOrder, bounds_checks, check}
-use Rattle.book.specs.inner.Checking.{bound_checks, hold_checks}
+use Rattle.book.specs.inner.Checking.{IsOrderFound, bound_checks, changed_number, hold_checks}
+use Rattle.book.specs.declared.book.checks.Found.{Found}
+use Rattle.book.specs.declared.book.checks.Found.TheVariants as found
 use Rattle.ledger.proofs.Lists.{some_is, take-step}
 use Rattle.ledger.proofs.Falls.{sounds_from_good}
 use Rattle.ledger.proofs.Safety.{high_test, low_test}
@@ -15,7 +23,6 @@ use Rattle.words.specs.declared.command.Command.TheVariants.{Rebound}
 use Rattle.std.proofs.lemmas.List.{drop_more}
 use Rattle.ledger.proofs.EqualRows.{after}
 use Rattle.ledger.proofs.FieldNames.{line_field, other_way}
-use Rattle.ledger.proofs.Steps.{opened}
 use Rattle.ledger.proofs.Sums.{none_found}
 use Rattle.ledger.proofs.Asks.{line_test, map-push, more_test, moved_test}
 
@@ -36,11 +43,20 @@ go_on [] ds found e k = k
 go_on (c ∷ cs) ds found (inl h) k = let e = h.1 in cc
 go_on (c ∷ cs) ds found (inr h) k = inr (h.0, go_on cs ds found h.1 k)
 
-pub finds_too : {T : Type 0} (cs ds : List Check) (P Q : T → Type 0) (r : Result T (Refusal × ℕ))
-    → ((found : Option (Refusal × ℕ)) → FirstFailure cs found → FirstFailure ds found) → ((t : T) → P t → Q t)
-    → Finds cs P r → Finds ds Q r
-finds_too cs ds P Q (Ok t) f g k = (f None k.0, g t k.1)
-finds_too cs ds P Q (Err x) f g k = f (Some x) k
+-- what is found for a command is what its checks, if none of them fails, find
+pub finds_only : (A : Ledger) (c : Command) (x : Found) (r : Result Found (Refusal × ℕ)) → IsFound A c x
+    → Finds (checks A c) (λ found. found ≡ x) r → Finds (checks A c) (IsFound A c) r
+finds_only A c x (Ok y) is k = (k.0, subst (IsFound A c) (sym k.1) is)
+finds_only A c x (Err e) is k = k
+
+-- and for one that changes an order by its number
+pub finds_order : (A : Ledger) (c : Command) (n : ℕ) (r : Result Found (Refusal × ℕ)) → changed_number c ≡ Some n
+    → Finds (checks A c) (IsOrderFound A n) r → Finds (checks A c) (IsFound A c) r
+finds_order A c n (Ok (found.Order m o)) numbered k = (k.0, (numbered ∙ ap Some (sym k.1.0), k.1.1))
+finds_order A c n (Ok found.Nothing) numbered k = absurd k.1
+finds_order A c n (Ok (found.Field e moved)) numbered k = absurd k.1
+finds_order A c n (Ok (found.Clock now)) numbered k = absurd k.1
+finds_order A c n (Err x) numbered k = k
 
 -- a failure that `?` passes up
 pub fails_with : {T : Type 0} (cs : List Check) (P : T → Type 0) (r : Result T (Refusal × ℕ)) (x : Refusal × ℕ)
@@ -212,7 +228,9 @@ module _ (A : Ledger) (lines : List OpenLine) (i : ℕ) (l : OpenLine) (h : i < 
       (let s : length (take i lines) ≡ i = simp length-take (omega arith) in omega arith) k)
 
   here : (n : ℕ) (kind : Kind) (until : ℕ) (found : Option (Refusal × ℕ))
-      → FirstFailure (own n kind until ++ line_checks A (new_order n kind until) (take i lines ++ l ∷ []) (drop (i + 1) lines)) found
+      → FirstFailure
+          (own n kind until ++ line_checks A (new_order n kind until) (take i lines ++ l ∷ []) (drop (i + 1) lines))
+          found
       → FirstFailure (line_checks A (new_order n kind until) (take i lines) (drop i lines)) found
   unfolding own
   here n kind until found k = subst (λ ls. FirstFailure

@@ -1,10 +1,12 @@
 -- The orders that a command changes, by their numbers.
-use Rattle.ledger.proofs.Prelude.{Bool, Changes, Each, Good, IsNonDecreasingBy, IsPermutation, IsPermutation-map, IsStrictlySortedBy, Ledger, Less, List, None, Option, Order, Some, Step, [], ap, append-nil, arith, cases_lt, common_steps, count_by, expires, false, filter, find, flat_map, flat_map-append, get_or, if◌then◌else◌, inl, inr, length, map, nat_cmp, numbered, option_map_or, order_numbered, refl, steps, suc, sym, take, true, ℕ, ◌&&◌, ◌++◌, ◌+◌, ◌<◌, ◌==◌, ◌∙◌, ◌∷◌, ◌≡◌, ◌≤◌}
-use Rattle.book.proofs.Prelude.{OrderEntry, changed_order, made_of, order_of}
+use Rattle.ledger.proofs.Prelude.{Bool, Changes, Each, Good, IsNonDecreasingBy, IsPermutation, IsPermutation-map,
+    Ledger, Less, List, Order, Some, [], ap, arith, cases_lt, common_steps, count_by, expires, false, filter, flat_map,
+    get_or, if◌then◌else◌, inl, inr, length, map, nat_cmp, option_map_or, order_numbered, refl, steps, suc, sym, true,
+    ℕ, ◌&&◌, ◌++◌, ◌+◌, ◌<◌, ◌==◌, ◌∙◌, ◌∷◌, ◌≡◌, ◌≤◌, IsStrictlySortedBy, turn}
+use Rattle.book.proofs.Prelude.{OrderEntry, changed_order, order_of, steps_under}
 use Rattle.book.specs.declared.book.made.OrderChange.{OrderChange}
 use Rattle.std.proofs.lemmas.List.Sorted.{sum_by-IsPermutation}
-use Rattle.ledger.proofs.Lists.{counted, each-unmap, find_self, same_number, take-step}
-use Rattle.ledger.proofs.Steps.{one_step}
+use Rattle.ledger.proofs.Lists.{counted, each-unmap, find_self, same_number}
 use Rattle.ledger.proofs.Sums.{each-imp, each-map, less_is}
 
 above : (m n : ℕ) → m < n → (n == m) ≡ false
@@ -34,10 +36,12 @@ count_none n (m ∷ ms) h = counted (λ m. m == n) m ms ∙ (λ i. (if above n m
 all_above : (n m : ℕ) (ms : List ℕ) → n < m → Rising (m ∷ ms) → Each (λ k. n < k) (m ∷ ms)
 all_above n m ms h up = (h, each-imp (λ k le. omega arith) ms up.0)
 
-counts_left : (n : ℕ) (xs ys : List ℕ) → ((k : ℕ) → count k (n ∷ xs) ≡ count k (n ∷ ys)) → (k : ℕ) → count k xs ≡ count k ys
+counts_left : (n : ℕ) (xs ys : List ℕ) → ((k : ℕ) → count k (n ∷ xs) ≡ count k (n ∷ ys)) → (k : ℕ)
+    → count k xs ≡ count k ys
 counts_left n xs ys h k = grind (arith, (counted (λ m. m == k) n xs), (counted (λ m. m == k) n ys), (h k))
 
-first_alike : (x y : ℕ) (xs ys : List ℕ) → Rising (x ∷ xs) → Rising (y ∷ ys) → ((n : ℕ) → count n (x ∷ xs) ≡ count n (y ∷ ys)) → x ≡ y
+first_alike : (x y : ℕ) (xs ys : List ℕ) → Rising (x ∷ xs) → Rising (y ∷ ys)
+    → ((n : ℕ) → count n (x ∷ xs) ≡ count n (y ∷ ys)) → x ≡ y
 first_alike x y xs ys h k e = elim (cases_lt x y) [
   | inl lt ↦
       let here = count_first x xs in
@@ -70,7 +74,9 @@ each_above x (y ∷ ys) h = (h 0 (omega arith), each_above x ys (λ j lt. h (suc
 
 from_sort : (xs : List ℕ) → IsNonDecreasingBy (λ x. x) xs → Rising xs
 from_sort [] h = tt
-from_sort (x ∷ xs) h = (each_above x xs (λ j lt. h 0 (suc j) 0 (omega arith) (omega arith)), from_sort xs (λ i j d le lt. h (suc i) (suc j) d (omega arith) (omega arith)))
+from_sort (x ∷ xs) h =
+    (each_above x xs (λ j lt. h 0 (suc j) 0 (omega arith) (omega arith)),
+        from_sort xs (λ i j d le lt. h (suc i) (suc j) d (omega arith) (omega arith)))
 
 -- ---- those of the orders that pass a test
 
@@ -83,49 +89,48 @@ module _ (p : Order → Bool) where
   numbers os = map (λ o. o.number) (filter p os)
 
   each_number : (P : ℕ → Type 0) (os : List Order) → Each P (map (λ o. o.number) os) → Each P (numbers os)
-  each_number P os h = each-map P (λ o. o.number) (filter p os) (each-filter (λ o. P o.number) p os (each-unmap P (λ o. o.number) os h))
+  each_number P os h =
+      each-map P (λ o. o.number) (filter p os) (each-filter (λ o. P o.number) p os (each-unmap P (λ o. o.number) os h))
 
   numbers_rise : (os : List Order) → IsStrictlySortedBy nat_cmp (map (λ o. o.number) os) → Rising (numbers os)
   unfolding IsStrictlySortedBy
   numbers_rise [] sorted = tt
-  numbers_rise (o ∷ os) sorted = let more = numbers_rise os sorted.1 in grind (arith, (each_number (λ k. nat_cmp o.number k ≡ Less) os sorted.0), each-imp, less_is)
+  numbers_rise (o ∷ os) sorted =
+      let more = numbers_rise os sorted.1 in
+      grind (arith, (each_number (λ k. nat_cmp o.number k ≡ Less) os sorted.0), each-imp, less_is)
 
   count_numbers : (n : ℕ) (os : List Order) → count n (numbers os) ≡ count_by (λ o. p o && (o.number == n)) os
   count_numbers n [] = refl
   count_numbers n (o ∷ os) = let more = count_numbers n os in grind (arith, common_steps, counted, o.number)
 
-  -- the orders that pass, changed, by their numbers
-  pub numbered_made : (A : Ledger) (change : OrderChange) → Good A → flat_map (made_of A change) (numbers A.orders) ≡ map (λ s. s.after) (steps (Changes p (changed_order change)) A.orders)
-  numbered_made A change good = go A.orders (find_self A.orders good.orders_in_order)
+  -- the steps of the orders that pass, by their numbers
+  pub numbered_steps : (A : Ledger) (change : OrderChange) → Good A
+      → flat_map (steps_under A change) (numbers A.orders) ≡ steps (Changes p (changed_order change)) A.orders
+  numbered_steps A change good = go A.orders (find_self A.orders good.orders_in_order)
     where
-      go : (os : List Order) → Each (λ o. order_numbered A o.number ≡ Some o) os → flat_map (made_of A change) (numbers os) ≡ map (λ s. s.after) (steps (Changes p (changed_order change)) os)
+      go : (os : List Order) → Each (λ o. order_numbered A o.number ≡ Some o) os
+          → flat_map (steps_under A change) (numbers os) ≡ steps (Changes p (changed_order change)) os
       go [] h = refl
       go (o ∷ os) h = by (p o) h.0 (go os h.1)
         where
-          by : (b : Bool) → order_numbered A o.number ≡ Some o → flat_map (made_of A change) (numbers os) ≡ map (λ s. s.after) (steps (Changes p (changed_order change)) os)
-              → flat_map (made_of A change) (map (λ o. o.number) (if b then o ∷ filter p os else filter p os)) ≡ map (λ s. s.after) ((if b then record { before = Some o; after = changed_order change o } ∷ [] else []) ++ steps (Changes p (changed_order change)) os)
-          by true own more = λ i. option_map_or (λ o. changed_order change o ∷ []) (own i) [] ++ more i
+          by : (b : Bool) → order_numbered A o.number ≡ Some o
+              → flat_map (steps_under A change) (numbers os) ≡ steps (Changes p (changed_order change)) os
+              → flat_map (steps_under A change) (map (λ o. o.number) (if b then o ∷ filter p os else filter p os))
+              ≡ (if b then turn o (changed_order change o) ∷ [] else []) ++ steps (Changes p (changed_order change)) os
+          by true own more = λ i. option_map_or (λ o. turn o (changed_order change o) ∷ []) (own i) [] ++ more i
           by false own more = more
 
--- the one under a number, changed
-pub number_made : (A : Ledger) (n : ℕ) (change : OrderChange) → Good A → made_of A change n ≡ map (λ s. s.after) (steps (Changes (numbered n) (changed_order change)) A.orders)
-number_made A n change good = by (find (numbered n) A.orders) ∙ ap (map (λ (s : Step). s.after)) (sym (one_step n (changed_order change) A.orders good.orders_in_order))
-  where
-    by : (x : Option Order) → option_map_or (λ o. changed_order change o ∷ []) x [] ≡ map (λ (s : Step). s.after) (option_map_or (λ o. record { before = Some o; after = changed_order change o } ∷ []) x [])
-    by None = refl
-    by (Some o) = refl
-
 -- the numbers of those that expire, found in any order of the entries and then put in theirs
-pub numbers_sorted : (now : ℕ) (es lying : List (ℕ × OrderEntry)) (ns : List ℕ) → IsStrictlySortedBy nat_cmp (map (λ o. o.number) (map order_of es)) → IsPermutation es lying → IsPermutation (numbers (expires now) (map order_of lying)) ns → IsNonDecreasingBy (λ x. x) ns
+pub numbers_sorted : (now : ℕ) (es lying : List (ℕ × OrderEntry)) (ns : List ℕ)
+    → IsStrictlySortedBy nat_cmp (map (λ o. o.number) (map order_of es)) → IsPermutation es lying
+    → IsPermutation (numbers (expires now) (map order_of lying)) ns → IsNonDecreasingBy (λ x. x) ns
     → ns ≡ numbers (expires now) (map order_of es)
 numbers_sorted now es lying ns sorted moved put up =
     let p : Order → Bool = expires now in
     alike ns (numbers p (map order_of es)) (from_sort ns up) (numbers_rise p (map order_of es) sorted)
-    (λ n. sum_by-IsPermutation (λ m. if m == n then 1 else 0) (numbers p (map order_of lying)) ns put ∙ count_numbers p n (map order_of lying)
-    ∙ sum_by-IsPermutation (λ o. if p o && (o.number == n) then 1 else 0) (map order_of es) (map order_of lying) (IsPermutation-map order_of es lying moved) ∙ sym (count_numbers p n (map order_of es)))
-
--- ---- orders pushed one after the other
-
--- what the numbers so far have, and one more
-pub flat_next : {X : Type 0} (f : ℕ → List X) (ns : List ℕ) (i n : ℕ) → i < length ns → n ≡ get_or ns i n → flat_map f (take (i + 1) ns) ≡ flat_map f (take i ns) ++ f n
-flat_next f ns i n within is = ap (flat_map f) (take-step ns i n within is) ∙ flat_map-append f (take i ns) (n ∷ []) ∙ ap (λ xs. flat_map f (take i ns) ++ xs) (append-nil (f n))
+    (λ n.
+        sum_by-IsPermutation (λ m. if m == n then 1 else 0) (numbers p (map order_of lying)) ns put
+        ∙ count_numbers p n (map order_of lying)
+    ∙ sum_by-IsPermutation (λ o. if p o && (o.number == n) then 1 else 0) (map order_of es) (map order_of lying)
+        (IsPermutation-map order_of es lying moved)
+    ∙ sym (count_numbers p n (map order_of es)))

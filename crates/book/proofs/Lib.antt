@@ -1,5 +1,4 @@
 pub mod Prelude
-pub mod StepsSeen
 pub mod LineGroups
 pub mod RowEntries
 pub mod ToldInRow
@@ -18,4 +17,5 @@ pub mod OpenOrders
 pub mod RunningNumbers
 pub mod ChangedFields
 pub mod FieldRows
+pub mod OneWay
 pub mod ExpiredOrders

@@ -1,5 +1,7 @@
 -- The numbers that a book shows of its fields.
-use Rattle.ledger.proofs.Prelude.{[], ◌+ℤ◌, ◌-ℤ◌, ◌∙◌, ◌∷◌, ◌≡◌, ◌≤ℤ◌, Bool, Contains, Field, Good, Ledger, List, Name, Some, ap, arith, common_steps, false, find, held_to_add, held_to_take, if◌then◌else◌, is_some, option_map, pos, settled, slice_get, slice_get-map, suc, sym, true, true≢false, ℕ}
+use Rattle.ledger.proofs.Prelude.{[], ◌+ℤ◌, ◌-ℤ◌, ◌∙◌, ◌∷◌, ◌≡◌, ◌≤ℤ◌, Bool, Contains, Field, Good, Ledger, List, Name,
+    Some, ap, arith, common_steps, false, find, held_to_add, held_to_take, if◌then◌else◌, is_some, option_map, pos,
+    settled, slice_get, slice_get-map, suc, sym, true, true≢false, ℕ}
 use Rattle.book.proofs.Prelude.{BookView, FieldEntry, Inside, field_of, view_of}
 use Rattle.escrow.specs.declared.limits.TheConstants.{MAX_LEVEL}
 use Rattle.ledger.proofs.Lists.{from_some, each-at}
@@ -14,7 +16,8 @@ Contains-of_find p (y ∷ ys) x n = by (p y) n (λ k. Contains-of_find p ys x k)
     by false n k = let c = k n in (suc c.0, omega arith, c.2)
 
 -- the field at an index is shown from the entry there
-pub slice_get-fields : (b : Inside) (A : BookView) (i : ℕ) (x : Name × FieldEntry) → view_of b ≡ A → Some x ≡ slice_get b.fields.entries i → slice_get A.ledger.fields i ≡ Some (field_of x)
+pub slice_get-fields : (b : Inside) (A : BookView) (i : ℕ) (x : Name × FieldEntry) → view_of b ≡ A
+    → Some x ≡ slice_get b.fields.entries i → slice_get A.ledger.fields i ≡ Some (field_of x)
 slice_get-fields b A i x same read = rw (← same) (slice_get-map field_of b.fields.entries i ∙ ap (option_map field_of) (sym read))
 
 -- from 0 to the greatest level, and in their order

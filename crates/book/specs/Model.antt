@@ -1,4 +1,4 @@
--- How contracts see a book: as its ledger, the room that has been made, and the memory that is kept.
+-- How contracts see a book: as its ledger, the room that has been made, and the memory that it has.
 use Rattle.std.specs.Prelude.{ℕ, ◌-◌, ◌+ℤ◌, ◌-ℤ◌, pos, List, [], map}
 use Rattle.std.specs.Ordering.{nat_cmp}
 use Rattle.std.specs.declared.cmp.Ordering.{Ordering}
@@ -13,7 +13,7 @@ use Rattle.book.specs.declared.book.KeptEntry.{KeptEntry}
 use Rattle.book.specs.declared.book.MoveEntry.{MoveEntry}
 use Rattle.book.specs.declared.order.OrderEntry.{OrderEntry}
 
--- how many fields, moves, orders and kept keys more fit without memory
+-- how many fields, moves, orders and kept keys more fit without more memory
 pub record Room : Type 0 where
   pub fields : ℕ
   pub moves : ℕ
@@ -29,8 +29,8 @@ pub record LineSlots : Type 0 where
 abbrev pub slots_cmp : LineSlots → LineSlots → Ordering
 slots_cmp a b = nat_cmp a.number b.number
 
--- the memory that is kept: that of fields, orders and keys, for how many moves there are slots, and for how many lines
--- of each order
+-- the memory that a book has: that of fields, orders and keys, for how many moves there are slots, and for how many
+-- lines of each order
 pub record Storage : Type 0 where
   pub fields : EntryStorage
   pub moves : ℕ
@@ -38,11 +38,11 @@ pub record Storage : Type 0 where
   pub lines : List LineSlots
   pub kept : EntryStorage
 
--- none
+-- no memory
 abbrev pub nothing_stored : Storage
 nothing_stored = record { fields = no_storage; moves = 0; orders = no_orders; lines = []; kept = no_storage }
 
--- the ledger, the room that has been made beside it, and the memory that is kept
+-- the ledger, the room that has been made beside it, and the memory that the book has
 pub record BookView : Type 0 where
   pub ledger : Ledger
   pub room : Room

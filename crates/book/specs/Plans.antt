@@ -9,12 +9,12 @@ use Rattle.ledger.specs.Rows.{Content, IsRowsOf, desk_row}
 use Rattle.ledger.specs.Steps.{orders_made}
 use Rattle.book.specs.Model.{BookView, LineSlots, slots_cmp}
 
--- a plan as it is seen
+-- a plan as contracts see it
 pub record PlanView : Type 0 where
   -- the request that it carries out, and the place that its command gets
   pub request : Request
   pub place : ℕ
-  -- the orders that the command opens or changes, as they are then, and for how many lines each of them has slots
+  -- the orders that the command opens or changes, as they are after it, and for how many lines each of them has slots
   pub orders : List Order
   pub line_slots : List LineSlots
   -- the rows that change
@@ -23,12 +23,13 @@ pub record PlanView : Type 0 where
 -- The rows are those that the request changes.
 pub record ChangesTo (A : Ledger) (r : Request) (rows : Content) : Type 0 where
   pub changed : (D : Content) → IsRowsOf (accept A r) D → rows ≡ changed_rows A r D
-  -- put into the rows of the ledger by their keys, they give those of the next one
+  -- put into the rows of the ledger by their keys, they give the rows of the next ledger
   pub suffice : (C D : Content) → IsRowsOf A C → IsRowsOf (accept A r) D → put_content rows C ≡ D
   -- the desk row is the next ledger's
   pub desk : rows.desk ≡ desk_row (accept A r) ∷ []
 
--- The plan fits the ledger: its request is accepted there, and place, orders and rows are those that come of it.
+-- The plan fits the ledger: its request is accepted there, and place, orders and rows are what the request makes of
+-- the ledger.
 pub record Fits (A : Ledger) (plan : PlanView) : Type 0 where
   pub accepted : IsAccepted A plan.request
   pub place : plan.place ≡ places A + 1
@@ -46,14 +47,15 @@ pub record HasRoomFor (book : BookView) (plan : PlanView) : Type 0 where
 abbrev pub RoomStays : BookView → BookView → Type 0
 RoomStays old new = (plan : PlanView) → HasRoomFor old plan → HasRoomFor new plan
 
--- No memory is taken for entries to come: there is no more room for any of them than there was.
+-- No memory is taken for entries to come: for none of them is there more room than there was.
 pub record NoRoomGrows (old new : BookView) : Type 0 where
   pub fields : new.room.fields ≤ old.room.fields
   pub moves : new.room.moves ≤ old.room.moves
   pub orders : new.room.orders ≤ old.room.orders
   pub kept : new.room.kept ≤ old.room.kept
 
--- No memory is taken that stays: all slots are those that there were, and for lines of the plan's orders the plan's.
+-- No memory is taken that stays: there are the slots that there were, and for lines of the plan's orders the slots of
+-- the plan.
 pub record KeepsStorage (old : BookView) (plan : PlanView) (new : BookView) : Type 0 where
   pub fields : new.storage.fields ≡ old.storage.fields
   pub moves : new.storage.moves ≡ old.storage.moves

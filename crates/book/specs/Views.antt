@@ -1,4 +1,4 @@
--- What a view of a field, an order or a kept key tells of it.
+-- What a view of a field, an order or a kept key shows.
 use Rattle.std.specs.Prelude.{ℕ, pos, ◌≡◌, ◌&&◌, Option, find, nat_le}
 use Rattle.book.specs.declared.book.views.FieldView.{FieldView}
 use Rattle.book.specs.declared.book.views.KeptView.{KeptView}
@@ -20,7 +20,7 @@ pub record ShowsField (A : Ledger) (f : Field) (view : FieldView) : Type 0 where
 abbrev pub open_from : Ledger → ℕ → Option Order
 open_from A number = find (λ o. is_open o && nat_le number o.number) A.orders
 
--- all of the order
+-- the view shows all of the order
 pub record ShowsOrder (o : Order) (view : OrderView) : Type 0 where
   pub number : view.number ≡ o.number
   pub kind : view.kind ≡ o.kind
@@ -28,7 +28,7 @@ pub record ShowsOrder (o : Order) (view : OrderView) : Type 0 where
   pub state : view.state ≡ shown_state o.state o.firm
   pub lines : view.lines.now ≡ o.lines
 
--- its place and the spelling of its command
+-- the view shows the place under a key, and the spelling of its command
 pub record ShowsKept (k : Kept) (view : KeptView) : Type 0 where
   pub place : view.place ≡ k.place
   pub words : view.words.now ≡ spelling k.command

@@ -40,7 +40,7 @@ pub use tables::TablesFault;
 pub use views::{FieldView, KeptView, OrderView};
 use words::{Command, Memory};
 
-/// A field: the level at which it started, and its stock as it stands, with its bounds.
+/// A field: the level at which it started, and its stock as it is now, with its bounds.
 #[derive(Clone, Copy)]
 pub struct FieldEntry {
     pub start: Level,
@@ -50,7 +50,7 @@ pub struct FieldEntry {
 /// A field under its name.
 pub type Field = (FieldName, FieldEntry);
 
-/// A delivery (above 0) or a write-off (below 0), with the place of its command.
+/// A delivery (amount above 0) or a write-off (amount below 0), with the place of its command.
 #[derive(Drop)]
 pub struct MoveEntry {
     pub place: u64,
@@ -60,7 +60,7 @@ pub struct MoveEntry {
 }
 
 impl MoveEntry {
-    /// The name of its field.
+    /// Returns the name of the field that is moved.
     pub(crate) fn name(&self) -> FieldName
         ensures { result ≡ name_of self.now.branch self.now.article }
     {
@@ -78,8 +78,9 @@ pub struct KeptEntry {
     pub words: KeptWords,
 }
 
-/// A good ledger: all fields, with their stock as it stands, moves, orders and kept keys of the desk. Contracts see it
-/// as its ledger and, beside that, the room that has been made for entries to come, and the memory that is kept.
+/// A good ledger: all fields, with their stock as it is now, and all moves, orders and kept keys of the desk.
+/// Contracts see it as its ledger, with the room that has been made for entries to come, and the memory that the book
+/// has.
 #[derive(Drop)]
 pub struct Book {
     clock: Moment,
@@ -101,7 +102,7 @@ impl Model for Book {
 }
 
 impl Book {
-    /// The book of a new desk: its clock stands at 0, and nothing else is in it. Takes no memory.
+    /// Returns the book of a new desk: its clock stands at 0, and nothing else is in it. Takes no memory.
     pub fn new(alloc: Global) -> Book
         ensures ledger { result.ledger ≡ new_ledger }
         ensures room { result.room ≡ record { fields = 0; moves = 0; orders = 0; kept = 0 } }
@@ -116,7 +117,7 @@ impl Book {
         }
     }
 
-    /// The field of that name.
+    /// Returns the field of that name, if there is one.
     fn field_entry(&self, name: &FieldName) -> Option<&FieldEntry>
         ensures good { Good self.now.ledger }
         ensures found { let found = field_named self.now.ledger name.now in MatchOption result (found ≡ None)
@@ -126,7 +127,7 @@ impl Book {
         self.fields.get(name)
     }
 
-    /// The order of that number.
+    /// Returns the order of that number, if there is one.
     fn order_entry(&self, number: OrderNo) -> Option<&OrderEntry>
         ensures { let found = order_numbered self.now.ledger number in MatchOption result (found ≡ None)
             (λ entry. found ≡ Some (order_of (number, entry.now))) }
@@ -134,7 +135,7 @@ impl Book {
         self.orders.get(&number)
     }
 
-    /// What is kept under that key.
+    /// Returns what is kept under that key, if anything is.
     fn kept_entry(&self, key: Key) -> Option<&KeptEntry>
         ensures { let found = kept_under self.now.ledger key in MatchOption result (found ≡ None)
             (λ entry. found ≡ Some (kept_of (key, entry.now))) }
@@ -142,9 +143,10 @@ impl Book {
         self.kept.get(&key)
     }
 
-    /// Makes room for the plan: for the fields that it changes, and for a move, an order and a kept key more. Room made
-    /// before stays, and the ledger is as it was, also after a refusal. Memory is wanted only where there was no room for
-    /// the plan.
+    /// Makes room for the plan: for the fields that it changes, and for one move, one order and one kept key more. (An
+    /// `expire` may change many orders; each goes in the place where it stood, and needs no room.) Room made before
+    /// stays, and the ledger stays as it was, also where memory is refused. Memory is wanted only where there was no
+    /// room for the plan.
     pub fn make_room(&mut self, plan: &Plan) -> Result<(), Memory>
         requires { Fits self.old.ledger plan.now }
         ensures ok { OnOk result (HasRoomFor self.new plan.now) }
@@ -215,8 +217,8 @@ fn adopt_orders(orders: &mut Orders, made: Vec<Order>)
 }
 
 impl Book {
-    /// Carries the plan out, and gives its rows. Takes no memory, and always succeeds. The ledger stays good, and honours
-    /// its open orders; a commit of a transfer, a `firm` on it and a use leave the total of every article as it was.
+    /// Carries the plan out, and returns its rows. Takes no memory, and always succeeds. The ledger stays good, and
+    /// honours its open orders. A commit, a `firm` or a use of a transfer leaves the total of every article as it was.
     pub fn adopt(&mut self, plan: Plan) -> Vec<Change>
         requires fits { Fits self.old.ledger plan }
         requires room { HasRoomFor self.old plan }
@@ -232,8 +234,6 @@ impl Book {
     {
         let (parts, changes) = plan.into_parts();
         let (key, place, words) = (parts.key, parts.place, parts.words);
-        key.as_bytes();
-        words.as_bytes();
         self.clock = parts.clock;
         adopt_fields(&mut self.fields, &parts.fields);
         adopt_move(&mut self.moves, parts.moved);

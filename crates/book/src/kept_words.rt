@@ -28,7 +28,7 @@ impl Model for KeptWords {
 impl KeptWords {
     ghost use Rattle.ledger.specs.Answers.{same_command};
 
-    /// The words of the command.
+    /// Returns the words of the command.
     pub fn of(alloc: Global, command: &SpelledCommand) -> Result<KeptWords, Memory>
         ensures { IfOk result (λ words. words ≡ command.now) }
     {
@@ -36,7 +36,7 @@ impl KeptWords {
         Ok(KeptWords { bytes })
     }
 
-    /// These bytes, or `BadCommand` where they are no command's spelling.
+    /// Returns these bytes as the words of a command. Fails with `BadCommand` where they are no command's spelling.
     pub fn read(alloc: Global, bytes: &[u8]) -> Result<KeptWords, WordsFault>
         ensures spelled { IfOk result (λ words. Spells words bytes.now) }
         ensures bad { IfErr result (λ fault. fault ≡ WordsFault.BadCommand → (c : Command) → Spells c bytes.now → ⊥) }
@@ -48,7 +48,7 @@ impl KeptWords {
         }
     }
 
-    /// The bytes of the words.
+    /// Returns the bytes of the words.
     pub fn as_bytes(&self) -> &[u8]
         ensures value { result.now ≡ spelling self.now }
         ensures range { IsInRange self.now }
@@ -56,7 +56,7 @@ impl KeptWords {
         &self.bytes
     }
 
-    /// Whether they are the words of the command.
+    /// Returns whether these are the words of the command.
     pub fn is_same(&self, command: &SpelledCommand) -> bool
         ensures { result ≡ same_command self.now command.now }
     {

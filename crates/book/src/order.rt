@@ -2,7 +2,8 @@
 
 ghost use Rattle.std.specs.Prelude.{◌≡◌, MatchOption, count_by, find};
 ghost use Rattle.ledger.specs.Ledger.{on, open_state};
-ghost use Rattle.ledger.specs.inner.Shares.{share_of};
+ghost use Rattle.book.specs.inner.RunningNumbers.{IsShare};
+ghost use Rattle.ledger.specs.Outcomes.{share_of};
 
 use escrow::{FieldName, Moment, OrderNo};
 use ledger::{Kind, Line, Share, State};
@@ -10,24 +11,27 @@ use ledger::{Kind, Line, Share, State};
 /// An order, open or ended.
 #[derive(Drop)]
 pub struct OrderEntry {
-    // first, so that the small fields lie together and a walk over all orders reads less
+    // first, since Rattle today lays fields out in the order of the source: so the small fields lie together, and a
+    // walk over all orders reads less
     pub until: Moment,
     pub kind: Kind,
     pub state: State,
-    /// Whether it may no longer be aborted; the mark stays, also after the commit.
+    /// A firm order is never aborted; it stays firm, also after its commit.
     pub firm: bool,
     pub lines: Vec<Line>,
 }
 
-/// What no line counts for.
+/// The share of a line that counts for nothing.
 pub(crate) const NO_SHARE: Share = Share {
     settled: 0,
     held: 0,
 };
 
-/// The share of a line whose order has the state, and is firm or not.
+/// Returns what the order line counts for in the stock of its field, where its order has this state, and is firm or is
+/// not.
 pub(crate) fn share_of(line: &Line, state: State, firm: bool) -> Share
-    ensures { result ≡ share_of state firm line.now }
+    ensures share { result ≡ share_of state firm line.now }
+    ensures levels { IsShare result }
 {
     let (held, used) = (line.held.get(), line.used.get());
     match state {
@@ -44,7 +48,7 @@ pub(crate) fn share_of(line: &Line, state: State, firm: bool) -> Share
     }
 }
 
-/// Whether an order in that state is open.
+/// Returns whether an order in that state is open.
 pub(crate) fn is_open(state: State) -> bool
     ensures { result ≡ open_state state }
 {
@@ -54,14 +58,14 @@ pub(crate) fn is_open(state: State) -> bool
 /// An order under its number.
 pub type Order = (OrderNo, OrderEntry);
 
-/// How many of the orders are open.
+/// Returns how many of the orders are open.
 pub(crate) fn count_open(orders: &[Order]) -> usize
     ensures { result ≡ count_by (λ order. open_state order.1.state) orders.now }
 {
     orders.iter().filter(|order| is_open(order.1.state)).count()
 }
 
-/// The first line on that field.
+/// Returns the first order line on that field, if there is one.
 pub(crate) fn line_in<'a>(lines: &'a [Line], name: &FieldName) -> Option<&'a Line>
     ensures { let found = find (on name.now) lines.now in MatchOption result (found ≡ None)
         (λ line. found ≡ Some line.now) }
@@ -69,7 +73,7 @@ pub(crate) fn line_in<'a>(lines: &'a [Line], name: &FieldName) -> Option<&'a Lin
     lines.iter().find(|line| is_on(line, name))
 }
 
-/// Whether the line is on that field.
+/// Returns whether the order line is on that field.
 pub(crate) fn is_on(line: &Line, name: &FieldName) -> bool
     ensures { result ≡ on name.now line.now }
 {

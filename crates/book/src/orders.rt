@@ -16,16 +16,19 @@ use std::alloc::{AllocError, Global};
 use std::marker::Model;
 
 /// Orders under their numbers, and the numbers of those that are open. Contracts see the orders in the order of their
-/// numbers, beside how many more fit without memory, and the memory that is kept.
+/// numbers, how many more fit without more memory, and the memory that they have.
 #[derive(Drop)]
 pub struct Orders {
     all: InOrder<OrderNo, OrderEntry>,
-    /// In their order.
+    /// The numbers of the open orders, in their order.
     open_list: BlockList<OrderNo>,
 }
 
 impl Model for Orders {
     ghost use Rattle.std.specs.Prelude.{◌≡◌, ◌≤◌, ◌^◌, length};
+    ghost use Rattle.std.specs.List.Sorted.{IsStrictlySortedBy};
+    ghost use Rattle.std.specs.Map.{keys_of};
+    ghost use Rattle.std.specs.Ordering.{nat_cmp};
     ghost use Rattle.book.specs.OrderLists.{OrderEntries};
     ghost use Rattle.book.specs.inner.OpenOrders.{open_numbers, room_for};
 
@@ -38,10 +41,10 @@ impl Model for Orders {
     } };
 
     ghost invariant = { λ o. (o.open_list.items ≡ open_numbers o.all.entries) × (length o.all.entries ≤ o.open_list.capacity)
-        × (o.open_list.capacity ≤ 2 ^ 32) };
+        × (o.open_list.capacity ≤ 2 ^ 32) × IsStrictlySortedBy nat_cmp (keys_of o.all.entries) };
 }
 
-/// Where a number stands among numbers in order, or else where it would go.
+/// Returns where a number stands among numbers in order, or else where it would go.
 fn place_of(numbers: &BlockList<OrderNo>, number: OrderNo) -> Result<usize, usize>
     requires { IsStrictlySortedBy nat_cmp numbers.now.items }
     ensures { MatchResult result (IsPlaceOf number numbers.now.items) (IsPlaceFor number numbers.now.items) }
@@ -49,7 +52,7 @@ fn place_of(numbers: &BlockList<OrderNo>, number: OrderNo) -> Result<usize, usiz
     numbers.binary_search_by(|other| other.cmp(&number))
 }
 
-/// The place of the first from a number on, among numbers in order.
+/// Returns the index of the first number that is at least this one, among numbers in order.
 fn first_from(numbers: &BlockList<OrderNo>, number: OrderNo) -> usize
     requires { IsStrictlySortedBy nat_cmp numbers.now.items }
     ensures { IsFirstFrom number numbers.now.items result }
@@ -60,7 +63,8 @@ fn first_from(numbers: &BlockList<OrderNo>, number: OrderNo) -> usize
     }
 }
 
-/// Has a number among these in order, or not. Takes no memory.
+/// Puts a number into the sorted list, or takes it out, as `is_marked` says; where the list is so already, changes
+/// nothing. Takes no memory.
 fn mark(numbers: &mut BlockList<OrderNo>, number: OrderNo, is_marked: bool)
     requires rising { IsStrictlySortedBy nat_cmp numbers.old.items }
     requires room { length (marked is_marked number numbers.old.items) ≤ numbers.old.capacity }
@@ -82,7 +86,7 @@ fn mark(numbers: &mut BlockList<OrderNo>, number: OrderNo, is_marked: bool)
     }
 }
 
-/// The numbers of those orders that are open, with room for all.
+/// Returns the numbers of the open orders, with room for those of all orders.
 fn open_among(alloc: Global, orders: &[Order]) -> Result<BlockList<OrderNo>, AllocError>
     ensures items { IfOk result (λ numbers. numbers.items ≡ open_numbers orders.now) }
     ensures room { IfOk result (λ numbers. (length orders.now ≤ numbers.capacity) × (numbers.capacity ≤ 2 ^ 32)) }
@@ -99,7 +103,8 @@ fn open_among(alloc: Global, orders: &[Order]) -> Result<BlockList<OrderNo>, All
 }
 
 impl Orders {
-    /// No orders. Takes no memory.
+    /// Returns a list without orders. Takes no memory.
+    #[tactic(auto, using(crate::proofs::KeyPlaces::none_sorted))]
     pub fn new(alloc: Global) -> Orders
         ensures { result ≡ record { entries = []; room = 0; storage = no_orders } }
     {
@@ -109,7 +114,7 @@ impl Orders {
         }
     }
 
-    /// Orders that stand in the order of their numbers.
+    /// Returns the list of orders that stand in the order of their numbers.
     pub fn from_sorted(alloc: Global, orders: Vec<Order>) -> Result<Orders, AllocError>
         requires { IsStrictlySortedBy nat_cmp (keys_of orders.items) }
         ensures { IfOk result (λ r. r.entries ≡ orders.items) }
@@ -119,7 +124,7 @@ impl Orders {
         Ok(Orders { all, open_list })
     }
 
-    /// How many there are.
+    /// Returns how many orders there are.
     pub fn len(&self) -> usize
         ensures len { result ≡ length self.now.entries }
         ensures rising { IsStrictlySortedBy nat_cmp (keys_of self.now.entries) }
@@ -127,33 +132,32 @@ impl Orders {
         self.all.len()
     }
 
-    /// How many are open.
+    /// Returns how many orders are open.
     pub fn open_count(&self) -> usize
         ensures { result ≡ length (open_numbers self.now.entries) }
     {
         self.open_list.len()
     }
 
-    /// The orders as they came in.
+    /// Returns all orders, in no promised sequence.
     pub fn arrived(&self) -> &[Order]
         ensures { IsPermutation self.now.entries result.now }
     {
         self.all.arrived()
     }
 
-    /// The order of that number.
+    /// Returns the order of that number, if there is one.
     pub fn get(&self, number: &OrderNo) -> Option<&OrderEntry>
         ensures { option_copied result ≡ lookup (is_at (nat_cmp number.now)) self.now.entries }
     {
         self.all.get(number)
     }
 
-    /// The first open order from that number on.
+    /// Returns the first open order from that number on, if there is one.
     pub fn open_from(&self, number: OrderNo) -> Option<(OrderNo, &OrderEntry)>
         ensures { let found = find (is_open_from number) self.now.entries in MatchOption result (found ≡ None)
             (λ r. found ≡ Some (r.0, r.1.now)) }
     {
-        self.all.len();
         let place = first_from(&self.open_list, number);
         if self.open_list.len() <= place {
             return None;
@@ -165,7 +169,7 @@ impl Orders {
         }
     }
 
-    /// Makes room for one more. Memory is wanted only where there was none.
+    /// Makes room for one order more. Memory is wanted only where there was no room.
     pub fn reserve(&mut self) -> Result<(), AllocError>
         ensures ok { OnOk result (1 ≤ self.new.room) }
         ensures same { self.new.entries ≡ self.old.entries }
@@ -177,15 +181,14 @@ impl Orders {
         self.open_list.reserve(more)
     }
 
-    /// Puts an order in: in place of the one of its number, or else at its place. Takes no memory: that for a new one must
-    /// have been reserved.
+    /// Puts an order in: in place of the one with its number, or else as a new one. Takes no memory; for a new order
+    /// there must be room.
     pub fn put(&mut self, number: OrderNo, entry: OrderEntry)
         requires { lookup (is_at (nat_cmp number)) self.old.entries ≡ None → 1 ≤ self.old.room }
         ensures entries { self.new.entries ≡ insert_entry nat_cmp self.old.entries number entry }
         ensures no_more { self.new.room ≤ self.old.room }
         ensures storage { self.new.storage ≡ self.old.storage }
     {
-        self.all.len();
         mark(&mut self.open_list, number, is_open(entry.state));
         self.all.put(number, entry);
     }

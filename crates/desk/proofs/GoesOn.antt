@@ -12,7 +12,9 @@ module _ {K : Type 0} (g : Ghosts K) where
   -- one call, and then another
   pub goes_on : (old mid new : DeskView K) → Goes g old mid → Goes g mid new → Goes g old new
   goes_on old mid new first then = record {
-    untouched = λ halted. let same = first.untouched halted in then.untouched (subst (λ (d : DeskView K). IsTrue (g.stopped d.keep)) (sym same) halted) ∙ same;
+    untouched = λ halted.
+        let same = first.untouched halted in
+        then.untouched (subst (λ (d : DeskView K). IsTrue (g.stopped d.keep)) (sym same) halted) ∙ same;
     good = then.good;
     stored = then.stored;
     honest = λ h. first.honest (then.honest h);

@@ -1,5 +1,7 @@
 -- Requests that are answered by lists: their lines, and how far they have come at a fault.
-use Rattle.std.proofs.Common.{◌≡◌, ◌∙◌, ◌≢◌, ◌↔◌, ◌+◌, ◌≤◌, IsTrue, false, true≢false, ℕ, List, [], ◌∷◌, ◌++◌, MatchOption, None, Option, Some, ap, if◌then◌else◌, append-nil, append_assoc, arith, drop, inl, inr, length, refl, subst, suc, sym, take, take-add, zero}
+use Rattle.std.proofs.Common.{◌≡◌, ◌∙◌, ◌≢◌, ◌↔◌, ◌+◌, ◌≤◌, IsTrue, false, true≢false, ℕ, List, [], ◌∷◌, ◌++◌,
+    MatchOption, None, Option, Some, ap, if◌then◌else◌, append-nil, append_assoc, arith, drop, inl, inr, length, refl,
+    subst, suc, sym, take, take-add, zero}
 use Rattle.std.proofs.lemmas.List.{length-take-le, map-append, take-append-drop, take-take}
 use Rattle.std.specs.Io.KnownBytes.{Appends}
 use Rattle.std.specs.List.{AllByRecursion as Each}
@@ -31,15 +33,27 @@ use Rattle.desk.proofs.Batches.{batch_runs}
 use Rattle.desk.proofs.Texts.{replies_joined}
 
 -- the lines of a run
-pub runs_told : (A B : Ledger) (rs : List Request) (ps : List Reply) → Runs A rs ps B → (out : List ℕ) × RepliesAll A (items_of rs) out B
+pub runs_told : (A B : Ledger) (rs : List Request) (ps : List Reply) → Runs A rs ps B
+    → (out : List ℕ) × RepliesAll A (items_of rs) out B
 runs_told A B [] [] same = ([], (refl, same))
 runs_told A B [] (p ∷ ps) h = absurd h
 runs_told A B (r ∷ rs) [] h = absurd h
 runs_told A B (r ∷ rs) (p ∷ ps) (M, first, rest) =
-    let (out, more) = runs_told M B rs ps rest in (request_line r.key p ++ out, (request_line r.key p, M, out, (p, first, refl), more, refl))
+    let (out, more) = runs_told M B rs ps rest in
+    (request_line r.key p ++ out, (request_line r.key p, M, out, (p, first, refl), more, refl))
 
 no_batch : (A : Ledger) → IsBatch A [] [] A
-no_batch A = record { first = []; behind = []; told = []; refused = []; requests_are = refl; replies_are = refl; done = refl; all_done = tt; rest = refl }
+no_batch A = record {
+  first = [];
+  behind = [];
+  told = [];
+  refused = [];
+  requests_are = refl;
+  replies_are = refl;
+  done = refl;
+  all_done = tt;
+  rest = refl
+}
 
 pub items_joined : (xs ys : List Request) → items_of (xs ++ ys) ≡ items_of xs ++ items_of ys
 items_joined xs ys = map-append (λ r. item.Request r) xs ys
@@ -53,7 +67,11 @@ length_take_most (suc k) (x ∷ xs) = let less = length_take_most k xs in omega 
 refused_stays : (A B : Ledger) (r : Request) (why : Refusal) (line : ℕ) → Answers A r (Refused why line) B → B ≡ A
 refused_stays A B r why line answer = by (kept_under A r.key) answer
   where
-    by : (k : Option Kept) → MatchOption k (AnswersNew A r (Refused why line) B) (λ k. (Refused why line ≡ (if same_command k.command r.command then Done k.place else Refused KeyReused 0)) × (B ≡ A)) → B ≡ A
+    by : (k : Option Kept)
+        → MatchOption k (AnswersNew A r (Refused why line) B)
+            (λ k.
+                (Refused why line ≡ (if same_command k.command r.command then Done k.place else Refused KeyReused 0))
+                × (B ≡ A)) → B ≡ A
     by (Some k) (is, same) = same
     by None (Some f, failed, left) = left.1
     by None (None, passed, left) = let is = left.0 in absurd cc
@@ -86,13 +104,16 @@ one_is_batch A B r (Refused refusal line) answer =
     })
 
 -- how far the answers to requests have come, and what is written of them
-abbrev pub CutAt : ScriptFault → Option NonZeroUsize → DeskState → List Request → DeskState → (writer_old writer_new : Option (List ℕ)) → Type 0
-CutAt fault together old rs new writer_old writer_new = (cut : IsCutInLists fault together old rs new) × Appends writer_old writer_new (cut.lines ++ cut.begun)
+abbrev pub CutAt : ScriptFault → Option NonZeroUsize → DeskState → List Request → DeskState
+    → (writer_old writer_new : Option (List ℕ)) → Type 0
+CutAt fault together old rs new writer_old writer_new =
+    (cut : IsCutInLists fault together old rs new) × Appends writer_old writer_new (cut.lines ++ cut.begun)
 
 -- ---- a list
 
 -- the desk was stopped before
-pub stopped_before : (desk : DeskState) (rs : List Request) (together : Option NonZeroUsize) (W : Option (List ℕ)) → IsTrue desk.is_stopped → 1 ≤ length rs → CutAt ScriptFault.Stopped together desk rs desk W W
+pub stopped_before : (desk : DeskState) (rs : List Request) (together : Option NonZeroUsize) (W : Option (List ℕ))
+    → IsTrue desk.is_stopped → 1 ≤ length rs → CutAt ScriptFault.Stopped together desk rs desk W W
 stopped_before desk rs together W halted some = (
   record {
     answered = [];
@@ -119,7 +140,8 @@ stopped_before desk rs together W halted some = (
   Appends-nil W,
 )
 
-module _ (together : Option NonZeroUsize) (old new : DeskState) (rs : List Request) (run : Run) (W w : Option (List ℕ)) (went : old.is_stopped ≡ false) (few : length rs ≤ most_together together) (list : RunsList together old rs run new) where
+module _ (together : Option NonZeroUsize) (old new : DeskState) (rs : List Request) (run : Run) (W w : Option (List ℕ))
+    (went : old.is_stopped ≡ false) (few : length rs ≤ most_together together) (list : RunsList together old rs run new) where
   abbrev told : List Request
   told = take (answered run) rs
 
@@ -155,21 +177,26 @@ module _ (together : Option NonZeroUsize) (old new : DeskState) (rs : List Reque
   )
 
   -- a beginning of the lines is written
-  pub begun_only : run.ending ≢ Stopped → (count : ℕ) → Appends W w (take count run.lines.items) → CutAt ScriptFault.Write together old rs new W w
+  pub begun_only : run.ending ≢ Stopped → (count : ℕ) → Appends W w (take count run.lines.items)
+      → CutAt ScriptFault.Write together old rs new W w
   begun_only going count writes = (
     record {
       answered = [];
       last = told;
       left = behind;
       split = sym (take-append-drop (answered run) rs);
-      few = let size : length told ≡ answered run = length-take-le (answered run) rs list.none_unasked in omega (arith, size, few, list.none_unasked);
+      few =
+          let size : length told ≡ answered run = length-take-le (answered run) rs list.none_unasked in
+          omega (arith, size, few, list.none_unasked);
       before = old.ledger;
       behind = new.ledger;
       lines = [];
       begun = take count run.lines.items;
       unwritten = drop count run.lines.items;
       replies = (refl, refl);
-      rest = subst (λ (out : List ℕ). RepliesAll old.ledger (items_of told) out new.ledger) (sym (take-append-drop count run.lines.items)) (list.lines going);
+      rest =
+          subst (λ (out : List ℕ). RepliesAll old.ledger (items_of told) out new.ledger)
+              (sym (take-append-drop count run.lines.items)) (list.lines going);
       batch = list.batch going;
       shown = λ _. refl;
       unread = λ is. absurd cc;
@@ -187,7 +214,9 @@ module _ (together : Option NonZeroUsize) (old new : DeskState) (rs : List Reque
   stopped_first is =
       let stops = list.stopped is in
       let n = stops.count in
-      let (out, lines) = runs_told old.ledger stops.behind (take n rs) stops.untold (batch_runs old.ledger stops.behind (take n rs) stops.untold stops.batch) in
+      let (out, lines) =
+          runs_told old.ledger stops.behind (take n rs) stops.untold
+              (batch_runs old.ledger stops.behind (take n rs) stops.untold stops.batch) in
       let size : length (take n rs) ≡ n = length-take-le n rs stops.none_unasked in (
         record {
           answered = [];
@@ -217,7 +246,8 @@ module _ (together : Option NonZeroUsize) (old new : DeskState) (rs : List Reque
 -- ---- how a list is carried out
 
 -- the store failed at a batch
-pub fails_in : (most : NonZeroUsize) (old : DeskState) (rs : List Request) (new : DeskState) → FailsAt old rs [] new → StopsIn (Some most) old rs new
+pub fails_in : (most : NonZeroUsize) (old : DeskState) (rs : List Request) (new : DeskState) → FailsAt old rs [] new
+    → StopsIn (Some most) old rs new
 fails_in most old rs new fails = record {
   count = fails.count;
   none_unasked = omega (arith, fails.none_unasked);
@@ -230,14 +260,16 @@ fails_in most old rs new fails = record {
 }
 
 -- one request, or none
-alone_batch : (A B : Ledger) (r : Request) (ps : List Reply) → Runs A (take (length ps) (r ∷ [])) ps B → IsBatch A (take (length ps) (r ∷ [])) ps B
+alone_batch : (A B : Ledger) (r : Request) (ps : List Reply) → Runs A (take (length ps) (r ∷ [])) ps B
+    → IsBatch A (take (length ps) (r ∷ [])) ps B
 alone_batch A B r [] same = subst (IsBatch A [] []) (sym same) (no_batch A)
 alone_batch A B r (p ∷ []) (M, answer, same) = subst (IsBatch A (r ∷ []) (p ∷ [])) (sym same) (one_is_batch A M r p answer)
 alone_batch A B r (p ∷ q ∷ ps) (M, answer, extra) = absurd extra
 
 -- the store failed at the one
 alone_stops : (old new : DeskState) (r : Request) → Good old.ledger → new.ledger ≡ old.ledger → IsAccepted old.ledger r
-    → (new.is_honest → (next : Ledger) × After old.ledger (r ∷ []) 1 next × LeavesEither new.leaves new.ledger next) → StopsIn None old (r ∷ []) new
+    → (new.is_honest → (next : Ledger) × After old.ledger (r ∷ []) 1 next × LeavesEither new.leaves new.ledger next)
+    → StopsIn None old (r ∷ []) new
 alone_stops old new r good same accepted either =
     let (reply, after, answer) = answered_if_good old.ledger r good in record {
       count = 1;
@@ -249,20 +281,27 @@ alone_stops old new r good same accepted either =
       shown = same;
       either = λ honest.
           let (next, ran, leaves) = either honest in
-          let there : next ≡ after = (runs_once old.ledger (r ∷ []) ran.0 (reply ∷ []) next after ran.1 (after, answer, refl)).1 in
+          let there : next ≡ after =
+              (runs_once old.ledger (r ∷ []) ran.0 (reply ∷ []) next after ran.1 (after, answer, refl)).1 in
           subst (λ L. LeavesEither new.leaves old.ledger L) there (subst (λ L. LeavesEither new.leaves L next) same leaves);
     }
 
 -- one request
-pub list_alone : (old new : DeskState) (r : Request) (run : Run) (ps : List Reply) → run.replies.items ≡ ps → Good new.ledger → Runs old.ledger (take (length ps) (r ∷ [])) ps new.ledger
-    → RepliesAll old.ledger (items_of (take (length ps) (r ∷ []))) run.lines.items new.ledger → (run.ending ≡ All ↔ length ps ≡ 1) → TellsStop (run.ending ≡ Stopped) old new
+pub list_alone : (old new : DeskState) (r : Request) (run : Run) (ps : List Reply) → run.replies.items ≡ ps
+    → Good new.ledger → Runs old.ledger (take (length ps) (r ∷ [])) ps new.ledger
+    → RepliesAll old.ledger (items_of (take (length ps) (r ∷ []))) run.lines.items new.ledger
+    → (run.ending ≡ All ↔ length ps ≡ 1) → TellsStop (run.ending ≡ Stopped) old new
     → (run.ending ≡ Stopped → HasAccepted new.ledger (take 1 (drop (length ps) (r ∷ []))))
-    → (run.ending ≡ Stopped → new.is_honest → (next : Ledger) × After old.ledger (r ∷ []) (length ps + 1) next × LeavesEither new.leaves new.ledger next) → RunsList None old (r ∷ []) run new
+    → (run.ending ≡ Stopped → new.is_honest
+        → (next : Ledger) × After old.ledger (r ∷ []) (length ps + 1) next × LeavesEither new.leaves new.ledger next)
+    → RunsList None old (r ∷ []) run new
 list_alone old new r run ps are good runs lines all stop accepted either =
     let size : answered run ≡ length ps = ap (λ (qs : List Reply). length qs) are in record {
       none_unasked = let short = at_most ps runs in omega (arith, size, short);
       some = λ is. let one = all.0 is in omega (arith, size, one);
-      batch = λ _. (ps, subst (λ n. IsBatch old.ledger (take n (r ∷ [])) ps new.ledger) (sym size) (alone_batch old.ledger new.ledger r ps runs));
+      batch = λ _. (ps,
+          subst (λ n. IsBatch old.ledger (take n (r ∷ [])) ps new.ledger) (sym size)
+              (alone_batch old.ledger new.ledger r ps runs));
       lines = λ _. subst (λ n. RepliesAll old.ledger (items_of (take n (r ∷ []))) run.lines.items new.ledger) (sym size) lines;
       stopped = stops ps runs all accepted either;
       stop = stop;
@@ -273,8 +312,12 @@ list_alone old new r run ps are good runs lines all stop accepted either =
     at_most (p ∷ []) h = omega arith
     at_most (p ∷ q ∷ ps) (M, answer, extra) = absurd extra
 
-    stops : (ps : List Reply) → Runs old.ledger (take (length ps) (r ∷ [])) ps new.ledger → (run.ending ≡ All ↔ length ps ≡ 1) → (run.ending ≡ Stopped → HasAccepted new.ledger (take 1 (drop (length ps) (r ∷ []))))
-        → (run.ending ≡ Stopped → new.is_honest → (next : Ledger) × After old.ledger (r ∷ []) (length ps + 1) next × LeavesEither new.leaves new.ledger next) → run.ending ≡ Stopped → StopsIn None old (r ∷ []) new
+    stops : (ps : List Reply) → Runs old.ledger (take (length ps) (r ∷ [])) ps new.ledger
+        → (run.ending ≡ All ↔ length ps ≡ 1)
+        → (run.ending ≡ Stopped → HasAccepted new.ledger (take 1 (drop (length ps) (r ∷ []))))
+        → (run.ending ≡ Stopped → new.is_honest
+            → (next : Ledger) × After old.ledger (r ∷ []) (length ps + 1) next
+                × LeavesEither new.leaves new.ledger next) → run.ending ≡ Stopped → StopsIn None old (r ∷ []) new
     stops [] same all accepted either is = alone_stops old new r (subst Good same good) same (by (accepted is)) (either is)
       where
         by : HasAccepted new.ledger (r ∷ []) → IsAccepted old.ledger r
@@ -283,19 +326,27 @@ list_alone old new r run ps are good runs lines all stop accepted either =
     stops (p ∷ []) h all accepted either is = absurd (let both = sym is ∙ all.1 refl in cc)
     stops (p ∷ q ∷ ps) (M, answer, extra) all accepted either is = absurd extra
 
-pub list_of_one : (old new : DeskState) (rs : List Request) (run : Run) → 1 ≤ length rs → length rs ≤ 1 → Good new.ledger → Runs old.ledger (take (answered run) rs) run.replies.items new.ledger
-    → RepliesAll old.ledger (items_of (take (answered run) rs)) run.lines.items new.ledger → (run.ending ≡ All ↔ answered run ≡ length rs) → TellsStop (run.ending ≡ Stopped) old new
+pub list_of_one : (old new : DeskState) (rs : List Request) (run : Run) → 1 ≤ length rs → length rs ≤ 1
+    → Good new.ledger → Runs old.ledger (take (answered run) rs) run.replies.items new.ledger
+    → RepliesAll old.ledger (items_of (take (answered run) rs)) run.lines.items new.ledger
+    → (run.ending ≡ All ↔ answered run ≡ length rs) → TellsStop (run.ending ≡ Stopped) old new
     → (run.ending ≡ Stopped → HasAccepted new.ledger (take 1 (drop (answered run) rs)))
-    → (run.ending ≡ Stopped → new.is_honest → (next : Ledger) × After old.ledger rs (answered run + 1) next × LeavesEither new.leaves new.ledger next) → RunsList None old rs run new
+    → (run.ending ≡ Stopped → new.is_honest
+        → (next : Ledger) × After old.ledger rs (answered run + 1) next × LeavesEither new.leaves new.ledger next)
+    → RunsList None old rs run new
 list_of_one old new [] run some few good runs lines all stop accepted either = absurd (omega arith)
-list_of_one old new (r ∷ []) run some few good runs lines all stop accepted either = list_alone old new r run run.replies.items refl good runs lines all stop accepted either
+list_of_one old new (r ∷ []) run some few good runs lines all stop accepted either =
+    list_alone old new r run run.replies.items refl good runs lines all stop accepted either
 list_of_one old new (r ∷ q ∷ rs) run some few good runs lines all stop accepted either = absurd (omega arith)
 
 -- ---- list after list
 
 -- a list that is cut stands behind requests that are answered
-module _ (fault : ScriptFault) (together : Option NonZeroUsize) (old mid new : DeskState) (rs some : List Request) (n k : ℕ) (W X w : Option (List ℕ)) where
-  pub cut_behind : old.is_stopped ≡ false → mid.is_stopped ≡ false → some ≡ take k (drop n rs) → WritesLines old.ledger (items_of (take n rs)) mid.ledger W X → CutAt fault together mid some new X w → CutAt fault together old rs new W w
+module _ (fault : ScriptFault) (together : Option NonZeroUsize) (old mid new : DeskState) (rs some : List Request)
+    (n k : ℕ) (W X w : Option (List ℕ)) where
+  pub cut_behind : old.is_stopped ≡ false → mid.is_stopped ≡ false → some ≡ take k (drop n rs)
+      → WritesLines old.ledger (items_of (take n rs)) mid.ledger W X → CutAt fault together mid some new X w
+      → CutAt fault together old rs new W w
   cut_behind went here are (lines, replies, writes) (cut, more) = (
     record {
       answered = take n rs ++ cut.answered;
@@ -308,8 +359,10 @@ module _ (fault : ScriptFault) (together : Option NonZeroUsize) (old mid new : D
       lines = lines ++ cut.lines;
       begun = cut.begun;
       unwritten = cut.unwritten;
-      replies = subst (λ (xs : List Item). RepliesAll old.ledger xs (lines ++ cut.lines) cut.before) (sym (items_joined (take n rs) cut.answered))
-          (replies_joined (items_of (take n rs)) (items_of cut.answered) old.ledger mid.ledger cut.before lines cut.lines replies cut.replies);
+      replies = subst (λ (xs : List Item). RepliesAll old.ledger xs (lines ++ cut.lines) cut.before)
+          (sym (items_joined (take n rs) cut.answered))
+          (replies_joined (items_of (take n rs)) (items_of cut.answered) old.ledger mid.ledger cut.before lines
+              cut.lines replies cut.replies);
       rest = cut.rest;
       batch = cut.batch;
       shown = cut.shown;
@@ -328,22 +381,30 @@ module _ (fault : ScriptFault) (together : Option NonZeroUsize) (old mid new : D
 
       whole : rs ≡ ((take n rs ++ cut.answered) ++ cut.last) ++ (cut.left ++ drop k (drop n rs))
       whole =
-          sym (take-append-drop n rs) ∙ ap (λ (xs : List Request). take n rs ++ xs) (inner ∙ append_assoc (cut.answered ++ cut.last) cut.left (drop k (drop n rs)))
+          sym (take-append-drop n rs)
+          ∙ ap (λ (xs : List Request). take n rs ++ xs)
+              (inner ∙ append_assoc (cut.answered ++ cut.last) cut.left (drop k (drop n rs)))
           ∙ sym (append_assoc (take n rs) (cut.answered ++ cut.last) (cut.left ++ drop k (drop n rs)))
-          ∙ ap (λ (xs : List Request). xs ++ (cut.left ++ drop k (drop n rs))) (sym (append_assoc (take n rs) cut.answered cut.last))
+          ∙ ap (λ (xs : List Request). xs ++ (cut.left ++ drop k (drop n rs)))
+              (sym (append_assoc (take n rs) cut.answered cut.last))
 
 -- nothing but requests was answered, by a desk that goes on
-pub may_requests : (desk : DeskState) (rs : List Request) → desk.is_stopped ≡ false → Each (MayAnswer (snapshot desk)) (items_of rs)
+pub may_requests : (desk : DeskState) (rs : List Request) → desk.is_stopped ≡ false
+    → Each (MayAnswer (snapshot desk)) (items_of rs)
 may_requests desk [] going = tt
 may_requests desk (r ∷ rs) going = (going, may_requests desk rs going)
 
 -- requests that are answered, and a list more
-pub answered_further : (A M B : Ledger) (rs some : List Request) (n k count : ℕ) (W X w : Option (List ℕ)) → some ≡ take k (drop n rs) → count ≤ length some → WritesLines A (items_of (take n rs)) M W X
+pub answered_further : (A M B : Ledger) (rs some : List Request) (n k count : ℕ) (W X w : Option (List ℕ))
+    → some ≡ take k (drop n rs) → count ≤ length some → WritesLines A (items_of (take n rs)) M W X
     → WritesLines M (items_of (take count some)) B X w → WritesLines A (items_of (take (n + count) rs)) B W w
 answered_further A M B rs some n k count W X w are few (lines, replies, writes) (more, others, appends) =
     let short : length some ≤ k = subst (λ (xs : List Request). length xs ≤ k) (sym are) (length_take_most k (drop n rs)) in
     let same : take (n + count) rs ≡ take n rs ++ take count some =
-    take-add n count rs ∙ ap (λ (xs : List Request). take n rs ++ xs) (sym (take-take count k (drop n rs) (omega (arith, short, few))) ∙ ap (λ (xs : List Request). take count xs) (sym are)) in (
+    take-add n count rs
+    ∙ ap (λ (xs : List Request). take n rs ++ xs)
+        (sym (take-take count k (drop n rs) (omega (arith, short, few)))
+            ∙ ap (λ (xs : List Request). take count xs) (sym are)) in (
       lines ++ more,
       subst (λ (xs : List Request). RepliesAll A (items_of xs) (lines ++ more) B) (sym same)
           (subst (λ (xs : List Item). RepliesAll A xs (lines ++ more) B) (sym (items_joined (take n rs) (take count some)))

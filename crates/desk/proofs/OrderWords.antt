@@ -11,7 +11,8 @@ held_words-append [] ys = refl
 held_words-append (x ∷ xs) ys = cc (held_words-append xs ys)
 
 -- a line more is appended
-pub lines_more : (old before new : List ℕ) (lines : List Line) (i : ℕ) (line : Line) → i < length lines → line ≡ get_or lines i line
+pub lines_more : (old before new : List ℕ) (lines : List Line) (i : ℕ) (line : Line) → i < length lines
+    → line ≡ get_or lines i line
     → before ≡ old ++ after_space (held_words (take i lines)) → new ≡ before ++ after_space (held_words (line ∷ []))
     → new ≡ old ++ after_space (held_words (take (i + 1) lines))
 lines_more old before new lines i line lt is p q =
@@ -20,4 +21,5 @@ lines_more old before new lines i line lt is p q =
     q ∙ ap (λ (l : List ℕ). l ++ after_space last) p ∙ append_assoc old (after_space (held_words first)) (after_space last)
     ∙ ap (λ (l : List ℕ). old ++ l)
     (sym (after_space-append (held_words first) last) ∙ ap after_space (sym (held_words-append first (line ∷ []))))
-    ∙ ap (λ (ls : List Line). old ++ after_space (held_words ls)) (sym (take_more lines i line lt ∙ ap (λ (l : Line). first ++ l ∷ []) (sym is)))
+    ∙ ap (λ (ls : List Line). old ++ after_space (held_words ls))
+        (sym (take_more lines i line lt ∙ ap (λ (l : Line). first ++ l ∷ []) (sym is)))

@@ -21,13 +21,20 @@ use Rattle.desk.proofs.Batches.{desk_joined}
 
 -- a row of the same cells goes in alike
 same_put : (c d : Change) (x : Content) → IsSameRow c d → with_change d x ≡ with_change c x
-same_put (change.Desk row) d x (copy, is, cells) = ap (λ (c : Change). with_change c x) is ∙ ap (λ (r : DeskCells). record x { desk = r ∷ x.desk }) cells
-same_put (change.Field row) d x (copy, is, cells) = ap (λ (c : Change). with_change c x) is ∙ ap (λ (r : FieldCells). record x { fields = r ∷ x.fields }) cells
-same_put (change.Move row) d x (copy, is, cells) = ap (λ (c : Change). with_change c x) is ∙ ap (λ (r : MoveCells). record x { moves = r ∷ x.moves }) cells
-same_put (change.Order row) d x (copy, is, cells) = ap (λ (c : Change). with_change c x) is ∙ ap (λ (r : OrderCells). record x { orders = r ∷ x.orders }) cells
-same_put (change.Line row) d x (copy, is, cells) = ap (λ (c : Change). with_change c x) is ∙ ap (λ (r : LineCells). record x { lines = r ∷ x.lines }) cells
-same_put (change.Kept row) d x (copy, is, cells) = ap (λ (c : Change). with_change c x) is ∙ ap (λ (r : KeptCells). record x { kept = r ∷ x.kept }) cells
-same_put (change.Firm row) d x (copy, is, cells) = ap (λ (c : Change). with_change c x) is ∙ ap (λ (r : FirmCells). record x { firms = r ∷ x.firms }) cells
+same_put (change.Desk row) d x (copy, is, cells) =
+    ap (λ (c : Change). with_change c x) is ∙ ap (λ (r : DeskCells). record x { desk = r ∷ x.desk }) cells
+same_put (change.Field row) d x (copy, is, cells) =
+    ap (λ (c : Change). with_change c x) is ∙ ap (λ (r : FieldCells). record x { fields = r ∷ x.fields }) cells
+same_put (change.Move row) d x (copy, is, cells) =
+    ap (λ (c : Change). with_change c x) is ∙ ap (λ (r : MoveCells). record x { moves = r ∷ x.moves }) cells
+same_put (change.Order row) d x (copy, is, cells) =
+    ap (λ (c : Change). with_change c x) is ∙ ap (λ (r : OrderCells). record x { orders = r ∷ x.orders }) cells
+same_put (change.Line row) d x (copy, is, cells) =
+    ap (λ (c : Change). with_change c x) is ∙ ap (λ (r : LineCells). record x { lines = r ∷ x.lines }) cells
+same_put (change.Kept row) d x (copy, is, cells) =
+    ap (λ (c : Change). with_change c x) is ∙ ap (λ (r : KeptCells). record x { kept = r ∷ x.kept }) cells
+same_put (change.Firm row) d x (copy, is, cells) =
+    ap (λ (c : Change). with_change c x) is ∙ ap (λ (r : FirmCells). record x { firms = r ∷ x.firms }) cells
 
 -- copies have the same rows
 pub copies_same : (cs ds : List Change) → AllZip IsSameRow cs ds → rows_among ds ≡ rows_among cs
@@ -37,17 +44,21 @@ copies_same (c ∷ cs) [] h = absurd h
 copies_same (c ∷ cs) (d ∷ ds) h = same_put c d (rows_among ds) h.0 ∙ ap (with_change c) (copies_same cs ds h.1)
 
 -- the rows of `desk` among copies, behind others
-pub rows_joined : (xs ys zs all : List Change) → all ≡ xs ++ zs → rows_among zs ≡ rows_among ys → All IsTheRow (rows_among xs).desk
+pub rows_joined : (xs ys zs all : List Change) → all ≡ xs ++ zs → rows_among zs ≡ rows_among ys
+    → All IsTheRow (rows_among xs).desk
     → All IsTheRow (rows_among ys).desk → All IsTheRow (rows_among all).desk
 rows_joined xs ys zs all is same h k =
     subst (λ (cs : List Change). All IsTheRow (rows_among cs).desk) (sym is)
-    (subst (λ (rows : List DeskCells). All IsTheRow rows) (sym (desk_joined xs zs)) (All-append IsTheRow (rows_among xs).desk (rows_among zs).desk h (subst (λ (c : Content). All IsTheRow c.desk) (sym same) k)))
+    (subst (λ (rows : List DeskCells). All IsTheRow rows) (sym (desk_joined xs zs))
+        (All-append IsTheRow (rows_among xs).desk (rows_among zs).desk h
+            (subst (λ (c : Content). All IsTheRow c.desk) (sym same) k)))
 
 -- copies are put in behind others as what they are copies of
 pub put_joined : (xs ys zs all : List Change) (x : Content) → all ≡ xs ++ zs → rows_among zs ≡ rows_among ys
     → with_changes all x ≡ with_changes ys (with_changes xs x)
 put_joined xs ys zs all x is same =
-    ap (λ (cs : List Change). with_changes cs x) is ∙ put_in_turn xs zs x ∙ ap (λ (rows : Content). put_content rows (with_changes xs x)) same
+    ap (λ (cs : List Change). with_changes cs x) is ∙ put_in_turn xs zs x
+    ∙ ap (λ (rows : Content). put_content rows (with_changes xs x)) same
 
 -- ---- one content behind it
 
@@ -59,48 +70,76 @@ one_of x y (inl e) = e
 one_of x y (inr h) = absurd h
 
 -- a keeper that leaves one content alone leaves no other
-pub one_base : (leaves : List Content → Type 0) (may_leave : Content → Type 0) → ((these : List Content) → leaves these → ∥ ((x : Content) × may_leave x) ∥₁)
-    → ((these : List Content) (x : Content) → leaves these → may_leave x → IsAmong these x) → (b c : Content) → leaves (b ∷ []) → leaves (c ∷ []) → b ≡ c
+pub one_base : (leaves : List Content → Type 0) (may_leave : Content → Type 0)
+    → ((these : List Content) → leaves these → ∥ ((x : Content) × may_leave x) ∥₁)
+    → ((these : List Content) (x : Content) → leaves these → may_leave x → IsAmong these x) → (b c : Content)
+    → leaves (b ∷ []) → leaves (c ∷ []) → b ≡ c
 one_base leaves may_leave some among b c hb hc =
-    ∥∥₁_elim (some (b ∷ []) hb) (content_set b c) (λ (x : (x : Content) × may_leave x). sym (one_of x.0 b (among (b ∷ []) x.0 hb x.1)) ∙ one_of x.0 c (among (c ∷ []) x.0 hc x.1))
+    ∥∥₁_elim (some (b ∷ []) hb) (content_set b c)
+        (λ (x : (x : Content) × may_leave x).
+            sym (one_of x.0 b (among (b ∷ []) x.0 hb x.1)) ∙ one_of x.0 c (among (c ∷ []) x.0 hc x.1))
 
 module _ {K : Type 0} (g : Ghosts K) (keep : K) where
   -- what is put off more
-  pub off_more : (changes more all : List Change) → ((x : Content) → with_changes all x ≡ with_changes more (with_changes changes x)) → (x : Content)
+  pub off_more : (changes more all : List Change)
+      → ((x : Content) → with_changes all x ≡ with_changes more (with_changes changes x)) → (x : Content)
       → PutsOff g keep changes x → PutsOff g keep all (with_changes more x)
-  off_more changes more all is x h = record { base = h.base; held = h.held; alone = h.alone; with_them = ap (λ (c : Content). with_changes more c) h.with_them ∙ sym (is h.base) }
+  off_more changes more all is x h = record {
+    base = h.base;
+    held = h.held;
+    alone = h.alone;
+    with_them = ap (λ (c : Content). with_changes more c) h.with_them ∙ sym (is h.base)
+  }
 
-  pub off_either : (changes more all : List Change) → ((x : Content) → with_changes all x ≡ with_changes more (with_changes changes x)) → (x : Content)
+  pub off_either : (changes more all : List Change)
+      → ((x : Content) → with_changes all x ≡ with_changes more (with_changes changes x)) → (x : Content)
       → PutsOff g keep changes x → PutsOffOneOf g keep changes (x ∷ []) → PutsOffOneOf g keep all (x ∷ with_changes more x ∷ [])
   off_either changes more all is x h only = record {
     some = with_changes more x;
     put_off = off_more changes more all is x h;
     among = λ y k.
-        let was : PutsOff g keep changes (with_changes changes k.base) = record { base = k.base; held = k.held; alone = k.alone; with_them = refl } in
+        let was : PutsOff g keep changes (with_changes changes k.base) = record {
+          base = k.base;
+          held = k.held;
+          alone = k.alone;
+          with_them = refl
+        } in
         let same : with_changes changes k.base ≡ x = one_of _ x (only.among (with_changes changes k.base) was) in
         inr (inl (k.with_them ∙ is k.base ∙ ap (λ (c : Content). with_changes more c) same));
   }
 
-  pub off_still : (changes more : List Change) (x : Content) → PutsOff g keep changes x → PutsOffOneOf g keep changes (x ∷ []) → PutsOffOneOf g keep changes (x ∷ with_changes more x ∷ [])
+  pub off_still : (changes more : List Change) (x : Content) → PutsOff g keep changes x
+      → PutsOffOneOf g keep changes (x ∷ []) → PutsOffOneOf g keep changes (x ∷ with_changes more x ∷ [])
   off_still changes more x h only = record { some = x; put_off = h; among = λ y k. inl (one_of y x (only.among y k)) }
 
-  pub off_alone : ((these : List Content) → g.leaves keep these → ∥ ((x : Content) × g.may_leave keep x) ∥₁) → ((these : List Content) (x : Content) → g.leaves keep these → g.may_leave keep x → IsAmong these x)
+  pub off_alone : ((these : List Content) → g.leaves keep these → ∥ ((x : Content) × g.may_leave keep x) ∥₁)
+      → ((these : List Content) (x : Content) → g.leaves keep these → g.may_leave keep x → IsAmong these x)
       → (changes : List Change) (x : Content) → PutsOff g keep changes x → PutsOffOneOf g keep changes (x ∷ [])
   off_alone some among changes x h = record {
     some = x;
     put_off = h;
-    among = λ y k. inl (k.with_them ∙ ap (λ (b : Content). with_changes changes b) (one_base (g.leaves keep) (g.may_leave keep) some among k.base h.base k.alone h.alone) ∙ sym h.with_them);
+    among = λ y k. inl (k.with_them
+        ∙ ap (λ (b : Content). with_changes changes b)
+            (one_base (g.leaves keep) (g.may_leave keep) some among k.base h.base k.alone h.alone) ∙ sym h.with_them);
   }
 
   -- what is stored behind it is what it holds
-  pub stored_off : ((these : List Content) → g.leaves keep these → ∥ ((x : Content) × g.may_leave keep x) ∥₁) → ((these : List Content) (x : Content) → g.leaves keep these → g.may_leave keep x → IsAmong these x)
-      → (changes : List Change) → changes ≡ [] → (A : Ledger) → IsStored (g.holds keep) (g.leaves keep) A → IsStored (PutsOff g keep changes) (PutsOffOneOf g keep changes) A
+  pub stored_off : ((these : List Content) → g.leaves keep these → ∥ ((x : Content) × g.may_leave keep x) ∥₁)
+      → ((these : List Content) (x : Content) → g.leaves keep these → g.may_leave keep x → IsAmong these x)
+      → (changes : List Change) → changes ≡ [] → (A : Ledger) → IsStored (g.holds keep) (g.leaves keep) A
+      → IsStored (PutsOff g keep changes) (PutsOffOneOf g keep changes) A
   stored_off some among changes none A was =
-      let here : PutsOff g keep changes was.rows = record { base = was.rows; held = was.held; alone = was.alone; with_them = ap (λ (cs : List Change). with_changes cs was.rows) (sym none) } in
+      let here : PutsOff g keep changes was.rows = record {
+        base = was.rows;
+        held = was.held;
+        alone = was.alone;
+        with_them = ap (λ (cs : List Change). with_changes cs was.rows) (sym none)
+      } in
       record { rows = was.rows; are_rows = was.are_rows; held = here; alone = off_alone some among changes was.rows here }
 
   -- and the other way round, where nothing is put off
-  pub stored_behind : (A : Ledger) → IsStored (PutsOff g keep []) (PutsOffOneOf g keep []) A → IsStored (g.holds keep) (g.leaves keep) A
+  pub stored_behind : (A : Ledger) → IsStored (PutsOff g keep []) (PutsOffOneOf g keep []) A
+      → IsStored (g.holds keep) (g.leaves keep) A
   stored_behind A was = record {
     rows = was.held.base;
     are_rows = subst (IsRowsOf A) was.held.with_them was.are_rows;
@@ -109,16 +148,24 @@ module _ {K : Type 0} (g : Ghosts K) (keep : K) where
   }
 
   -- where it could not be kept, a stop leaves what was stored, or that with what was put off
-  pub lost_off : ((these : List Content) → g.leaves keep these → ∥ ((x : Content) × g.may_leave keep x) ∥₁) → ((these : List Content) (x : Content) → g.leaves keep these → g.may_leave keep x → IsAmong these x)
-      → (changes : List Change) (A B : Ledger) → Good A → Good B → IsStored (g.holds keep) (g.leaves keep) A → IsStored (PutsOff g keep changes) (PutsOffOneOf g keep changes) B
-      → (leaves : List Content → Type 0) → ((x : Content) → g.holds keep x → g.leaves keep (x ∷ []) → leaves (x ∷ with_changes changes x ∷ [])) → LeavesEither leaves A B
+  pub lost_off : ((these : List Content) → g.leaves keep these → ∥ ((x : Content) × g.may_leave keep x) ∥₁)
+      → ((these : List Content) (x : Content) → g.leaves keep these → g.may_leave keep x → IsAmong these x)
+      → (changes : List Change) (A B : Ledger) → Good A → Good B → IsStored (g.holds keep) (g.leaves keep) A
+      → IsStored (PutsOff g keep changes) (PutsOffOneOf g keep changes) B
+      → (leaves : List Content → Type 0)
+      → ((x : Content) → g.holds keep x → g.leaves keep (x ∷ []) → leaves (x ∷ with_changes changes x ∷ []))
+      → LeavesEither leaves A B
   lost_off some among changes A B good_A good_B was is leaves either = record {
     good_before = good_A;
     good_after = good_B;
     before = was.rows;
     after = with_changes changes was.rows;
     are_before = was.are_rows;
-    are_after = subst (IsRowsOf B) (is.held.with_them ∙ ap (λ (b : Content). with_changes changes b) (one_base (g.leaves keep) (g.may_leave keep) some among is.held.base was.rows is.held.alone was.alone)) is.are_rows;
+    are_after =
+        subst (IsRowsOf B) (is.held.with_them
+            ∙ ap (λ (b : Content). with_changes changes b)
+                (one_base (g.leaves keep) (g.may_leave keep) some among is.held.base was.rows is.held.alone was.alone))
+            is.are_rows;
     either = either was.rows was.held was.alone;
   }
 

@@ -5,7 +5,8 @@ use Rattle.words.specs.declared.reply.Reply.{Reply}
 use Rattle.ledger.specs.Answers.{Answers, Runs}
 use Rattle.ledger.specs.Ledger.{Ledger}
 
-pub runs_on : (A M B : Ledger) (rs : List Request) (ps : List Reply) (r : Request) (p : Reply) → Runs A rs ps M → Answers M r p B → Runs A (rs ++ r ∷ []) (ps ++ p ∷ []) B
+pub runs_on : (A M B : Ledger) (rs : List Request) (ps : List Reply) (r : Request) (p : Reply) → Runs A rs ps M
+    → Answers M r p B → Runs A (rs ++ r ∷ []) (ps ++ p ∷ []) B
 runs_on A M B [] [] r p e h = (B, subst (λ (L : Ledger). Answers L r p B) e h, refl)
 runs_on A M B [] (q ∷ ps) r p e h = absurd e
 runs_on A M B (x ∷ rs) [] r p e h = absurd e

@@ -4,7 +4,9 @@ use Rattle.std.proofs.lemmas.Fmt.{length-decimal-le}
 use Rattle.std.proofs.lemmas.List.{length-append}
 use Rattle.words.specs.Replies.{refusal_code, refusal_name, reply_text}
 use Rattle.words.specs.declared.reply.Refusal.{Refusal}
-use Rattle.words.specs.declared.reply.Refusal.TheVariants.{KeyReused, Full, FieldThere, NoField, BadBounds, OrderThere, NoOrder, Ended, Past, SameField, OtherWay, TooManyLines, TooLittle, TooMuch, NotHeld, OverUse, TransferFixed, ClockBack, Firm, BadCommand}
+use Rattle.words.specs.declared.reply.Refusal.TheVariants.{KeyReused, Full, FieldThere, NoField, BadBounds, OrderThere,
+    NoOrder, Ended, Past, SameField, OtherWay, TooManyLines, TooLittle, TooMuch, NotHeld, OverUse, TransferFixed,
+    ClockBack, Firm, BadCommand}
 use Rattle.words.specs.declared.reply.Reply.{Reply}
 use Rattle.words.specs.declared.reply.Reply.TheVariants.{Done, Refused}
 use Rattle.desk.specs.Replies.{number_of}
@@ -49,11 +51,13 @@ text_is_short (Refused r line) small =
     omega (arith, n, name, code, all, rest)
 
 -- the key, a space, the reply and a newline
-pub line_is_short : (key first second third line : List ℕ) (reply : Reply) → length key ≤ 36 → number_of reply < 2 ^ 64 → first ≡ key → second ≡ first ++ codes " " → third ≡ second ++ reply_text reply → line ≡ third ++ codes "\n"
+pub line_is_short : (key first second third line : List ℕ) (reply : Reply) → length key ≤ 36 → number_of reply < 2 ^ 64
+    → first ≡ key → second ≡ first ++ codes " " → third ≡ second ++ reply_text reply → line ≡ third ++ codes "\n"
     → length line ≤ 96
 line_is_short key first second third line reply few small is_key is_second is_third is_line =
     let text = text_is_short reply small in
-    let size : (xs ys zs : List ℕ) → xs ≡ ys ++ zs → length xs ≡ length ys + length zs = λ xs ys zs is. ap (λ (ws : List ℕ). length ws) is ∙ length-append ys zs in
+    let size : (xs ys zs : List ℕ) → xs ≡ ys ++ zs → length xs ≡ length ys + length zs =
+        λ xs ys zs is. ap (λ (ws : List ℕ). length ws) is ∙ length-append ys zs in
     let one = ap (λ (ws : List ℕ). length ws) is_key in
     let two = size second first (codes " ") is_second in
     let three = size third second (reply_text reply) is_third in

@@ -1,6 +1,7 @@
 -- A dialogue with a desk: bytes come in, the questions in them are answered in their order, and each answer is written
 -- before the next question is answered.
-use Rattle.std.specs.Prelude.{◌≡◌, ◌≢◌, ◌⊎◌, ◌≤◌, ◌-◌, ◌^◌, Bool, IsTrue, false, true, ℕ, List, [], ◌∷◌, ◌++◌, Option, flat_map, length, min}
+use Rattle.std.specs.Prelude.{◌≡◌, ◌≢◌, ◌⊎◌, ◌≤◌, ◌-◌, ◌^◌, Bool, IsTrue, false, true, ℕ, List, [], ◌∷◌, ◌++◌, Option,
+    flat_map, length, min}
 use Rattle.std.specs.Io.KnownBytes.{Appends, Consumes, IsAtEnd}
 use Rattle.std.specs.List.{AllByRecursion as Each}
 use Rattle.words.specs.declared.command.Request.{Request}
@@ -15,8 +16,8 @@ use Rattle.desk.specs.declared.fault.ScriptFault.{ScriptFault}
 
 -- ---- what is spoken
 
--- What an answer comes of: the ledger, as the language has it; that memory was refused for it; or that its request has
--- stopped the desk.
+-- Where an answer comes from: from the ledger, as the language says; from memory that was refused for it; or from a
+-- desk that its request has stopped.
 pub data AnswerKind : Type 0 where
   ordinary : AnswerKind
   no_memory : AnswerKind
@@ -26,9 +27,9 @@ pub data AnswerKind : Type 0 where
 pub record Language (Question Answer : Type 0) : Type 1 where
   -- the questions of an input
   pub are_questions : List ℕ → List Question → Type 0
-  -- the questions that have come whole in the beginning of one
+  -- the questions that have come whole in the beginning of an input
   pub have_come : List ℕ → List Question → Type 0
-  -- whether it may end behind these questions, by whether the input has ended
+  -- whether the dialogue may end behind these questions, where the input has ended or has not
   pub ends : Bool → List Question → Type 0
   -- the answer to a question, of this kind, and the desk behind it
   pub answers : Snapshot → Question → AnswerKind → Answer → Snapshot → Type 0
@@ -57,8 +58,8 @@ pub record IsTranscript {Q A : Type 0} (L : Language Q A) (old : Snapshot) (inpu
   pub are_answers : AreAnswers L old questions kinds answers new
   pub out_is : out ≡ text_of L answers
 
--- Some of what was there was read, and what was written is a beginning of what is answered to that, by answers of these
--- kinds.
+-- A part of the input was read, and what was written is a beginning of what is answered to that part, by answers of
+-- these kinds.
 pub record BeginsTranscript {Q A : Type 0} (L : Language Q A) (old : Snapshot) (s : Streams) : Type 0 where
   pub read : List ℕ
   pub written : List ℕ
@@ -75,14 +76,15 @@ pub record BeginsTranscript {Q A : Type 0} (L : Language Q A) (old : Snapshot) (
 abbrev pub Begins : {Q A : Type 0} → Language Q A → List ℕ → List Q → Type 0
 Begins {Q} L input questions = (others : List Q) × L.are_questions input (questions ++ others)
 
--- What was read settles these questions: whatever is left of the input, its first ones are these. Nothing is left where
--- the reader is at its end.
-abbrev pub Settles : {Q A : Type 0} → Language Q A → List ℕ → Option (List ℕ) → List Q → Type 0
-Settles L read reader questions = (more : List ℕ) → (IsAtEnd reader → more ≡ []) → Begins L (read ++ more) questions
+-- What was read settles these questions: whatever is left of the input, these are its first questions. Where the
+-- reader is at its end, nothing is left.
+abbrev pub SettlesQuestions : {Q A : Type 0} → Language Q A → List ℕ → Option (List ℕ) → List Q → Type 0
+SettlesQuestions L read reader questions = (more : List ℕ) → (IsAtEnd reader → more ≡ []) → Begins L (read ++ more) questions
 
 -- ---- a stop
 
--- The request is the question that stopped the desk: the first whose answer is of that kind, or the one that had none.
+-- The request is the question that stopped the desk: the first question whose answer is of the kind `stopping`, or
+-- else the first that has no answer.
 abbrev pub IsStoppedBy : {Q A : Type 0} → Language Q A → List Q → List AnswerKind → Request → Type 0
 IsStoppedBy L (question ∷ questions) (stopping ∷ kinds) request = L.calls question request
 IsStoppedBy L (question ∷ questions) (ordinary ∷ kinds) request = IsStoppedBy L questions kinds request
@@ -100,8 +102,8 @@ pub record StopsDesk {Q A : Type 0} (L : Language Q A) (desk : DeskState) (quest
 
 -- ---- whole
 
--- All that was read is answered, and the answers are written whole. Where they stopped the desk, over an honest disk, it
--- is known what a stop leaves.
+-- All that was read is answered, and the answers are written whole. Where they stopped the desk and the disk is
+-- honest, `stops` says what a stop leaves.
 pub record EndsWhole {Q A : Type 0} (L : Language Q A) (old new : DeskState) (s : Streams) : Type 0 where
   pub read : List ℕ
   pub questions : List Q
@@ -112,14 +114,14 @@ pub record EndsWhole {Q A : Type 0} (L : Language Q A) (old new : DeskState) (s 
   pub at_end : has_ended ≡ true → IsAtEnd s.reader_new
   pub are_questions : L.are_questions read questions
   pub ends : L.ends has_ended questions
-  pub settled : Settles L read s.reader_new questions
+  pub settled : SettlesQuestions L read s.reader_new questions
   pub are_answers : AreAnswers L (snapshot old) questions kinds answers (snapshot new)
   pub writes : Appends s.writer_old s.writer_new (text_of L answers)
   pub stops : old.is_stopped ≡ false → new.is_stopped ≡ true → new.is_honest → StopsDesk L new questions kinds
 
 -- ---- cut
 
--- the answers are written but for a rest of the last one
+-- the answers are written, except for a rest of the last one
 pub record LacksRest {Q A : Type 0} (L : Language Q A) (answers : List A) (written : List ℕ) : Type 0 where
   pub before : List A
   pub last : A
@@ -138,9 +140,9 @@ abbrev pub IsRequestNext : {Q A : Type 0} → Language Q A → List Q → Type 0
 IsRequestNext {Q} L questions =
     (question : Q) × (more : List Q) × (request : Request) × (questions ≡ question ∷ more) × L.calls question request
 
--- How far the answers to questions have come at a fault. But for a failing write all that is answered is told: it is
--- written whole. `Stopped` is told only of a stopped desk, at a request, which is not answered. Where the desk was stopped
--- by them, over an honest disk, it is known what a stop leaves.
+-- How far the answers to questions have come at a fault. Unless a write failed, all answers are written whole. The
+-- fault is `Stopped` only where the desk is stopped and the next question is a request, which is not answered. Where
+-- these questions stopped the desk and the disk is honest, `stops` says what a stop leaves.
 pub record IsCut {Q A : Type 0} (L : Language Q A) (fault : ScriptFault) (old : DeskState) (questions : List Q)
     (written : List ℕ) (new : DeskState) : Type 0 where
   pub answered : List Q
@@ -176,7 +178,8 @@ pub record IsPrompt {Q A : Type 0} (L : Language Q A) (old : Snapshot) (read wri
   pub are_answers : AreAnswers L old questions kinds answers behind
   pub written_is : written ≡ text_of L answers ++ begun
 
--- Some of the input was read, and its first questions are answered; where a read failed, all that have come whole are.
+-- A part of the input was read, and its first questions are answered; where a read failed, all questions that have
+-- come whole are.
 pub record EndsCut {Q A : Type 0} (L : Language Q A) (fault : ScriptFault) (old new : DeskState) (s : Streams)
     : Type 0 where
   pub read : List ℕ
@@ -186,12 +189,12 @@ pub record EndsCut {Q A : Type 0} (L : Language Q A) (fault : ScriptFault) (old 
   pub writes : Appends s.writer_old s.writer_new written
   pub are_questions : L.are_questions read questions
   pub cut : IsCut L fault old questions written new
-  pub settled : Settles L read s.reader_new cut.answered
+  pub settled : SettlesQuestions L read s.reader_new cut.answered
   pub come : fault ≡ ScriptFault.Read → L.have_come read cut.answered
   pub prompt : IsPrompt L (snapshot old) read written
 
--- Memory was refused before anything was read, or for the last piece: what had come whole before that is answered, and the
--- answers are written whole; of the piece nothing is answered.
+-- Memory was refused before anything was read, or for the last piece. The questions that had come whole before that
+-- piece are answered, and the answers are written whole; nothing of the piece is answered.
 pub record EndsUntaken {Q A : Type 0} (L : Language Q A) (old new : DeskState) (s : Streams) : Type 0 where
   pub before : List ℕ
   pub piece : List ℕ
@@ -205,7 +208,7 @@ pub record EndsUntaken {Q A : Type 0} (L : Language Q A) (old new : DeskState) (
   pub are_answers : AreAnswers L (snapshot old) questions kinds answers (snapshot new)
   pub writes : Appends s.writer_old s.writer_new (text_of L answers)
 
--- so many, or the greatest count
+-- the count, or the greatest that 64 bits hold
 abbrev pub most : ℕ → ℕ
 most count = min count (2 ^ 64 - 1)
 
@@ -216,7 +219,7 @@ abbrev pub bytes_of : Text → List ℕ
 bytes_of (Fixed text) = text.now
 bytes_of (Made text) = text.items
 
--- the answer to one question; where it stopped the desk, over an honest disk, it is known what a stop leaves
+-- The answer to one question. Where this stopped the desk and the disk is honest, `stops` says what a stop leaves.
 pub record AnswersOne {Q A : Type 0} (L : Language Q A) (old : DeskState) (question : Q) (text : List ℕ)
     (new : DeskState) : Type 0 where
   pub kind : AnswerKind
@@ -228,8 +231,8 @@ pub record AnswersOne {Q A : Type 0} (L : Language Q A) (old : DeskState) (quest
       → (request : Request) × (kind ≡ stopping) × L.calls question request × IsAccepted new.ledger request
       × LeavesEither new.leaves new.ledger (accept new.ledger request)
 
--- It was not answered: nothing has changed, and a stopped desk was not asked a request; or it is a request at which the
--- desk is stopped, now or before.
+-- The question was not answered. For want of memory: nothing has changed, and it was no request to a stopped desk.
+-- Since the desk is stopped: it is a request, and the desk was stopped by it or before.
 abbrev pub FailsOne : {Q A : Type 0} → Language Q A → CallFault → DeskState → Q → DeskState → Type 0
 FailsOne L CallFault.Memory old question new = (new.ledger ≡ old.ledger) × (new.is_stopped ≡ old.is_stopped)
     × (IsTrue old.is_stopped → (request : Request) → ¬ L.calls question request)

@@ -1,4 +1,4 @@
--- Requests that are answered by lists: one by one, or so many together in a batch.
+-- Requests that are answered in lists: one by one, or many together in a batch.
 use Rattle.std.specs.Prelude.{◌≡◌, ◌≢◌, ◌≤◌, ◌+◌, ◌*◌, ◌++◌, IsTrue, false, ℕ, List, [], None, Option, Some, length, take}
 use Rattle.std.specs.Int.NonZero.{non_zero_usize_get}
 use Rattle.std.specs.Vec.{vec_capacity, vec_len}
@@ -15,20 +15,20 @@ use Rattle.desk.specs.declared.reply.TheConstants.{LONGEST_LINE}
 use Rattle.desk.specs.declared.run.Ending.TheVariants as ending
 use Rattle.desk.specs.declared.run.Run.{Run}
 
--- how many requests are carried out at once, at the most: so many as may be together, or one
+-- how many requests are carried out at once, at the most: the given number, or one where none is given
 abbrev pub most_together : Option NonZeroUsize → ℕ
 most_together None = 1
 most_together (Some most) = non_zero_usize_get most
 
--- what a desk shows that the store has stopped: the ledger before the one request, or the one behind the batch
+-- the ledger that a desk shows once the store has stopped it: the one before the request, or the one behind the batch
 abbrev pub shown_stopped : Option NonZeroUsize → (before behind : Ledger) → Ledger
 shown_stopped None before behind = before
 shown_stopped (Some most) before behind = behind
 
--- How far the answers to requests have come at a fault. What is written is `lines ++ begun`: the lines of `answered` are
--- written whole. Behind these may stand a request, or a batch, `last`: it is kept, and a beginning of its lines written, or
--- the store failed at its commit, and over an honest disk a stop leaves the rows before it or behind it. Want of memory
--- leaves no request done and not told.
+-- How far the answers to requests have come at a fault. What is written is `lines ++ begun`: the lines of `answered`
+-- are written whole. Behind these may stand a request, or a batch, `last`. Either it is kept, and a beginning of its
+-- lines is written; or the store failed at its commit, and over an honest disk a stop leaves the rows before it or
+-- those behind it. Where memory was refused, the line of every request that is done is written.
 pub record IsCutInLists (fault : ScriptFault) (together : Option NonZeroUsize) (old : DeskState) (requests : List Request)
     (new : DeskState) : Type 0 where
   pub answered : List Request
@@ -62,7 +62,7 @@ abbrev pub HasRoom : ℕ → Run → Type 0
 HasRoom count run = (vec_len run.replies + count ≤ vec_capacity run.replies)
     × (vec_len run.lines + count * LONGEST_LINE ≤ vec_capacity run.lines)
 
--- the store failed at the first of the requests, so many of them
+-- the store failed at the commit of the first `count` requests
 pub record StopsIn (together : Option NonZeroUsize) (old : DeskState) (requests : List Request) (new : DeskState)
     : Type 0 where
   pub count : ℕ
@@ -74,7 +74,7 @@ pub record StopsIn (together : Option NonZeroUsize) (old : DeskState) (requests 
   pub shown : new.ledger ≡ shown_stopped together old.ledger behind
   pub either : new.is_honest → LeavesEither new.leaves old.ledger behind
 
--- the first of the requests are carried out, and these are their lines; or the store failed, and nothing is told
+-- the first of the requests are carried out, and these are their lines; or the store failed
 pub record RunsList (together : Option NonZeroUsize) (old : DeskState) (requests : List Request) (run : Run)
     (new : DeskState) : Type 0 where
   pub none_unasked : answered run ≤ length requests

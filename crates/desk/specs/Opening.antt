@@ -11,8 +11,8 @@ use Rattle.desk.specs.Desk.{DeskView, IsStored}
 use Rattle.desk.specs.declared.fault.OpenFault.{OpenFault}
 use Rattle.desk.specs.declared.fault.OpenFault.TheVariants.{Damaged, Memory, NotADesk, OldVersion, Store}
 
--- The desk's ledger is good, every future of it is honoured, and it goes on. If the disk is honest, its rows are those that
--- the keeper held, and a stop leaves them alone.
+-- The desk's ledger is good, each of its futures is honoured, and the desk goes on. Where the disk is honest, the
+-- rows of the ledger are those that the keeper held, and a stop leaves these and nothing else.
 pub record IsOpened {K : Type 0} (g : Ghosts K) (keep : K) (desk : DeskView K) : Type 0 where
   pub good : Good desk.ledger
   pub honours : Honours desk.ledger
@@ -21,8 +21,9 @@ pub record IsOpened {K : Type 0} (g : Ghosts K) (keep : K) (desk : DeskView K) :
   pub stored : g.is_honest desk.keep → IsStored (g.holds keep) (g.leaves desk.keep) desk.ledger
   pub rows : g.is_honest desk.keep → (x : Content) → g.holds keep x → IsRowsOf desk.ledger x
 
--- What a fault tells of a keeper, and of that keeper given back: if the disk is honest, what was held is damaged, no desk or
--- of an older version where that is told. What could not be read has stopped it.
+-- What a fault says about the keeper that was given, and about the keeper given back. Where the disk is honest, what
+-- was held is damaged, no desk, or of an older version, as the fault says. After `Store`, `NotADesk` and `OldVersion`
+-- the keeper given back is stopped, after `Damaged` it is not.
 pub record IsUnopened {K : Type 0} (g : Ghosts K) (keep : K) (fault : OpenFault) (back : K) : Type 0 where
   pub damaged : fault ≡ Damaged → g.is_honest back → (x : Content) → g.holds keep x → IsDamaged x
   pub loaded : fault ≡ Damaged → g.stopped back ≡ false
@@ -30,18 +31,18 @@ pub record IsUnopened {K : Type 0} (g : Ghosts K) (keep : K) (fault : OpenFault)
   pub old_version : fault ≡ OldVersion → g.is_honest back → g.is_old keep
   pub stopped : (fault ≡ Store) ⊎ ((fault ≡ NotADesk) ⊎ (fault ≡ OldVersion)) → IsTrue (g.stopped back)
 
--- The keeper has changed nothing of what it keeps: while it goes on its content is the same, and nothing is added to
--- what a stop may leave, of whatever version that is.
+-- The opening has changed nothing that the keeper keeps: where the keeper goes on, its content is the same; and
+-- nothing is added to what a stop may leave, of whatever version that is.
 pub record IsLeft {K : Type 0} (g : Ghosts K) (old new : K) : Type 0 where
   pub same : g.stopped new ≡ false → (x : Content) → (g.holds old x → g.holds new x) × (g.holds new x → g.holds old x)
   pub adds : AddsNothing g.leaves g.may_leave g.may_remain old new
 
--- opened at that ledger, or refused for memory or by the store, and nothing else
+-- the desk is opened at that ledger, or refused with `Memory` or `Store`
 abbrev pub OpensAt : {K : Type 0} → Ledger → Result (DeskView K) (OpenFault × K) → Type 0
 OpensAt A (Ok desk) = desk.ledger ≡ A
 OpensAt A (Err e) = (e.0 ≡ Memory) ⊎ (e.0 ≡ Store)
 
--- refused as of an old version, for memory or by the store, and nothing else
+-- the keeper is refused with `OldVersion`, `Memory` or `Store`
 abbrev pub IsRefusedAsOld : {K : Type 0} → Result (DeskView K) (OpenFault × K) → Type 0
 IsRefusedAsOld (Ok desk) = ⊥
 IsRefusedAsOld (Err e) = (e.0 ≡ OldVersion) ⊎ ((e.0 ≡ Memory) ⊎ (e.0 ≡ Store))

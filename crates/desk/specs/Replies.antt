@@ -14,20 +14,20 @@ use Rattle.ledger.specs.declared.order.Line.{Line}
 use Rattle.ledger.specs.declared.order.Standing.{Standing}
 use Rattle.ledger.specs.declared.order.Standing.TheVariants.{Aborted, Committed, Firm, Open}
 
--- a line that is bad
+-- the reply line to a bad line
 abbrev pub bad_line : List ℕ
 bad_line = codes "- refused 20 BadCommand 0\n"
 
--- the key, a space and the reply
+-- the reply line to a request: its key, a space and the reply
 abbrev pub request_line : List ℕ → Reply → List ℕ
 request_line key reply = key ++ (codes " " ++ (reply_text reply ++ codes "\n"))
 
--- the place of a command that is done, or the line at fault
+-- the number in a reply: the place of a command that is done, or the line at fault
 abbrev pub number_of : Reply → ℕ
 number_of (Done place) = place
 number_of (Refused refusal line) = line
 
--- the answer to an ask for what is not there
+-- the answer to a question for what is not there
 abbrev pub none_line : List ℕ
 none_line = codes "? none\n"
 
@@ -45,7 +45,7 @@ field_line v = codes "? field" ++ (after_space (v.branch ∷ v.article ∷ numbe
 abbrev pub AnswersField : Ledger → Field → List ℕ → Type 0
 AnswersField A f line = (view : FieldView) × ShowsField A f view × (line ≡ field_line view)
 
--- the answer to an ask for a field
+-- the answer to a question for a field
 abbrev pub AnswersFieldAsk : Ledger → List ℕ → List ℕ → List ℕ → Type 0
 AnswersFieldAsk A b a line = MatchOption (field_named A (name_of b a)) (line ≡ none_line) (λ f. AnswersField A f line)
 
@@ -66,7 +66,7 @@ abbrev pub held_words : List Line → List (List ℕ)
 held_words [] = []
 held_words (l ∷ ls) = way_word l.way ∷ l.branch ∷ l.article ∷ decimal l.held ∷ decimal l.used ∷ held_words ls
 
--- the line of an order of which this is shown
+-- the line of an order that is shown with these
 abbrev pub shown_line : ℕ → Kind → ℕ → Standing → List Line → List ℕ
 shown_line number kind until state lines = codes "? order"
     ++ (after_space (decimal number ∷ kind_word kind ∷ decimal until ∷ state_word state ∷ held_words lines)
@@ -75,6 +75,6 @@ shown_line number kind until state lines = codes "? order"
 abbrev pub order_line : Order → List ℕ
 order_line o = shown_line o.number o.kind o.until (shown_state o.state o.firm) o.lines
 
--- the answer to an ask for an order
+-- the answer to a question for an order
 abbrev pub AnswersOrderAsk : Ledger → ℕ → List ℕ → Type 0
 AnswersOrderAsk A n line = MatchOption (order_numbered A n) (line ≡ none_line) (λ o. line ≡ order_line o)

@@ -20,7 +20,8 @@ MayAnswer desk (item.AskField b a) = Unit {0}
 MayAnswer desk (item.AskOrder n) = Unit {0}
 MayAnswer desk item.Bad = Unit {0}
 
--- the line for an item, which a desk gives that goes on as it did; no fault is answered
+-- The reply line for an item; the desk stays stopped or goes on as it did. No answer comes from refused memory or
+-- from a desk that its request has stopped.
 abbrev pub AnswersItem : Snapshot → Item → AnswerKind → List ℕ → Snapshot → Type 0
 AnswersItem old x ordinary line new =
     Replies old.ledger x line new.ledger × MayAnswer old x × (new.is_stopped ≡ old.is_stopped)
@@ -31,7 +32,7 @@ AnswersItem old x stopping line new = ⊥
 abbrev pub HaveEnded : List ℕ → List Item → Type 0
 HaveEnded input items = (rest : Option (List ℕ)) × Feeds (Some []) input items rest
 
--- lines in, lines out, until the input ends
+-- the language of scripts: lines in, lines out, until the input ends
 abbrev pub lines : Language Item (List ℕ)
 lines = record {
   are_questions = AreItems;
@@ -44,7 +45,7 @@ lines = record {
 
 -- ---- what is written
 
--- what was written is so
+-- what was written has this property
 abbrev pub Writes : (writer_old writer_new : Option (List ℕ)) → (List ℕ → Type 0) → Type 0
 Writes writer_old writer_new Is = (written : List ℕ) × Appends writer_old writer_new written × Is written
 
@@ -53,14 +54,14 @@ abbrev pub WritesLines : Ledger → List Item → Ledger → (writer_old writer_
 WritesLines old items new writer_old writer_new =
     (lines : List ℕ) × RepliesAll old items lines new × Appends writer_old writer_new lines
 
--- the items are answered and their lines written, by a desk that goes on as it did
+-- the items are answered and their lines written, and the desk stays stopped or goes on as it did
 pub record AnswersAll (old : DeskState) (items : List Item) (new : DeskState)
     (writer_old writer_new : Option (List ℕ)) : Type 0 where
   pub told : WritesLines old.ledger items new.ledger writer_old writer_new
   pub may : Each (MayAnswer (snapshot old)) items
   pub same : new.is_stopped ≡ old.is_stopped
 
--- all that was there was read, and its text was written, from one ledger to another
+-- the whole input was read, and its text was written, which leads from one ledger to the other
 pub record WritesText (old new : Ledger) (s : Streams) : Type 0 where
   pub read : List ℕ
   pub out : List ℕ
@@ -69,7 +70,7 @@ pub record WritesText (old new : Ledger) (s : Streams) : Type 0 where
   pub text : IsText old read out new
   pub writes : Appends s.writer_old s.writer_new out
 
--- some of what was there was read, and a beginning was written of the text for that, from this ledger on
+-- a part of the input was read, and a beginning was written of the text for that part, from this ledger on
 pub record WritesBeginning (old : Ledger) (s : Streams) : Type 0 where
   pub read : List ℕ
   pub written : List ℕ
@@ -81,8 +82,8 @@ pub record WritesBeginning (old : Ledger) (s : Streams) : Type 0 where
 
 -- ---- lines that come in pieces (private)
 
--- These bytes were taken in and these items found. What of a line has not ended is held; behind it wait the items of
--- lines that have.
+-- These bytes were taken in, and these items found. `held` is what has come of a line that has not ended; `waiting`
+-- are the items of lines that have ended and were not found yet.
 pub record HasFed (held : Option (List ℕ)) (waiting : List Item) (read : List ℕ) (ended : Bool) (found : List Item)
     : Type 0 where
   pub all : List Item

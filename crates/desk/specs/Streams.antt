@@ -2,7 +2,8 @@
 use Rattle.std.specs.Prelude.{ℕ, List, None, Option}
 use Rattle.std.specs.Io.KnownBytes.{Keeps}
 
--- what there is to read, and what was written, before it and after it, where the reader and the writer tell their bytes
+-- what there is to read, and what was written, before a dialogue and after it, where contracts know the bytes of the
+-- reader and of the writer
 pub record Streams : Type 0 where
   pub reader_old : Option (List ℕ)
   pub reader_new : Option (List ℕ)
@@ -17,7 +18,7 @@ streams reader_old reader_new writer_old writer_new = record {
   writer_new = writer_new;
 }
 
--- those of a dialogue that reads nothing
+-- the streams of a dialogue that reads nothing
 abbrev pub only_written : (writer_old writer_new : Option (List ℕ)) → Streams
 only_written writer_old writer_new = streams None None writer_old writer_new
 

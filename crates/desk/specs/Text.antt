@@ -27,7 +27,7 @@ RepliesAll old (item ∷ items) out new =
 abbrev pub items_of : List RequestOf → List Item
 items_of requests = map (λ r. Request r) requests
 
--- what stands behind the last newline is a bad line more, if it is anything
+-- if anything stands behind the last newline, it is a bad line more
 abbrev pub unended : Option (List ℕ) → List Item
 unended None = Bad ∷ []
 unended (Some []) = []
@@ -40,7 +40,8 @@ pub record AreItems (input : List ℕ) (items : List Item) : Type 0 where
   pub feeds : Feeds (Some []) input ended rest
   pub all : items ≡ ended ++ unended rest
 
--- The text that is written for an input, from one ledger to another: the lines for its items, in their order.
+-- The text that is written for an input: the lines for its items, in their order. It leads from one ledger to the
+-- other.
 pub record IsText (old : Ledger) (input out : List ℕ) (new : Ledger) : Type 0 where
   pub items : List Item
   pub are_items : AreItems input items

@@ -17,7 +17,7 @@ use Rattle.desk.specs.Text.{RepliesAll, items_of}
 use Rattle.desk.specs.declared.reply.TheConstants.{LONGEST_LINE}
 use Rattle.desk.specs.declared.together.Batch.{Batch}
 
--- the reply tells of a request that is done, now or before
+-- the reply says that the request is done, now or before
 abbrev pub IsDone : Reply → Type 0
 IsDone reply = (place : ℕ) × (reply ≡ Done place)
 
@@ -34,8 +34,9 @@ pub record IsBatch (A : Ledger) (requests : List Request) (replies : List Reply)
   pub all_done : Each IsDone told
   pub rest : Runs B behind refused B
 
--- The replies are those to the first requests, up to the ledger `mid`; then the store failed at the commit of a batch of
--- those behind, one of which is accepted, and a stop leaves the rows before it or behind it.
+-- The replies are those to the first requests, up to the ledger `mid`. Then the store failed at the commit of a batch
+-- of the requests behind them, one of which is accepted, and a stop leaves the rows before the batch or those behind
+-- it.
 pub record FailsAt (old : DeskState) (requests : List Request) (replies : List Reply) (new : DeskState) : Type 0 where
   pub mid : Ledger
   pub run : Runs old.ledger (take (length replies) requests) replies mid
@@ -47,15 +48,15 @@ pub record FailsAt (old : DeskState) (requests : List Request) (replies : List R
   pub accepted : HasAccepted mid (take count (drop (length replies) requests))
   pub either : new.is_honest → LeavesEither new.leaves mid new.ledger
 
--- B is the ledger after the requests before number k, counted from 1, or behind a batch of those from there on, of which
--- the replies are not known: it may be kept or not.
+-- B is the ledger after the requests before number k, counted from 1, or after a batch of those from number k on,
+-- too: the caller does not know the replies of that batch, and it may be kept or not.
 abbrev pub ResumableWithin : Ledger → List Request → ℕ → Ledger → Type 0
 ResumableWithin A requests k B =
     (M : Ledger) × After A requests (k - 1) M
     × ((B ≡ M) ⊎ ((count : ℕ) × (untold : List Reply) × IsBatch M (take count (drop (k - 1) requests)) untold B))
 
--- The replies are those from number k on, as many as there are, of the run of the requests from A; B is where the next
--- is to be resumed, within those behind.
+-- The replies belong to the run of the requests from A: they are those from number k on, as many as there are. B is a
+-- ledger at which the request behind them may be resumed, where a batch may have been kept.
 pub record ResumesWithin (A : Ledger) (requests : List Request) (k : ℕ) (replies : List Reply) (B : Ledger) : Type 0 where
   pub before : List Reply
   pub last : Ledger
@@ -63,13 +64,14 @@ pub record ResumesWithin (A : Ledger) (requests : List Request) (k : ℕ) (repli
   pub run : Runs A (take (length before + length replies) requests) (before ++ replies) last
   pub resumable : ResumableWithin A requests (k + length replies) B
 
--- resumed again and again, each time at the number behind the last reply, and what was answered each time
+-- the run is resumed again and again, each time with the request behind the last reply, and each time gives replies
 abbrev pub ResumesWithinAgain : Ledger → List Request → ℕ → List (List Reply) → Ledger → Type 0
 ResumesWithinAgain A requests k [] B = ResumableWithin A requests k B
 ResumesWithinAgain A requests k (replies ∷ more) B =
     (M : Ledger) × ResumesWithin A requests k replies M × ResumesWithinAgain A requests (k + length replies) more B
 
--- one list of requests after the other is carried out whole: what was answered to each, and B is the ledger after them
+-- lists of requests are carried out whole, one after the other; these are the replies to each list, and B is the
+-- ledger after all of them
 abbrev pub RunsInLists : Ledger → List (List Request) → List (List Reply) → Ledger → Type 0
 RunsInLists A [] [] B = B ≡ A
 RunsInLists A (requests ∷ lists) (replies ∷ given) B =
@@ -79,8 +81,8 @@ RunsInLists A (requests ∷ lists) [] B = ⊥
 
 -- ---- how a batch is made (private)
 
--- The requests so far lead from A to B as a batch, whose changes make B's rows of A's. Where none is refused all are
--- done; where none is accepted nothing has changed.
+-- The requests so far lead from A to B as a batch, whose changes make the rows of B out of those of A. Where no
+-- request is refused, all are done; where none is accepted, nothing has changed.
 pub record BatchSoFar (A : Ledger) (requests : List Request) (batch : Batch) (B : Ledger) : Type 0 where
   pub is_batch : IsBatch A requests batch.run.replies.items B
   pub rows : (C : Content) → IsRowsOf A C → IsRowsOf B (with_changes batch.changes.items C)
@@ -93,7 +95,8 @@ pub record BatchSoFar (A : Ledger) (requests : List Request) (batch : Batch) (B 
   pub short : length batch.run.lines.items ≤ length batch.run.replies.items * LONGEST_LINE
   pub good : Good B
 
--- one request more, from A to B: a reply and some changes more, and nothing is done behind one that is refused
+-- one request more, which leads from A to B: the batch has a reply more and perhaps changes more, and behind a
+-- refused request nothing is done
 pub record Joins (A : Ledger) (request : Request) (old new : Batch) (B : Ledger) : Type 0 where
   pub reply : Reply
   pub replies : new.run.replies.items ≡ old.run.replies.items ++ reply ∷ []

@@ -6,14 +6,14 @@ ghost use Rattle.desk.specs.Dialogue.{bytes_of};
 /// An answer that can be sent.
 #[derive(Drop)]
 pub enum Answer {
-    /// One that is the same each time, and takes no memory.
+    /// An answer that is the same each time, and takes no memory.
     Fixed(&'static [u8]),
-    /// One that was made.
+    /// An answer that was made for its question.
     Made(Vec<u8>),
 }
 
 impl Answer {
-    /// Its bytes.
+    /// Returns the bytes of the answer.
     pub fn as_bytes(&self) -> &[u8]
         ensures { result.now ≡ bytes_of self.now }
     {

@@ -2,81 +2,32 @@
 
 ghost use Rattle.std.specs.Prelude.{◌≡◌, All, IfOk, OnErr, OnOk};
 ghost use Rattle.std.specs.List.{AllZip};
-ghost use Rattle.ledger.specs.Tables.{field_cells, kept_cells, line_cells, move_cells, rows_among};
+ghost use Rattle.ledger.specs.Tables.{rows_among};
 ghost use Rattle.ledger.specs.Rows.{Content};
 ghost use Rattle.keep.specs.Content.{IsTheRow, with_changes};
 ghost use Rattle.desk.specs.Deferred.{IsReady, IsSameRow};
 
 use crate::run::append;
 use crate::same::are_same;
-use ledger::{Change, FieldRow, KeptRow, LineRow, MoveRow};
+use keep::TableRow;
+use ledger::Change;
 use std::alloc::{AllocError, Global};
-
-fn copy_field(alloc: Global, row: &FieldRow) -> Result<FieldRow, AllocError>
-    ensures { IfOk result (λ copy. field_cells copy ≡ field_cells row.now) }
-{
-    Ok(FieldRow {
-        branch: String::from_str(alloc, &row.branch)?,
-        article: String::from_str(alloc, &row.article)?,
-        lo: row.lo,
-        hi: row.hi,
-        start: row.start,
-        value: row.value,
-        inf: row.inf,
-        sup: row.sup,
-    })
-}
-
-fn copy_move(alloc: Global, row: &MoveRow) -> Result<MoveRow, AllocError>
-    ensures { IfOk result (λ copy. move_cells copy ≡ move_cells row.now) }
-{
-    Ok(MoveRow {
-        place: row.place,
-        branch: String::from_str(alloc, &row.branch)?,
-        article: String::from_str(alloc, &row.article)?,
-        qty: row.qty,
-    })
-}
-
-fn copy_line(alloc: Global, row: &LineRow) -> Result<LineRow, AllocError>
-    ensures { IfOk result (λ copy. line_cells copy ≡ line_cells row.now) }
-{
-    Ok(LineRow {
-        number: row.number,
-        nr: row.nr,
-        branch: String::from_str(alloc, &row.branch)?,
-        article: String::from_str(alloc, &row.article)?,
-        way: row.way,
-        held: row.held,
-        used: row.used,
-    })
-}
-
-fn copy_kept(alloc: Global, row: &KeptRow) -> Result<KeptRow, AllocError>
-    ensures { IfOk result (λ copy. kept_cells copy ≡ kept_cells row.now) }
-{
-    Ok(KeptRow {
-        reqkey: String::from_str(alloc, &row.reqkey)?,
-        place: row.place,
-        words: String::from_str(alloc, &row.words)?,
-    })
-}
 
 fn copy_change(alloc: Global, change: &Change) -> Result<Change, AllocError>
     ensures { IfOk result (λ copy. IsSameRow change.now copy) }
 {
     match change {
         Change::Desk(row) => Ok(Change::Desk(*row)),
-        Change::Field(row) => Ok(Change::Field(copy_field(alloc, row)?)),
-        Change::Move(row) => Ok(Change::Move(copy_move(alloc, row)?)),
+        Change::Field(row) => Ok(Change::Field(row.copy(alloc)?)),
+        Change::Move(row) => Ok(Change::Move(row.copy(alloc)?)),
         Change::Order(row) => Ok(Change::Order(*row)),
-        Change::Line(row) => Ok(Change::Line(copy_line(alloc, row)?)),
-        Change::Kept(row) => Ok(Change::Kept(copy_kept(alloc, row)?)),
+        Change::Line(row) => Ok(Change::Line(row.copy(alloc)?)),
+        Change::Kept(row) => Ok(Change::Kept(row.copy(alloc)?)),
         Change::Firm(row) => Ok(Change::Firm(*row)),
     }
 }
 
-/// The changes, each copied.
+/// Copies the changes.
 fn copy_changes(alloc: Global, changes: &[Change]) -> Result<Vec<Change>, AllocError>
     ensures { IfOk result (λ copies. AllZip IsSameRow changes.now copies.items) }
 {
@@ -87,7 +38,7 @@ fn copy_changes(alloc: Global, changes: &[Change]) -> Result<Vec<Change>, AllocE
     Ok(copies)
 }
 
-/// Copies of the changes: those that were made before, where they are that. Then no memory is wanted.
+/// Returns copies of the changes: `made` itself, where it has these copies already, and then no memory is wanted.
 fn copies_of(
     alloc: Global,
     made: Vec<Change>,
@@ -102,8 +53,8 @@ fn copies_of(
     copy_changes(alloc, changes)
 }
 
-/// Makes copies of the changes, and room for them behind those that are put off. Where memory is refused nothing has
-/// changed but the room.
+/// Makes copies of the changes, and room to append them to the rows that are put off (`kept`). Where memory is refused,
+/// the rows that are put off stay as they were.
 pub fn make_ready(
     alloc: Global,
     kept: &mut Vec<Change>,
@@ -118,8 +69,8 @@ pub fn make_ready(
     Ok(())
 }
 
-/// Copies of the changes, behind those that are put off. Where that was made ready it is done, and else, where memory is
-/// refused, nothing has changed.
+/// Appends copies of the changes to the rows that are put off (`kept`). After `make_ready` with the same changes this
+/// succeeds; else memory may be refused, and then nothing has changed.
 pub fn put_off(
     alloc: Global,
     kept: &mut Vec<Change>,

@@ -7,14 +7,14 @@ use std::alloc::{AllocError, Global};
 use std::marker::Model;
 use std::mem;
 
-/// Takes what is committed up, and puts all of it into the keeper behind it when it is settled.
+/// A keeper that collects the rows of commits, and puts all of them into the inner keeper when `settle` is called.
 #[derive(Drop)]
 pub struct Deferred<K: Keep> {
     keep: K,
     alloc: Global,
     /// The rows that are put off.
     changes: Vec<Change>,
-    /// Copies of rows that are to be committed next, for which there is room among those.
+    /// Copies of the rows that are to be committed next; there is room for them among the rows that are put off.
     made: Vec<Change>,
     stopped: bool,
 }
@@ -29,7 +29,7 @@ impl<K: Keep> Model for Deferred<K> {
 
     ghost view = { λ d. record { keep = d.keep; changes = d.changes.items; stopped = d.stopped } };
 
-    // one that goes on has a keeper behind it that does
+    // while it is not stopped, the inner keeper is not
     ghost invariant = { λ d. All IsTheRow (rows_among d.changes.items).desk × (d.stopped ≡ false → K.stopped d.keep ≡ false) };
 }
 
@@ -39,7 +39,7 @@ impl<K: Keep> Deferred<K> {
     ghost use Rattle.desk.specs.Deferred.{PutsOff};
     ghost use Rattle.keep.specs.Content.{with_changes};
 
-    /// Puts off what is committed to the keeper. Takes no memory.
+    /// Returns a keeper that puts off what is committed to `keep`. Takes no memory.
     pub(crate) fn over(alloc: Global, keep: K) -> Deferred<K>
         ensures keep { result.keep ≡ keep }
         ensures none { result.changes ≡ [] }
@@ -55,23 +55,23 @@ impl<K: Keep> Deferred<K> {
         }
     }
 
-    /// How many rows are put off.
+    /// Returns how many rows are put off.
     pub(crate) fn put_off(&self) -> usize
         ensures { result ≡ length self.now.changes }
     {
         self.changes.len()
     }
 
-    /// While it is not stopped, the keeper behind it is not.
+    /// Does nothing when run; the prover learns that the inner keeper is not stopped while this one is not.
     pub(crate) fn expect_going(&self)
         ensures { self.now.stopped ≡ false → K.stopped self.now.keep ≡ false }
     {
-        // what is always so of it is known where it is read
+        // the prover knows the invariant of the type where a field is read
         let _stopped = self.stopped;
     }
 
-    /// Puts all that was put off into the keeper, in one transaction. Nothing is put off then, whatever is answered: an
-    /// error stops it.
+    /// Puts all that was put off into the inner keeper, in one transaction. Whatever is answered, nothing is put off
+    /// then. An error leaves this keeper stopped.
     pub(crate) fn settle(&mut self) -> Result<(), KeepFault>
         ensures none { self.new.changes ≡ [] }
         ensures ok { OnOk result (self.new.stopped ≡ self.old.stopped) }
@@ -79,7 +79,7 @@ impl<K: Keep> Deferred<K> {
         ensures behind { OnErr result (self.old.stopped ≡ false → IsTrue (K.stopped self.new.keep)) }
         ensures honest { K.is_honest self.new.keep → K.is_honest self.old.keep }
         ensures untouched { IsTrue self.old.stopped → self.new.keep ≡ self.old.keep }
-        // what was put off is held then, and a stop leaves that alone
+        // the inner keeper then holds what was put off, and a stop leaves that and nothing else
         ensures kept { K.is_honest self.new.keep → OnOk result ((x : Content)
             → PutsOff K.Keep self.old.keep self.old.changes x → PutsOff K.Keep self.new.keep [] x) }
         // a stop leaves what was held before, or that with what was put off
@@ -122,7 +122,7 @@ impl<K: Keep> Deferred<K> {
         }
     }
 
-    /// The keeper behind it, as it stands.
+    /// Returns the inner keeper, as it stands.
     pub fn into_inner(self) -> K
         ensures { result ≡ self.keep }
     {
@@ -146,19 +146,19 @@ impl<K: Keep> Keep for Deferred<K> {
 
     ghost is_honest = { λ d. K.is_honest d.keep };
 
-    // what the keeper behind it holds, with what was put off
+    // what the inner keeper holds, with what was put off
     ghost holds = { λ d. PutsOff K.Keep d.keep d.changes };
 
     ghost has_tables = { λ d. HasTablesOff K.Keep d.keep d.changes };
 
     ghost is_old = { λ d. K.is_old d.keep };
 
-    // once it is settled
+    // what a stop may leave once all is settled
     ghost leaves = { λ d. PutsOffOneOf K.Keep d.keep d.changes };
 
     ghost may_leave = { λ d. PutsOff K.Keep d.keep d.changes };
 
-    // a content that it may leave
+    // what remains is a content that a stop may leave
     ghost Remains = { Content };
 
     ghost has_content = { λ remains x. remains ≡ x };
@@ -167,21 +167,22 @@ impl<K: Keep> Keep for Deferred<K> {
 
     ghost stopped = { λ d. d.stopped };
 
-    // the keeper behind it is untouched
+    // the inner keeper is untouched
     ghost same_settings = { λ old new. new.keep ≡ old.keep };
 
-    // of another layout it is known when it is settled
+    // whether the store has another layout is known only when all is settled
     ghost has_names = { λ _. ⊤ };
 
     ghost has_layout = { λ _ version. version ≡ newest };
 
-    // no store of another layout is told
+    // this is used only of a store whose tables are laid out as no version makes them, which this keeper never has
     ghost when_stopped = { λ d. d };
 
     fn is_stopped(&self) -> bool {
         self.stopped
     }
 
+    /// Fails, and leaves this keeper stopped: a desk is opened over the inner keeper, before its commits are put off.
     fn load(&mut self, _alloc: Global) -> Result<Tables, KeepFault> {
         if self.stopped {
             return Err(KeepFault::Stopped);
@@ -190,11 +191,12 @@ impl<K: Keep> Keep for Deferred<K> {
         Err(KeepFault::Store)
     }
 
+    /// Makes copies of the rows, and room for them among the rows that are put off.
     fn make_room(&mut self, alloc: Global, changes: &[Change]) -> Result<(), AllocError> {
         make_ready(alloc, &mut self.changes, &mut self.made, changes)
     }
 
-    /// Wants no memory where there is room for these rows.
+    /// Puts the rows off. Wants no memory where there is room for them.
     fn commit(&mut self, changes: &[Change]) -> Result<(), KeepFault> {
         if self.stopped {
             return Err(KeepFault::Stopped);

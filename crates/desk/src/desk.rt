@@ -30,8 +30,8 @@ use std::alloc::Global;
 use std::marker::Model;
 use words::{Reply, Request};
 
-/// The stock desk over a keeper. While it is not stopped and the disk is honest, its keeper holds the rows of its
-/// ledger, and a stop leaves these alone.
+/// The stock desk over a keeper. While no fault of the keeper has stopped the desk and the disk is honest, the keeper
+/// holds the rows of the desk's ledger, and a stop of the program leaves these and nothing else.
 #[derive(Drop)]
 pub struct Desk<K: Keep> {
     book: Book,
@@ -49,13 +49,14 @@ impl<K: Keep> Model for Desk<K> {
 }
 
 impl<K: Keep> Desk<K> {
-    /// Opens the desk whose rows the keeper holds. An error gives the keeper back. Whatever is answered, nothing is
-    /// added to what a stop may leave, of whatever version that is.
+    /// Opens the desk whose rows the keeper holds. An error gives the keeper back. Whatever is answered, the call
+    /// adds nothing to what a stop may leave, of whatever version that is.
     ///
-    /// `NotADesk` only where the keeper does not hold the seven tables with one row of `desk` of the newest version,
-    /// `OldVersion` only where what it holds is of an older one, and there nothing else but `Memory` and `Store`;
-    /// `Damaged` only where the rows are those of no good ledger; `Store` where the store fails or the keeper is
-    /// stopped, `Memory` where memory is refused.
+    /// `NotADesk` is answered only where the keeper does not hold the seven tables with one row of `desk` of the
+    /// newest version; `OldVersion` only where what it holds is of an older version, and there nothing else is
+    /// answered but `Memory` and `Store`; `Damaged` only where the rows are those of no good ledger. `Store` says
+    /// that the store failed or that the keeper was stopped before, `Memory` that memory was refused. What is said
+    /// about rows and versions holds while the disk is honest.
     pub fn open(alloc: Global, keep: K) -> Result<Desk<K>, (OpenFault, K)>
         ensures refused { IsTrue (K.stopped keep) → result ≡ Err (OpenFault.Store, keep) }
         ensures opened { IfOk result (λ desk. IsOpened K.Keep keep desk) }
@@ -82,10 +83,10 @@ impl<K: Keep> Desk<K> {
     /// Answers a request, and keeps what it changes before it answers `Done`. A request that is not accepted changes
     /// nothing.
     ///
-    /// `Memory` where memory is refused, and nothing has changed then; it is wanted only for a request that is accepted.
-    /// `Stopped` where the keeper is stopped, by a fault in this call or earlier: the ledger is as it was, and every
-    /// later call answers `Stopped`. Where it is this call that stopped it, a stop leaves the ledger's rows or those
-    /// after the request.
+    /// `Memory` says that memory was refused, and then nothing has changed; memory is wanted only for a request that is
+    /// accepted. `Stopped` says that the keeper is stopped, by a fault in this call or earlier: the ledger is as it
+    /// was, and every later call answers `Stopped`. Where the keeper failed in this call and the disk is honest, a stop
+    /// of the program leaves the rows of the ledger or those after the request.
     pub fn call(&mut self, alloc: Global, request: &Request) -> Result<Reply, CallFault>
         ensures refused { IsTrue (K.stopped self.old.keep) → result ≡ Err CallFault.Stopped }
         ensures answer { IfOk result (λ reply. Answers self.old.ledger request.now reply self.new.ledger) }
@@ -102,8 +103,9 @@ impl<K: Keep> Desk<K> {
         self.call_and_tell(alloc, &AsReply, request)
     }
 
-    /// Answers a request as `call` does; what tells of its reply is made before it is carried out, so nothing is done
-    /// and not told. Memory is wanted by the teller, and else only for a request that is accepted.
+    /// Answers a request as `call` does, and returns what the teller makes of the reply. The teller makes that before
+    /// the request is carried out, so nothing is done for which there is no answer. The teller may want memory; else
+    /// memory is wanted only for a request that is accepted.
     pub fn call_and_tell<T: Teller>(
         &mut self,
         alloc: Global,
@@ -137,7 +139,7 @@ impl<K: Keep> Desk<K> {
         }
     }
 
-    /// Tells of an accepted request as done, and carries out its plan.
+    /// Has the teller make the answer of an accepted request, as done, and carries out its plan.
     fn tell_and_carry_out<T: Teller>(
         &mut self,
         alloc: Global,
@@ -160,7 +162,7 @@ impl<K: Keep> Desk<K> {
         ensures set { StaysSet K.same_settings self.old self.new }
         ensures goes { Goes K.Keep self.old self.new }
     {
-        // so that the proof has the invariants
+        // does nothing when run; the prover learns that the key and the command are in range
         request.key.as_bytes();
         request.command.words();
         let done = teller.tell(alloc, request.key, &Reply::Done(plan.place()))?;
@@ -168,9 +170,10 @@ impl<K: Keep> Desk<K> {
         Ok(done)
     }
 
-    /// Carries out the plan of an accepted request, after its rows are kept: it is done at the plan's place. The plan
-    /// is one that `plan` made at the desk's ledger, and the desk is not stopped. After `Memory` and `Stopped` the
-    /// ledger is as it was; after `Stopped` a stop leaves its rows or those after the request.
+    /// Keeps the rows of an accepted request, and then carries out its plan; the request is done at the plan's place.
+    /// The plan must be one that `plan` made at the desk's ledger, and the desk must not be stopped. After `Memory` and
+    /// `Stopped` the ledger is as it was. After `Stopped`, over an honest disk, a stop of the program leaves the rows
+    /// of that ledger or those after the request.
     fn carry_out(&mut self, alloc: Global, plan: Plan) -> Result<Reply, CallFault>
         requires going { K.stopped self.old.keep ≡ false }
         requires fits { Fits self.old.ledger plan }
@@ -201,10 +204,11 @@ impl<K: Keep> Desk<K> {
         Ok(Reply::Done(place))
     }
 
-    /// Carries the first of the requests out together: a batch of them is planned and adopted, and then kept in one
-    /// transaction; only then are there replies. `All` where the batch is kept, `Memory` where it is and memory was
-    /// refused for the request behind it; `Stopped` where it could not be kept. Then there is no reply, the ledger is the
-    /// one after the batch, and a stop leaves the rows before it or behind it.
+    /// Carries out the first of the requests together: a batch of them is planned and adopted, and then kept in one
+    /// transaction; only then are there replies. The run ends `All` where the batch is kept, also where requests are
+    /// left after it; `Memory` where the batch is kept and memory was refused for the request after it; and `Stopped`
+    /// where the batch could not be kept. After `Stopped` there is no reply, the ledger is the one after the batch, and
+    /// over an honest disk a stop of the program leaves the rows before the batch or those after it.
     pub(crate) fn run_batch(&mut self, alloc: Global, requests: &[Request]) -> Run
         requires { K.stopped self.old.keep ≡ false }
         ensures kept { result.ending ≢ Ending.Stopped → IsBatch self.old.ledger
@@ -231,8 +235,8 @@ impl<K: Keep> Desk<K> {
         }
     }
 
-    /// The field of that name, or `None` exactly where there is none; on a stopped desk that of the ledger which it
-    /// shows. Takes no memory.
+    /// Returns the field of that name, or `None` exactly where there is none. A stopped desk answers by the ledger that
+    /// it shows. Takes no memory.
     pub fn field(&self, branch: Branch, article: Article) -> Option<FieldView>
         ensures { let found = field_named self.now.ledger (name_of branch article) in MatchOption result (found ≡ None)
             (λ view. IsSomeAnd found (λ f. ShowsField self.now.ledger f view)) }
@@ -240,8 +244,8 @@ impl<K: Keep> Desk<K> {
         self.book.field(branch, article)
     }
 
-    /// The order of that number, or `None` exactly where there is none; on a stopped desk that of the ledger which it
-    /// shows. Takes no memory.
+    /// Returns the order of that number, or `None` exactly where there is none. A stopped desk answers by the ledger
+    /// that it shows. Takes no memory.
     pub fn order(&self, number: OrderNo) -> Option<OrderView<'_>>
         ensures { let found = order_numbered self.now.ledger number in MatchOption result (found ≡ None)
             (λ view. IsSomeAnd found (λ o. ShowsOrder o view)) }
@@ -249,9 +253,11 @@ impl<K: Keep> Desk<K> {
         self.book.order(number)
     }
 
-    /// Whether a fault of the keeper has stopped the desk. It shows then the ledger after the last request that was
-    /// answered or, where it was stopped by a batch, the one behind that. While none has, the keeper holds the rows of
-    /// the ledger, and a stop leaves these alone. Takes no memory.
+    /// Returns whether a fault of the keeper has stopped the desk. A stopped desk shows the ledger after the last
+    /// request that was answered, or, where it failed at the commit of a batch, the ledger after that batch. While the
+    /// desk is not stopped and the disk is honest, the keeper holds the rows of the ledger, and a stop of the program
+    /// leaves these and nothing else. Takes no memory. A call whose answer is dropped does nothing when run; it is
+    /// there so that the prover learns the clause `in_order`.
     pub fn is_stopped(&self) -> bool
         ensures stopped { result ≡ K.stopped self.now.keep }
         ensures in_order { IsInOrder K.Keep self.now }
@@ -259,7 +265,7 @@ impl<K: Keep> Desk<K> {
         self.keep.is_stopped()
     }
 
-    /// The book, which has the desk's ledger. Takes no memory.
+    /// Returns the book, which has the desk's ledger. Takes no memory.
     pub fn book(&self) -> &Book
         ensures ledger { result.now.ledger ≡ self.now.ledger }
         ensures good { Good self.now.ledger }
@@ -267,17 +273,18 @@ impl<K: Keep> Desk<K> {
         &self.book
     }
 
-    /// Its ledger is good; while it is not stopped, the keeper holds the rows of the ledger, and a stop leaves these
-    /// alone.
+    /// Does nothing when run; the prover learns that the desk's ledger is good, and that, while the desk is not stopped
+    /// and the disk is honest, the keeper holds the rows of the ledger, and a stop of the program leaves these and
+    /// nothing else.
     pub(crate) fn in_order(&self)
         ensures good { Good self.now.ledger }
         ensures stored { StaysStored K.Keep self.now }
     {
-        // what is always so of a desk is known where it is read
+        // the prover knows the invariant of a desk where a field of it is read
         let _book = &self.book;
     }
 
-    /// The keeper, as it stands. Takes no memory.
+    /// Returns the keeper, as it stands. Takes no memory.
     pub fn into_keep(self) -> K
         ensures keep { result ≡ self.keep }
         ensures good { Good self.ledger }
@@ -286,7 +293,7 @@ impl<K: Keep> Desk<K> {
         keep
     }
 
-    /// The same desk, whose commits are put off until it is settled. Takes no memory.
+    /// Returns the desk with its commits put off until `settle` is called. Takes no memory.
     pub fn defer(self, alloc: Global) -> Desk<Deferred<K>>
         ensures ledger { result.ledger ≡ self.ledger }
         ensures keep { result.keep.keep ≡ self.keep }
@@ -302,15 +309,16 @@ impl<K: Keep> Desk<K> {
 }
 
 impl<K: Keep> Desk<Deferred<K>> {
-    /// How many rows are put off.
+    /// Returns how many rows are put off.
     pub fn put_off(&self) -> usize
         ensures { result ≡ length self.now.keep.changes }
     {
         self.keep.put_off()
     }
 
-    /// While it is not stopped, the keeper behind it is not. Where nothing is put off, that holds the rows of the ledger,
-    /// and a stop leaves these alone.
+    /// Does nothing when run; the prover learns that the ledger is good, and that, while the desk is not stopped, the
+    /// inner keeper of the one that puts off is not. Where then nothing is put off and the disk is honest, the inner
+    /// keeper holds the rows of the ledger, and a stop of the program leaves these and nothing else.
     pub fn is_kept(&self)
         ensures good { Good self.now.ledger }
         ensures going { self.now.keep.stopped ≡ false → K.stopped self.now.keep.keep ≡ false }
@@ -318,13 +326,15 @@ impl<K: Keep> Desk<Deferred<K>> {
             → IsStored (K.holds self.now.keep.keep) (K.leaves self.now.keep.keep) self.now.ledger }
     {
         self.keep.expect_going();
-        // what is always so of a desk is known where it is read
+        // the prover knows the invariant of a desk where a field of it is read
         let _book = &self.book;
     }
 
-    /// Keeps all that was put off, in one transaction. With Ok the keeper behind it holds the rows of the ledger, and a stop
-    /// leaves these alone. Where that failed the desk is stopped: of a keeper that held the rows of one ledger, a stop leaves
-    /// those, or the rows of the ledger that the desk shows.
+    /// Keeps all that was put off, in one transaction; the ledger stays as it was. After `Ok`, while the desk is not
+    /// stopped and the disk is honest, the inner keeper of the one that puts off holds the rows of the ledger, and a
+    /// stop of the program leaves these and nothing else. An error leaves the desk stopped. Where the disk is honest
+    /// and the inner keeper held the rows of a good ledger, a stop of the program then leaves those rows, or the rows
+    /// of the ledger that the desk shows.
     pub fn settle(&mut self) -> Result<(), CallFault>
         ensures ledger { self.new.ledger ≡ self.old.ledger }
         ensures ok { OnOk result (self.new.keep.stopped ≡ self.old.keep.stopped) }

@@ -23,11 +23,11 @@ pub enum Next<Q> {
     Question(Q),
     /// More bytes are wanted.
     More,
-    /// It is over.
+    /// The dialogue is over.
     Over,
 }
 
-/// What is spoken with a desk: it takes bytes in, finds the questions in them, and has each answered.
+/// A dialogue with a desk: it takes bytes in, finds the questions in them, and has each answered.
 pub trait Dialogue {
     ghost use Rattle.std.specs.Prelude.{◌≡◌, ◌++◌, ◌∷◌, ◌<◌, [], Bool, false, true, IfErr, IfOk, IsOk, ℕ, List, OnOk};
     ghost use Rattle.desk.specs.Desk.{DeskState, Goes, StaysSet, desk_state};
@@ -35,7 +35,7 @@ pub trait Dialogue {
     ghost use Rattle.desk.specs.declared.dialogue.Next.{Next};
     ghost use Rattle.desk.specs.declared.dialogue.Next.TheVariants as next;
 
-    /// A question, as it is held.
+    /// A question, as the program holds it.
     type Question: Drop;
 
     // A question, as the language has it.
@@ -50,19 +50,21 @@ pub trait Dialogue {
     // What is asked by a question that is held.
     ghost asks: { Self.Question → Asked → Type 0 };
 
-    // These bytes were taken in, the input has ended there if so, and these questions were found.
+    // `has_found s read ended questions`: the dialogue `s` has taken in the bytes `read`, `ended` says whether the
+    // input ends after them, and these questions were found.
     ghost has_found: { Self → List ℕ → Bool → List Asked → Type 0 };
 
-    // A stopped desk ends it.
+    // A stopped desk may end the dialogue.
     ghost may_stop: { Type 0 };
 
-    // Want of memory for an answer ends it.
+    // Want of memory for an answer may end the dialogue.
     ghost may_want: { Type 0 };
 
-    // How many questions it can find at the most, before more bytes are taken in.
+    // How many questions the dialogue can find at the most, before more bytes are taken in.
     ghost size: { Self → ℕ };
 
-    /// Takes a piece of the input in, where more is wanted; one without bytes is its end, and wants no memory.
+    /// Takes in a piece of the input, where more bytes are wanted. A piece without bytes is the end of the input, and
+    /// wants no memory.
     fn take_in(&mut self, alloc: Global, piece: &[u8]) -> Result<(), Memory>
         ensures end { piece.now ≡ [] → IsOk result }
         ensures taken { OnOk result ((read : List ℕ) (questions : List Asked) → has_found self.old read false questions
@@ -83,7 +85,7 @@ pub trait Dialogue {
             → has_found self.new read ended questions × language.are_questions read questions
             × language.ends ended questions };
 
-    /// The answer to a question. It is made before anything is done.
+    /// Answers a question. The answer is made before the desk does anything.
     fn answer<K: Keep>(
         &self,
         alloc: Global,
@@ -99,7 +101,7 @@ pub trait Dialogue {
         ensures set { StaysSet K.same_settings desk.old desk.new }
         ensures goes { Goes K.Keep desk.old desk.new };
 
-    // Whatever comes behind what was taken in, the first questions are those that were found.
+    // Whatever comes after what was taken in, the first questions are those that were found.
     ghost settled: { (self : Self) (read : List ℕ) (ended : Bool) (questions : List Asked)
         → has_found self read ended questions → (more : List ℕ) → (ended ≡ true → more ≡ [])
         → Begins language (read ++ more) questions };
@@ -109,13 +111,14 @@ pub trait Dialogue {
 pub trait Begin: Dialogue + Sized {
     ghost use Rattle.std.specs.Prelude.{[], false, IfOk};
 
-    /// A dialogue in which nothing has come yet.
+    /// Returns a dialogue in which nothing has come yet.
     fn begin(alloc: Global) -> Result<Self, Memory>
         ensures new { IfOk result (λ dialogue. Self.has_found dialogue [] false []) }
         ensures none { Self.language.have_come [] [] };
 }
 
-/// Answers the questions that have come, and writes each answer before the next is made. Whether the dialogue is over.
+/// Answers the questions that have come, and writes each answer before the next is made. Returns whether the dialogue
+/// is over.
 fn answer_come<D: Dialogue, K: Keep, W: Write>(
     alloc: Global,
     dialogue: &mut D,
@@ -155,16 +158,20 @@ fn answer_come<D: Dialogue, K: Keep, W: Write>(
     }
 }
 
-/// Holds a dialogue with a desk, until it is over: the input is read by pieces of at most 512 bytes, and each question
-/// that has come is answered, and its answer written, before the next is answered. How many were answered, up to the
-/// greatest count.
+/// Holds a dialogue with a desk until it is over. The input is read in pieces of at most 512 bytes. Each question that
+/// has come is answered, and its answer is written, before the next question is answered. Returns how many questions
+/// were answered, up to the greatest `u64`.
 ///
-/// After a fault what is written is a beginning of the answers to what was read: those to all that the desk has done,
-/// but for the last of them after a failing write. So want of memory leaves nothing done and not told. Where it is not an
-/// answer that wanted memory, nothing was read, or all that came whole before the last piece is answered and nothing of the
-/// piece. `Stopped` is answered only where the desk is stopped. Of a desk that was not stopped before, over an honest disk,
-/// a stop then leaves the rows before the request that stopped it, or after it, and in every other case the rows of the
-/// desk's ledger alone. A desk that was stopped before changes nothing.
+/// After a fault, what is written is a beginning of the answers to what was read. It has the answers to all that the
+/// desk has done, but after a failing write the last of them may be missing or cut. So where memory is refused, all
+/// that is done is answered. `Memory` is returned where memory was refused for an answer, or else for taking a piece of
+/// the input in: then either nothing was read, or all questions that came whole before that piece are answered, and
+/// nothing of that piece is.
+///
+/// `Stopped` is returned only where the desk is stopped. Where the desk was not stopped before the call and the disk is
+/// honest, a stop of the program then leaves the rows before the request at which the keeper failed, or those after it.
+/// Where the desk is not stopped after the call and the disk is honest, a stop of the program leaves the rows of the
+/// desk's ledger and nothing else. A desk that was stopped before changes nothing.
 pub fn converse<D: Dialogue, K: Keep, R: Read, W: Write>(
     alloc: Global,
     dialogue: &mut D,

@@ -1,4 +1,4 @@
-//! Why a desk did not do it.
+//! Why a desk did not do what it was asked to do.
 
 ghost use Rattle.std.specs.Prelude.{◌≡◌, ◌≢◌, ◌↔◌, ◌⊎◌};
 
@@ -12,13 +12,14 @@ pub enum OpenFault {
     /// The tables are the rows of no good ledger.
     #[error("damaged")]
     Damaged,
-    /// The keeper does not hold the seven tables with one row of `desk` of the newest version, and is of no older one.
+    /// The keeper does not hold the seven tables with one row of `desk` of the newest version, and what it holds is
+    /// of no older version.
     #[error("not a desk")]
     NotADesk,
     /// What the keeper holds is of an older version: its tables, and one row of `desk` of that version.
     #[error("old version")]
     OldVersion,
-    /// There is no memory for it.
+    /// Memory was refused.
     #[error("out of memory")]
     Memory,
     /// The store failed, or the keeper was stopped before.
@@ -29,7 +30,7 @@ pub enum OpenFault {
 /// Why a request was not answered.
 #[derive(Clone, Copy, Debug, PartialEq, Eq, Error)]
 pub enum CallFault {
-    /// There is no memory for it, and nothing has changed.
+    /// Memory was refused, and nothing has changed.
     #[error("out of memory")]
     Memory,
     /// The keeper is stopped, by a fault in this call or earlier.
@@ -40,7 +41,7 @@ pub enum CallFault {
 /// Why a script ended early.
 #[derive(Clone, Copy, Debug, PartialEq, Eq, Error)]
 pub enum ScriptFault {
-    /// There is no memory for it.
+    /// Memory was refused.
     #[error("out of memory")]
     Memory,
     /// The desk is stopped.
@@ -106,7 +107,7 @@ impl From<WriteFault> for ScriptFault {
     }
 }
 
-/// What a fault of the load is told as.
+/// Returns the fault of an opening that a fault of the load becomes.
 pub(crate) fn load_fault(fault: KeepFault) -> OpenFault
     ensures memory { fault ≡ KeepFault.Memory → result ≡ OpenFault.Memory }
     ensures desk { result ≡ OpenFault.NotADesk ↔ fault ≡ KeepFault.NotADesk }

@@ -28,11 +28,11 @@ use std::alloc::Global;
 use std::io::{Read, Write};
 use words::Request;
 
-/// Runs the requests, and gives the keeper up where that ends.
+/// Runs the requests, and takes the keeper out of the desk where the run ends.
 ///
-/// The replies and their lines are the model's. Over an honest disk a stop leaves then nothing but the rows of the ledger
-/// after the requests that were answered, or, where the run ended `Stopped`, those after one more. The keeper is stopped
-/// exactly in that case.
+/// The replies and their lines are the model's. Over an honest disk, a stop of the program then leaves nothing but the
+/// rows of the ledger after the requests that were answered; where the run ended `Stopped`, it leaves those or the rows
+/// after one request more. The keeper is stopped exactly where the run ended `Stopped`.
 pub fn run_and_stop<K: Keep>(alloc: Global, desk: Desk<K>, requests: &[Request]) -> (Run, K)
     requires { K.stopped desk.keep ≡ false }
     ensures replies { IsRunOf desk.ledger requests.now result.0 }
@@ -49,13 +49,15 @@ pub fn run_and_stop<K: Keep>(alloc: Global, desk: Desk<K>, requests: &[Request])
     (run, desk.into_keep())
 }
 
-/// Cuts off at this moment, and opens the desk that is found then, by any keeper that recovers. None where the keeper
-/// does not recover.
+/// Cuts the keeper off at this moment, and opens the desk that is found then. Returns that desk, or `None` where the
+/// keeper does not recover.
 ///
-/// Every future of the ledger found is honoured. While the disk is honest, its rows are in every list that bounds what
-/// a stop leaves; and where that is the rows of good ledgers, the opening fails, if at all, for memory or by the store.
-/// Whether it fails or not, another stop leaves nothing but one of that list. A fault is told as `Desk::open` tells it of
-/// the keeper that recovered: with `Store` the one that is given back is stopped.
+/// Every future of the ledger found is honoured. What a stop of the program may leave is given as a list of contents.
+/// While the disk is honest, the rows of the ledger found stand in each list of all that a stop could leave before the
+/// call; and whether the opening fails or not, another stop leaves one content of that list and nothing else. Where
+/// such a list has only rows of good ledgers, the opening fails, if at all, for want of memory or by the store. A fault
+/// says about the keeper that recovered what it says for `Desk::open`: with `Store`, the keeper that is given back is
+/// stopped.
 pub fn cut_and_open<K: Recover>(
     alloc: Global,
     keep: K,
@@ -77,15 +79,16 @@ pub fn cut_and_open<K: Recover>(
     Some(Desk::open(alloc, again))
 }
 
-/// Runs the requests, is cut off there, and opens the desk that is found then: the replies, and that desk, or None where
-/// the keeper does not recover.
+/// Runs the requests, is cut off there, and opens the desk that is found then. Returns the run, and that desk, or
+/// `None` where the keeper does not recover.
 ///
-/// The replies and their lines are the model's. While the disk is honest: the ledger found is the one after the requests
-/// that were answered, or after one more, and that only where the run ended `Stopped`; the opening fails, if at all, for
-/// memory or by the store, and leaves then nothing but rows of such ledgers. From the ledger found, whatever uses,
-/// releases, commits, aborts, expiries and firm marks come, in any order, each field is within its bounds and no order
-/// that is open then is refused its commit under a new key. The run ended `Stopped` exactly where the keeper that was cut
-/// off was stopped; a fault is told as `cut_and_open` tells it.
+/// The replies and their lines are the model's. While the disk is honest, the ledger found is the one after the
+/// requests that were answered, or, but only where the run ended `Stopped`, the one after one request more. The opening
+/// then fails, if at all, for want of memory or by the store, and another stop of the program leaves nothing but rows
+/// of such ledgers. From the ledger found on, whatever uses, releases, commits, aborts, `firm` and expiries come, in
+/// any order, each field is within its bounds, and no order that is open then is refused its commit under a new key.
+/// What was opened is what a keeper could leave that was stopped exactly where the run ended `Stopped`. A fault says what
+/// it says for `cut_and_open`.
 pub fn run_cut_and_open<K: Recover>(
     alloc: Global,
     desk: Desk<K>,
@@ -112,7 +115,7 @@ pub fn run_cut_and_open<K: Recover>(
     (run, opened)
 }
 
-/// A desk that was opened goes on with the requests from number `first` on: the desk, and the replies.
+/// Goes on with a desk that was opened, with the requests from number `first` on. Returns the desk, and the run.
 fn go_on<K: Keep>(
     alloc: Global,
     opened: Result<Desk<K>, (OpenFault, K)>,
@@ -143,14 +146,15 @@ fn go_on<K: Keep>(
     }
 }
 
-/// Runs the requests, is cut off there, opens the desk that is found then, and goes on behind the last reply: the
-/// replies before the cut, and the desk with the replies after it, or None where the keeper does not recover.
+/// Runs the requests, is cut off there, opens the desk that is found then, and goes on after the last reply. Returns
+/// the run before the cut, and the desk with the run after it, or `None` where the keeper does not recover.
 ///
-/// The replies before the cut, and their lines, are the model's, and those after it are the model's from the ledger found.
-/// While the disk is honest, these are those which a run that was never cut would give behind them, however many they
-/// are; where they are all that is left, the ledger is the one after that run. The opening fails then, if at all, for
-/// memory or by the store, and a stop leaves rows of ledgers that can be found after the first run alone; a fault is told
-/// as `cut_and_open` tells it. Either run ended `Stopped` exactly where its keeper was stopped.
+/// The replies before the cut, and their lines, are the model's; those after it are the model's from the ledger found.
+/// While the disk is honest, the replies after the cut, however many they are, are those that a run which was never cut
+/// would give there; where the replies after the cut reach the last request, the ledger is the one after that run. The
+/// opening then fails, if at all, for want of memory or by the store, and where it failed, a stop of the program leaves
+/// nothing but rows of ledgers that can be found after the first run. A fault says what it says for `cut_and_open`.
+/// The run after the cut ended `Stopped` exactly where the keeper of the desk that is returned is stopped.
 pub fn run_cut_and_resume<K: Recover>(
     alloc: Global,
     desk: Desk<K>,
@@ -183,9 +187,10 @@ pub fn run_cut_and_resume<K: Recover>(
     }
 }
 
-/// However often a run is cut, and gone on with each time at the ledger found and behind the last reply: what is found
-/// is the ledger after all that was answered, or after one more; what was answered in all, however much, and its lines
-/// are those of a run that was never cut; and with all answered, the ledger is the one after that.
+/// Does nothing when run; the contract is a law. A run may be cut any number of times, and each time go on at the
+/// ledger found and after the last reply. At the end the ledger found is the one after all requests that were answered,
+/// or after one more. All replies that the runs have given, however many they are, and their lines are those of a run
+/// that was never cut. Where all requests are answered, the ledger is the one after that run.
 pub fn any_number_of_cuts()
     ensures found { (A B : Ledger) (requests : List RequestOf) (runs : List Run) → IsFoundAfterCuts A requests runs B
         → ResumableAt A requests (length (all_replies runs) + 1) B }
@@ -197,11 +202,12 @@ pub fn any_number_of_cuts()
         → Runs A requests replies last → (all_replies runs ≡ replies) × (B ≡ last) }
 {}
 
-/// Plays a script, and gives the keeper up where that ends: how it ended, and the keeper.
+/// Plays a script, and takes the keeper out of the desk where the script ends. Returns how it ended, and the keeper.
 ///
-/// Over an honest disk a stop leaves then nothing but the rows of the ledger after a prefix of the lines that were read,
-/// which holds every one whose reply line was written whole, and at most one more; after a script that ended `Ok`, of
-/// the one after all its lines. How it ended is told as `script` tells it; the keeper is stopped exactly after `Stopped`.
+/// Over an honest disk, a stop of the program then leaves nothing but the rows of the ledger after a prefix of the
+/// lines that were read. The prefix holds every line whose reply line was written whole, and at most one more; after a
+/// script that ended `Ok` it holds all lines. A fault says what it says for `script`. The keeper is stopped exactly
+/// after `Stopped`.
 pub fn script_and_stop<K: Keep, R: Read, W: Write>(
     alloc: Global,
     desk: Desk<K>,
@@ -225,14 +231,14 @@ pub fn script_and_stop<K: Keep, R: Read, W: Write>(
     (ended, desk.into_keep())
 }
 
-/// Plays a script, is cut off where it ends, and opens the desk that is found then: how the script ended, and that desk,
-/// or None where the keeper does not recover.
+/// Plays a script, is cut off where it ends, and opens the desk that is found then. Returns how the script ended, and
+/// that desk, or `None` where the keeper does not recover.
 ///
-/// While the disk is honest, and where the reader and the writer tell their bytes: the ledger found is the one after a
-/// prefix of the lines that were read which holds every one whose reply line was written whole, and at most one more;
-/// after a script that ended `Ok` it is the one after all its lines. The opening fails, if at all, for memory or by the
-/// store, and every future of the ledger found is honoured. A fault is told as `cut_and_open` tells it, and how the script
-/// ended as `script_and_stop` tells it, of the keeper that was cut off.
+/// While the disk is honest, and where contracts know the bytes of the reader and of the writer, the ledger found is
+/// the one after a prefix of the lines that were read. The prefix holds every line whose reply line was written whole,
+/// and at most one more; after a script that ended `Ok` it holds all lines. The opening then fails, if at all, for want
+/// of memory or by the store. Every future of the ledger found is honoured. A fault of the opening says what it says
+/// for `cut_and_open`; a fault of the script says what it says for `script`, about the keeper that was cut off.
 pub fn script_cut_and_open<K: Recover, R: Read, W: Write>(
     alloc: Global,
     desk: Desk<K>,

@@ -1,4 +1,5 @@
-//! What is true of every text, and of every run that is resumed.
+//! What is true of every text, and of every run that is resumed. The functions do nothing when run; the contract of
+//! each is a law.
 
 ghost use Rattle.std.specs.Prelude.{◌≡◌, ◌⊎◌, ◌≤◌, ◌+◌, ◌-◌, ℕ, ◌++◌, List, drop, flat_map, length, take};
 ghost use Rattle.std.specs.List.{AllByRecursion as Each};
@@ -14,7 +15,7 @@ ghost use Rattle.desk.specs.Resuming.{ResumesAgain, ResumableAt};
 ghost use Rattle.desk.specs.Together.{IsBatch, ResumesWithin, ResumesWithinAgain, RunsInLists, ResumableWithin};
 ghost use Rattle.desk.specs.Text.{IsText};
 
-/// At a good ledger there is exactly one text for each input, so that what a script writes is settled by what it reads.
+/// At a good ledger there is exactly one text for each input: what a script reads settles what it writes.
 pub fn exactly_one_text()
     ensures some { (old : Ledger) (input : List ℕ) → Good old → (out : List ℕ) × (new : Ledger)
         × IsText old input out new }
@@ -22,9 +23,8 @@ pub fn exactly_one_text()
         → IsText old input other last → (out ≡ other) × (new ≡ last) }
 {}
 
-/// A run that is cut any number of times and resumed each time behind its last reply comes to the same replies and the
-/// same ledger as one that is not; and where it was cut by a stop, an opening finds a ledger at which it may be
-/// resumed.
+/// A run that is cut any number of times, and resumed each time after its last reply, comes to the same replies and the
+/// same ledger as a run that is not cut. Where a stop cut it, an opening finds a ledger at which it may be resumed.
 pub fn resuming_is_invisible()
     ensures same { (A : Ledger) (requests : List Request) (k : ℕ) (given : List (List Reply)) (replies : List Reply)
         (B last : Ledger) → 1 ≤ k → ResumesAgain A requests k given B
@@ -36,9 +36,9 @@ pub fn resuming_is_invisible()
         → IsRowsOf D x → ResumableAt A requests k D }
 {}
 
-/// A batch that comes again where it was kept is answered the same and changes nothing. So whoever was cut off by a
-/// failing commit, and goes on at the first request without a reply, gets the replies and the ledger of a run that was
-/// never cut, whether the batch behind that reply was kept or not.
+/// A batch that was kept and comes again gets the same replies and changes nothing. So a caller whom a failing commit
+/// cut off, and who goes on at the first request without a reply, gets the replies and the ledger of a run that was
+/// never cut, whether the batch after the last reply was kept or not.
 pub fn batches_come_again()
     ensures same { (A B : Ledger) (requests : List Request) (replies : List Reply) → IsBatch A requests replies B
         → Runs B requests replies B }
@@ -51,9 +51,9 @@ pub fn batches_come_again()
         → (before : List Reply) × (length before + 1 ≡ k) × Runs A requests (before ++ replies) last }
 {}
 
-/// However often a list that is carried out together is stopped by a failing commit, and gone on with behind its last
-/// reply, it comes to the replies and the ledger of one that is carried out one by one and never stopped, whether those
-/// batches were kept or not. Lists that are carried out one after the other are one list.
+/// A list that is carried out together may be cut off by failing commits any number of times, and go on each time after
+/// its last reply. It comes to the replies and the ledger of a list that is carried out one by one and never cut off,
+/// whether the batches of those commits were kept or not. Lists that are carried out one after the other are one list.
 pub fn batches_are_invisible()
     ensures wider { (A B : Ledger) (requests : List Request) (k : ℕ) → 1 ≤ k → ResumableAt A requests k B
         → ResumableWithin A requests k B }

@@ -1,4 +1,13 @@
 //! The desk: a ledger that outlives its process.
+//!
+//! Two words are kept apart here. A *stop* is whatever ends the program, as a kill or a power cut. A desk or a keeper
+//! is *stopped* once a load or a commit of the keeper has failed while the program ran on: from then on it carries out
+//! nothing more. What docstrings say a stop leaves is said of a stop of the program right after the call.
+//!
+//! In the methods of a type, the prover learns the type's invariant where a field of the value is first used; elsewhere
+//! it learns what the contract of a called method says. So here and there a field is read, or a method is called, and
+//! the result is dropped. That does nothing when run, but a proof rests on it. `Desk::in_order` and `Desk::is_kept` are
+//! there for such calls.
 #![tactic(auto)]
 
 mod answer;

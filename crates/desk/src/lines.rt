@@ -1,4 +1,4 @@
-//! The lines of fields and orders.
+//! The text lines that answer questions for fields and orders.
 
 ghost use Rattle.std.specs.Prelude.{◌≡◌, ◌++◌, ◌∷◌, [], IfOk, OnOk, decimal};
 ghost use Rattle.words.specs.Words.{after_space};
@@ -14,7 +14,7 @@ use ledger::{Kind, Line, Standing};
 use std::alloc::Global;
 use words::Memory;
 
-/// A text to which more can be appended.
+/// Returns a text of these bytes, to which more can be appended.
 pub fn text(alloc: Global, bytes: &[u8]) -> Result<Vec<u8>, Memory>
     ensures { IfOk result (λ out. out.items ≡ bytes.now) }
 {
@@ -43,7 +43,7 @@ fn push_number(out: &mut Vec<u8>, number: u64) -> Result<(), Memory>
     push_word(out, buffer.format(number).as_bytes())
 }
 
-/// Appends a level behind its name.
+/// Appends the name of a level and the level.
 fn push_level(out: &mut Vec<u8>, name: &[u8], level: Level) -> Result<(), Memory>
     ensures { OnOk result (out.new.items ≡ out.old.items ++ after_space (name.now ∷ decimal level ∷ [])) }
 {
@@ -62,7 +62,7 @@ fn push_numbers(out: &mut Vec<u8>, view: FieldView) -> Result<(), Memory>
     push_level(out, b"sup", view.sup)
 }
 
-/// The line of a field.
+/// Returns the text line that answers a question for a field.
 pub fn field_text(alloc: Global, view: FieldView) -> Result<Vec<u8>, Memory>
     ensures { IfOk result (λ out. out.items ≡ field_line view) }
 {
@@ -103,7 +103,7 @@ fn way_text(way: Way) -> &'static [u8]
     }
 }
 
-/// Appends a line of an order.
+/// Appends an order line.
 fn push_line(out: &mut Vec<u8>, line: &Line) -> Result<(), Memory>
     ensures { OnOk result (out.new.items ≡ out.old.items ++ after_space (held_words (line.now ∷ []))) }
 {
@@ -114,7 +114,7 @@ fn push_line(out: &mut Vec<u8>, line: &Line) -> Result<(), Memory>
     push_number(out, line.used.get())
 }
 
-/// Appends the lines of an order.
+/// Appends the order lines.
 fn push_lines(out: &mut Vec<u8>, lines: &[Line]) -> Result<(), Memory>
     ensures { OnOk result (out.new.items ≡ out.old.items ++ after_space (held_words lines.now)) }
 {
@@ -124,7 +124,7 @@ fn push_lines(out: &mut Vec<u8>, lines: &[Line]) -> Result<(), Memory>
     Ok(())
 }
 
-/// The line of an order.
+/// Returns the text line that answers a question for an order.
 pub fn order_text(alloc: Global, view: &OrderView) -> Result<Vec<u8>, Memory>
     ensures { IfOk result (λ out. out.items
         ≡ shown_line view.now.number view.now.kind view.now.until view.now.state view.now.lines.now) }

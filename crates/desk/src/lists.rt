@@ -1,4 +1,4 @@
-//! Requests that are answered by lists.
+//! Requests that are answered in lists.
 
 ghost use Rattle.std.specs.Prelude.{◌≡◌, ◌≤◌, ◌++◌, false, IfErr, IfOk, OnOk, length, take};
 ghost use Rattle.std.specs.Io.KnownBytes.{Appends};
@@ -16,7 +16,7 @@ use std::io::Write;
 use std::num::NonZeroUsize;
 use words::{Request, write_whole};
 
-/// How many requests are carried out at once, at the most.
+/// Returns how many requests are carried out at once, at the most.
 fn most_of(together: Option<NonZeroUsize>) -> usize
     ensures most { result ≡ most_together together }
     ensures some { 1 ≤ result }
@@ -27,7 +27,7 @@ fn most_of(together: Option<NonZeroUsize>) -> usize
     }
 }
 
-/// Carries a list out: one request, or the batch of those that come first in it.
+/// Carries out a list: its one request, or a batch of its first requests.
 fn run_list<K: Keep>(
     alloc: Global,
     requests: &[Request],
@@ -40,14 +40,13 @@ fn run_list<K: Keep>(
     ensures list { RunsList together (desk_state K.Keep desk.old) requests.now result (desk_state K.Keep desk.new) }
     ensures goes { Goes K.Keep desk.old desk.new }
 {
-    desk.in_order();
     match together {
         Some(_) => desk.run_batch(alloc, requests),
         None => desk.run(alloc, requests),
     }
 }
 
-/// Answers the first of the requests, at least one, and writes their lines: how many these are.
+/// Answers the first of the requests, at least one, and writes their lines. Returns how many requests were answered.
 fn answer_list<K: Keep, W: Write>(
     alloc: Global,
     requests: &[Request],
@@ -80,16 +79,22 @@ fn answer_list<K: Keep, W: Write>(
     Ok(run.replies.len())
 }
 
-/// Answers the requests in their order, one by one, or together: then at most so many are a batch, as `run_together`
-/// carries them out. The lines of a request, or of a batch, are written when it is kept, and before the next is begun.
+/// Answers the requests in their order: one by one, or, where `together` is given, in batches of at most so many, as
+/// `run_together` carries them out. The lines of a request, or of a batch, are written once it is kept, and before the
+/// next is begun.
 ///
-/// After a fault the first of the requests are answered, and what is written is their lines, but after a failing write
-/// for a rest of those of the last one, or of the last batch. So want of memory leaves nothing done and not told.
-/// `Stopped` is answered only where the desk is stopped, and `Read` never. Of a desk that was not stopped before, over an
-/// honest disk, a stop then leaves the rows behind the requests whose lines are written, or those behind the one more, or
-/// the batch more, at which the store failed: a request of it is accepted, and the desk shows the ledger before the one,
-/// or behind the batch. In every other case a stop leaves the rows of the desk's ledger alone. A desk that was stopped
-/// before answers none and changes nothing.
+/// After a fault, the first of the requests are answered, and what is written is their lines; after a failing write, a
+/// rest of the lines of the last request, or of the last batch, may be missing. So where memory is refused, all that is
+/// done is answered. `Read` is never returned.
+///
+/// `Stopped` is returned only where the desk is stopped. Where the desk was not stopped before the call, the store has
+/// failed at one request, or with `together` at one batch, and a request of these is accepted. None of their lines is
+/// written. Where the disk is honest, a stop of the program then leaves the rows after the requests whose lines are
+/// written, or the rows after that request or batch. The desk shows the ledger before the request, or the ledger after
+/// the batch.
+///
+/// Where the desk is not stopped after the call and the disk is honest, a stop of the program leaves the rows of the
+/// desk's ledger and nothing else. A desk that was stopped before answers no request and changes nothing.
 pub fn answer_lists<K: Keep, W: Write>(
     alloc: Global,
     requests: &[Request],

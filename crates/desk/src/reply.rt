@@ -20,14 +20,15 @@ pub const BAD_LINE: &[u8] = b"- refused 20 BadCommand 0\n";
 /// What is written where a field or an order is asked for that is not there.
 const NONE_LINE: &[u8] = b"? none\n";
 
-/// No line of a reply is longer.
+/// No reply line has more bytes.
 pub(crate) const LONGEST_LINE: usize = 96;
 
+/// Does nothing when run; the prover learns that a `u64` is below 2^64.
 fn is_word(number: u64)
     ensures { number < 2 ^ 64 }
 {}
 
-/// So that a proof has the range of its number.
+/// Does nothing when run; the prover learns the range of the reply's number.
 fn in_range(reply: &Reply)
     ensures { number_of reply.now < 2 ^ 64 }
 {
@@ -37,7 +38,7 @@ fn in_range(reply: &Reply)
     }
 }
 
-/// The line of a reply: its key, and its text.
+/// Returns the line of a reply: the key, a space, and the reply's text.
 pub fn line_of_reply(alloc: Global, key: Key, reply: &Reply) -> Result<Vec<u8>, Memory>
     ensures line { IfOk result (λ out. out.items ≡ request_line key reply.now) }
     ensures short { IfOk result (λ out. vec_len out ≤ LONGEST_LINE) }
@@ -50,7 +51,7 @@ pub fn line_of_reply(alloc: Global, key: Key, reply: &Reply) -> Result<Vec<u8>, 
     Ok(out)
 }
 
-/// The line of a field.
+/// Returns the answer to a question for a field.
 pub fn line_of_field<K: Keep>(
     alloc: Global,
     desk: &Desk<K>,
@@ -65,7 +66,7 @@ pub fn line_of_field<K: Keep>(
     }
 }
 
-/// The line of an order.
+/// Returns the answer to a question for an order.
 pub fn line_of_order<K: Keep>(
     alloc: Global,
     desk: &Desk<K>,

@@ -22,15 +22,17 @@ use words::{Memory, Reply, Request};
 /// How a run ended.
 #[derive(Clone, Copy, PartialEq, Eq)]
 pub enum Ending {
-    /// All requests are answered.
+    /// No fault ended the run. After `run`, `run_together` and `resume` all requests are answered; after `run_batch`,
+    /// which ends with its batch, requests may be left.
     All,
-    /// Memory was refused for the request behind the replies, and nothing has changed by it.
+    /// Memory was refused for the request after the last reply, and that request has changed nothing.
     Memory,
     /// The desk is stopped.
     Stopped,
 }
 
-/// What was answered to a list of requests: the replies to the first of them, the lines of these, and how it ended.
+/// What was answered to a list of requests: the replies to the first of them, the lines of these replies, and how the
+/// run ended.
 #[derive(Drop)]
 pub struct Run {
     pub replies: Vec<Reply>,
@@ -39,7 +41,7 @@ pub struct Run {
 }
 
 impl Run {
-    /// Nothing is answered.
+    /// Returns a run that has answered nothing.
     pub(crate) fn new(alloc: Global, ending: Ending) -> Run
         ensures replies { result.replies.items ≡ [] }
         ensures lines { result.lines.items ≡ [] }
@@ -52,7 +54,7 @@ impl Run {
         }
     }
 
-    /// Room for so many replies more, and for their lines. Where memory is refused nothing has changed.
+    /// Makes room for so many replies more, and for their lines. Where memory is refused, nothing has changed.
     pub(crate) fn make_room(&mut self, count: usize) -> Result<(), Memory>
         ensures room { OnOk result (HasRoom count self.new) }
         ensures replies { self.new.replies.items ≡ self.old.replies.items }
@@ -67,7 +69,7 @@ impl Run {
         Ok(())
     }
 
-    /// A reply more, for which there is room.
+    /// Appends a reply and its line, for which there must be room.
     pub(crate) fn push(&mut self, told: Answered)
         requires room { HasRoom 1 self.old }
         requires short { vec_len told.line ≤ LONGEST_LINE }
@@ -79,7 +81,7 @@ impl Run {
         append(&mut self.lines, told.line);
     }
 
-    /// More replies, for which there is room, and how it ended with these.
+    /// Appends the replies of another run, for which there must be room, and ends as that run ended.
     pub(crate) fn join(&mut self, more: Run)
         requires room { HasRoom (vec_len more.replies) self.old }
         requires short { vec_len more.lines ≤ vec_len more.replies * LONGEST_LINE }
@@ -94,7 +96,7 @@ impl Run {
     }
 }
 
-/// Rows, replies or bytes more, for which there is room.
+/// Appends items, for which there must be room.
 pub(crate) fn append<T: Drop>(items: &mut Vec<T>, more: Vec<T>)
     requires { vec_len items.old + vec_len more ≤ vec_capacity items.old }
     ensures items { items.new.items ≡ items.old.items ++ more.items }
@@ -109,13 +111,14 @@ pub(crate) fn append<T: Drop>(items: &mut Vec<T>, more: Vec<T>)
 }
 
 impl<K: Keep> Desk<K> {
-    /// Answers the requests in their order. A refusal does not end a run; a fault does, and the replies are those of
-    /// the requests before it. Room for a reply and its line is made before its request is called, and the line, so
-    /// nothing is done and not told.
+    /// Answers the requests in their order. A refusal does not end a run. A fault does, and the replies are then those
+    /// to the requests before it. Room for a reply and its line is made before the request is called, and the line
+    /// before it is carried out; so all that is done is answered.
     ///
-    /// The ledger is the one after the requests that are answered. Of a desk that was not stopped before, a stop leaves
-    /// its rows alone, or, where the run ended `Stopped`, those or the rows after one request more, which is accepted. A
-    /// desk that was stopped before answers none, says so where there is one, and changes nothing.
+    /// The ledger is the one after the requests that are answered. Where the desk was not stopped before and the disk
+    /// is honest, a stop of the program leaves the rows of that ledger and nothing else; but where the run ended
+    /// `Stopped`, it leaves those rows, or the rows after one request more, which is accepted. A desk that was stopped
+    /// before answers no request and changes nothing: the run ends `Stopped`, or `All` where the list has no request.
     pub fn run(&mut self, alloc: Global, requests: &[Request]) -> Run
         ensures replies { Runs self.old.ledger (take
             (length result.replies.items) requests.now) result.replies.items self.new.ledger }
@@ -133,7 +136,6 @@ impl<K: Keep> Desk<K> {
             → HasAccepted self.new.ledger (take 1 (drop (length result.replies.items) requests.now)) }
         ensures goes { Goes K.Keep self.old self.new }
     {
-        self.in_order();
         if self.is_stopped() && !requests.is_empty() {
             return Run::new(alloc, Ending::Stopped);
         }
@@ -154,14 +156,17 @@ impl<K: Keep> Desk<K> {
         run
     }
 
-    /// Goes on with a run that a fault has cut: answers the requests from number `first` on, counted from 1, which is
-    /// the one behind the last reply that the caller has. The desk stands, on its way from some ledger through these
-    /// requests, before that one or behind it.
+    /// Goes on with a run that a fault has cut. Answers the requests from number `first` on, counted from 1: that is
+    /// the request after the last reply that the caller has. What follows holds where the desk's ledger is one of two
+    /// on the way from some ledger through these requests: the one before request `first`, or the one after it, where
+    /// that request was kept and its reply was lost.
     ///
-    /// The replies are then those that the whole run from that ledger would give, and with `All` the ledger is the one
-    /// after it. After `Memory` and `Stopped` as after `run`; the next to be resumed is the one behind the replies, at
-    /// the desk's ledger, and after `Stopped` at whatever ledger an opening finds. A desk that was stopped before
-    /// answers none, says so where there is one, and changes nothing.
+    /// The replies are those that the whole run from that ledger would give from there on, and after `All` the ledger
+    /// is the one after the whole run. `Memory` and `Stopped` say what they say for `run`. After either of them the run
+    /// may be resumed again, from the first request without a reply: after `Memory` at the desk's ledger; after
+    /// `Stopped` at the desk's ledger, or, while the disk is honest, at whatever ledger an opening finds. A desk that
+    /// was stopped before answers no request and changes nothing: the run ends `Stopped`, or `All` where no request is
+    /// left.
     pub fn resume(&mut self, alloc: Global, requests: &[Request], first: usize) -> Run
         requires counted { 1 ≤ first }
         requires within { first ≤ length requests.now + 1 }

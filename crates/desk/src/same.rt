@@ -71,7 +71,7 @@ fn same_row(change: &Change, copy: &Change) -> bool
     }
 }
 
-/// Whether these are copies of the changes, each of the one in its place.
+/// Returns whether each of these is a copy of the change at its place.
 pub fn are_same(changes: &[Change], copies: &[Change]) -> bool
     ensures { IsTrue result ↔ AllZip IsSameRow changes.now copies.now }
 {

@@ -22,7 +22,7 @@ use words::{Item, Lines, Memory};
 #[derive(Drop)]
 struct LineDialogue {
     lines: Lines,
-    /// The items of the lines that have ended, but for those that were found.
+    /// The items of complete lines that `next` has not given out yet.
     waiting: IntoIter<Item>,
     has_ended: bool,
 }
@@ -95,14 +95,19 @@ impl Dialogue for LineDialogue {
     ghost settled = { λ s read ended found h. fed_settles s.lines (into_iter_items s.waiting) read ended found h.1 };
 }
 
-/// To each line its reply line, until the input ends. It is read by pieces of at most 512 bytes, and each line is
-/// answered and its reply written before the next is, so that someone who types sees each reply.
+/// Writes to each line its reply line, until the input ends. The input is read in pieces of at most 512 bytes. Each
+/// line is answered, and its reply line is written, before the next line is answered; so somebody who types sees each
+/// reply.
 ///
-/// After a fault what is written is a beginning of the text for what was read: the reply lines to what the desk has
-/// done, but for the last of them after a failing write. So want of memory leaves nothing done and not told. `Stopped`
-/// is answered only where the desk is stopped. Of a desk that was not stopped before, over an honest disk, a stop then
-/// leaves the rows before the request that it is cut at, or after it, and in every other case the rows of the desk's
-/// ledger alone. A desk that was stopped before answers the lines up to the first request, and changes nothing.
+/// After a fault, what is written is a beginning of the text for what was read. It has the reply lines to all that the
+/// desk has done, but after a failing write the last of them may be missing or cut. So where memory is refused, all
+/// that is done is answered.
+///
+/// `Stopped` is returned only where the desk is stopped. Where the desk was not stopped before the call and the disk is
+/// honest, a stop of the program then leaves the rows before the request at which the script is cut, or those after it.
+/// Where the desk is not stopped after the call and the disk is honest, a stop of the program leaves the rows of the
+/// desk's ledger and nothing else. A desk that was stopped before answers the lines up to the first request, and
+/// changes nothing.
 pub fn script<K: Keep, R: Read, W: Write>(
     alloc: Global,
     reader: &mut R,

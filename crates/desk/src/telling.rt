@@ -1,4 +1,4 @@
-//! Requests that are answered and told of.
+//! What is made of the reply to a request, for the one who asked.
 
 ghost use Rattle.std.specs.Prelude.{◌≢◌, Err, IfOk, OnErr};
 
@@ -8,27 +8,28 @@ use escrow::Key;
 use std::alloc::Global;
 use words::{Memory, Reply};
 
-/// Makes what tells of a reply.
+/// A teller makes of a reply what the caller gets: the reply itself, its line of text, or an answer over HTTP.
 pub trait Teller {
     ghost use Rattle.std.specs.Prelude.{ℕ, List, IfOk, OnErr};
     ghost use Rattle.words.specs.declared.reply.Reply.{Reply};
 
-    /// What tells of it.
+    /// What is made.
     type Told: Drop;
 
-    // This tells of that reply to a request of this key.
+    // This is made of that reply to a request with this key.
     ghost tells: { List ℕ → Reply → Self.Told → Type 0 };
 
-    // Memory may be wanted for it.
+    // Making it may want memory.
     ghost wants_memory: { Type 0 };
 
-    /// What tells of the reply to the request of that key.
+    /// Makes of the reply to the request with that key what the caller gets.
     fn tell(&self, alloc: Global, key: Key, reply: &Reply) -> Result<Self::Told, Memory>
         ensures told { IfOk result (λ told. tells key reply.now told) }
         ensures memory { OnErr result wants_memory };
 }
 
-/// What tells of the reply to the request of that key. `Memory` only where the teller wants it, and never `Stopped`.
+/// Returns what the teller makes of the reply to the request with that key. Fails with `Memory` only where the teller
+/// may want memory, and never with `Stopped`.
 pub(crate) fn tell_reply<T: Teller>(
     alloc: Global,
     teller: &T,
@@ -42,7 +43,7 @@ pub(crate) fn tell_reply<T: Teller>(
     Ok(teller.tell(alloc, key, &reply)?)
 }
 
-/// The reply as it stands, which wants no memory.
+/// The teller that gives the reply itself, and wants no memory.
 pub(crate) struct AsReply;
 
 impl Teller for AsReply {
@@ -59,7 +60,7 @@ impl Teller for AsReply {
     }
 }
 
-/// Its line.
+/// The teller that makes the line of text of the reply.
 pub(crate) struct AsLine;
 
 impl Teller for AsLine {
@@ -77,14 +78,14 @@ impl Teller for AsLine {
     }
 }
 
-/// A reply, and its line.
+/// A reply, and its line of text.
 #[derive(Drop)]
 pub(crate) struct Answered {
     pub reply: Reply,
     pub line: Vec<u8>,
 }
 
-/// Both of these.
+/// The teller that gives the reply together with its line of text.
 pub(crate) struct AsBoth;
 
 impl Teller for AsBoth {

@@ -25,8 +25,8 @@ use ledger::Change;
 use std::alloc::Global;
 use words::{Memory, Reply, Request};
 
-/// What is made of some requests and not kept yet: what will be told of them, the rows that they change, and whether
-/// one of them is refused.
+/// Requests that are planned and adopted, and not kept yet: the replies that they will get, the rows that they
+/// change, and whether one of them is refused.
 #[derive(Drop)]
 pub(crate) struct Batch {
     pub run: Run,
@@ -35,7 +35,7 @@ pub(crate) struct Batch {
 }
 
 impl Batch {
-    /// A reply more, and its line. Where memory is refused nothing has changed.
+    /// Appends a reply and its line. Where memory is refused, nothing has changed.
     fn tell(&mut self, alloc: Global, key: Key, reply: Reply) -> Result<(), Memory>
         ensures reply { OnOk result (self.new.run.replies.items ≡ self.old.run.replies.items ++ reply ∷ []) }
         ensures line { OnOk result (self.new.run.lines.items ≡ self.old.run.lines.items ++ request_line key reply) }
@@ -50,7 +50,8 @@ impl Batch {
         Ok(())
     }
 
-    /// What is told of it once it is kept, by what became of the request behind it.
+    /// Returns the run that is answered once the batch is kept. What became of the request after the batch says how the
+    /// run ends.
     pub(crate) fn told(self, behind: Joined) -> Run
         ensures replies { result.replies.items ≡ self.run.replies.items }
         ensures lines { result.lines.items ≡ self.run.lines.items }
@@ -66,18 +67,18 @@ impl Batch {
     }
 }
 
-/// What becomes of a request that stands behind a batch.
+/// What becomes of the request that comes after a batch.
 #[derive(Clone, Copy)]
 pub(crate) enum Joined {
-    /// It is one of the batch.
+    /// It becomes one of the batch.
     In,
-    /// It is accepted and stands behind one that is refused, so the batch ends before it.
+    /// It is accepted and comes after one that is refused, so the batch ends before it.
     Behind,
     /// Memory was refused for it.
     Memory,
 }
 
-/// Takes an accepted request in and adopts its plan. Where memory is refused nothing has changed.
+/// Takes in an accepted request and adopts its plan. Where memory is refused, nothing has changed.
 fn take_in(alloc: Global, batch: &mut Batch, book: &mut Book, key: Key, plan: Plan) -> Joined
     requires fits { Fits book.old.ledger plan }
     requires good { Good book.old.ledger }
@@ -102,14 +103,14 @@ fn take_in(alloc: Global, batch: &mut Batch, book: &mut Book, key: Key, plan: Pl
     Joined::In
 }
 
-/// Plans a request at the ledger behind a batch, and takes it in where it may stand there.
+/// Plans a request at the ledger after a batch, and takes it into the batch where it may stand there.
 fn join(alloc: Global, batch: &mut Batch, book: &mut Book, request: &Request) -> Joined
     requires { Good book.old.ledger }
     ensures joined { result ≡ Joined.In → Joins book.old.ledger request.now batch.old batch.new book.new.ledger }
     ensures others { result ≢ Joined.In → IsAsBefore book.old.ledger batch.old batch.new book.new.ledger }
     ensures behind { result ≡ Joined.Behind → IsTrue batch.old.has_refused }
 {
-    // so that the proof has the invariants
+    // does nothing when run; the prover learns that the key and the command are in range
     request.key.as_bytes();
     request.command.words();
     match book.plan(alloc, request) {
@@ -135,7 +136,8 @@ fn join(alloc: Global, batch: &mut Batch, book: &mut Book, request: &Request) ->
     Joined::In
 }
 
-/// A batch of the first of the requests, adopted by the book, and what became of the one behind them.
+/// Plans the first of the requests as a batch, which the book adopts. Returns the batch, and what became of the request
+/// after it: `In` where the batch has all requests.
 pub(crate) fn plan_batch(alloc: Global, book: &mut Book, requests: &[Request]) -> (Batch, Joined)
     requires { Good book.old.ledger }
     ensures so_far { BatchSoFar book.old.ledger (take (answered result.0.run) requests.now) result.0 book.new.ledger }
@@ -161,14 +163,16 @@ pub(crate) fn plan_batch(alloc: Global, book: &mut Book, requests: &[Request]) -
 impl<K: Keep> Desk<K> {
     /// Answers the requests in their order, as `run` does, and carries them out together: each is planned at the ledger
     /// after those before it, and what a batch of them changes is kept in one transaction; only then are there replies.
-    /// A batch ends with the list, where memory is refused, and where an accepted request would stand behind a refused
-    /// one: that is decided anew when it comes again, so who goes on behind the last reply after `Stopped` gets the
-    /// replies of a run that was never cut. Room for all replies and their lines is made first.
+    /// A batch ends with the list, where memory is refused, and where an accepted request would come after a refused
+    /// one. The reason for the last is that no refusal is kept: a refused request that comes again is decided anew.
+    /// Were it decided at a ledger after an accepted request of its own batch, it might be decided otherwise. Since
+    /// batches end so, a caller who goes on after the last reply of a run that ended `Stopped` gets the replies of a
+    /// run that was never cut. Room for all replies and their lines is made first.
     ///
-    /// After `All` and `Memory` the ledger is the one after the requests that are answered, and a stop leaves its rows
-    /// alone. After `Stopped` the store has failed at the commit of a batch: a stop leaves the rows before the batch or
-    /// those behind it, and what the stopped desk shows is the ledger behind it. A desk that was stopped before answers
-    /// none and changes nothing.
+    /// After `All` and `Memory` the ledger is the one after the requests that are answered, and over an honest disk a
+    /// stop of the program leaves its rows and nothing else. After `Stopped` the store has failed at the commit of a
+    /// batch, and the desk shows the ledger after the batch; over an honest disk a stop of the program leaves the rows
+    /// before the batch or those after it. A desk that was stopped before answers no request and changes nothing.
     pub fn run_together(&mut self, alloc: Global, requests: &[Request]) -> Run
         ensures replies { (mid : Ledger) × Runs self.old.ledger (take (length result.replies.items) requests.now)
             result.replies.items mid × (result.ending ≢ Ending.Stopped → self.new.ledger ≡ mid)

@@ -6,7 +6,8 @@ use Rattle.std.proofs.Math.Seq.{take-append_seam}
 use Rattle.escrow.specs.Padding.{IsPadded}
 
 -- a text written over the front of zeros is padded
-pub padding : (n : ℕ) (bytes front : List ℕ) → length bytes ≤ n → front ≡ bytes → IsPadded n (length bytes) (front ++ drop (length bytes) (replicate n 0))
+pub padding : (n : ℕ) (bytes front : List ℕ) → length bytes ≤ n → front ≡ bytes
+    → IsPadded n (length bytes) (front ++ drop (length bytes) (replicate n 0))
 padding n bytes front h e = rw (e, drop-replicate) (record {
   size = length-append bytes (replicate (n - length bytes) 0) ∙ simp length-replicate (omega arith);
   fits = h;

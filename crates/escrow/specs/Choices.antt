@@ -7,7 +7,8 @@ use Rattle.escrow.specs.Stock.{Stock}
 abbrev pub choice_result : Stock → ℕ → ℕ → ℤ
 choice_result q taken added = (pos q.value -ℤ pos taken) +ℤ pos added
 
--- A choice is any part of what is held to take and any part of what is held to add: P holds of each result.
+-- A choice takes any part of what is held to take, and adds any part of what is held to add. P holds of the result of
+-- each choice.
 abbrev pub EveryChoice : Stock → (ℤ → Type 0) → Type 0
 EveryChoice q P = (taken added : ℕ) → taken ≤ q.held_to_take → added ≤ q.held_to_add → P (choice_result q taken added)
 

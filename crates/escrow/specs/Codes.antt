@@ -1,5 +1,5 @@
--- The forms of codes: so many bytes, each of them of the code's kind. How many stands here as a number, so that
--- another limit of the code is refused.
+-- The forms of codes: so many bytes, each of them of the code's kind. The greatest lengths stand here as numbers, so
+-- that the prover refuses another limit in the code.
 use Rattle.std.specs.Prelude.{ℕ, ◌<◌, ◌≤◌, ◌≢◌, Bool, ◌||◌, ◌==◌, List, length, slice_index, IsTrue}
 use Rattle.std.specs.Char.{is_ascii_digit, is_ascii_lowercase, is_ascii_uppercase}
 use Rattle.std.specs.List.{list_all}
@@ -8,11 +8,11 @@ use Rattle.std.specs.List.{list_all}
 abbrev pub is_branch_byte : ℕ → Bool
 is_branch_byte byte = is_ascii_uppercase byte || is_ascii_digit byte
 
--- these, and the hyphen
+-- the bytes of a branch's code, and the hyphen
 abbrev pub is_article_byte : ℕ → Bool
 is_article_byte byte = is_branch_byte byte || (byte == 45)
 
--- these, and a-z
+-- the bytes of an article's code, and a-z
 abbrev pub is_key_byte : ℕ → Bool
 is_key_byte byte = is_article_byte byte || is_ascii_lowercase byte
 

@@ -30,7 +30,7 @@ abbrev pub moved : Way → ℕ → ℤ → ℤ
 moved Take n z = z -ℤ pos n
 moved Add n z = z +ℤ pos n
 
--- each choice would stay within the bounds, were the value moved by n
+-- each choice would stay within the bounds if the value were moved by n
 abbrev pub IsSafeMoved : Stock → Way → ℕ → Type 0
 IsSafeMoved q way n = EveryChoice q (λ z. IsWithin q.lo q.hi (moved way n z))
 

@@ -1,8 +1,8 @@
--- The amounts that are held, and the least and the greatest value, give each other.
+-- The amounts that are held can be computed from the least and the greatest value, and these from the amounts.
 use Rattle.std.specs.Prelude.{◌≡◌, ℕ, ◌+◌, ◌-◌, ◌≤◌}
 use Rattle.std.proofs.Common.{arith, ap, ◌∙◌}
 
--- what is held gives the two values back
+-- the least and the greatest value, computed from the amounts held, are what they were
 pub numbers_back : (inf value sup : ℕ) → inf ≤ value → value ≤ sup → ◌≡◌ {A = ℕ × ℕ}
     (value - (value - inf), value + (sup - value)) (inf, sup)
 numbers_back inf value sup h k =

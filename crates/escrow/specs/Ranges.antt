@@ -1,4 +1,4 @@
--- The ranges of numbers. They stand here as numbers, so that another limit of the code is refused.
+-- The ranges of numbers. The limits stand here as numbers, so that the prover refuses another limit in the code.
 use Rattle.std.specs.Prelude.{ℕ, ◌≤◌}
 
 -- a level of stock: a bound, a value, or an amount that is held or used

@@ -1,4 +1,4 @@
--- One quantity as it is seen.
+-- One quantity as contracts see it.
 use Rattle.std.specs.Prelude.{ℕ}
 
 -- its bounds, its settled value, and the amounts that open orders hold to take and to add

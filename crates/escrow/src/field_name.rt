@@ -1,4 +1,4 @@
-//! Which field.
+//! The name of a field.
 
 use crate::code::article::Article;
 use crate::code::branch::Branch;

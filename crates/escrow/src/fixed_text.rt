@@ -4,11 +4,13 @@ ghost use Rattle.std.specs.Prelude.{◌≡◌, ◌<◌, ◌≤◌, Some, length,
 ghost use Rattle.std.specs.Cmp.{partial_equiv_from_equiv};
 ghost use Rattle.std.specs.Cmp.Lexicographic.{nat_list_cmp_total, nat_list_eq_equiv, pointwise, slice_cmp, texts_po, texts_ties};
 ghost use Rattle.std.specs.Ordering.{nat_cmp};
+ghost use Rattle.std.specs.Str.{IsUtf8};
 
 use std::cmp::Ordering;
 use std::marker::Model;
+use std::str;
 
-/// A text of at most `N` bytes, and of 255, compared and ordered by its bytes. Zeros stand behind it.
+/// A text of at most `N` bytes, and of at most 255, compared and ordered by its bytes. The rest of the array is zeros.
 #[derive(Clone, Copy)]
 pub struct FixedText<const N: usize> {
     cells: [u8; N],
@@ -34,7 +36,7 @@ impl<const N: usize> Model for FixedText<N> {
 }
 
 impl<const N: usize> FixedText<N> {
-    /// The text of these bytes.
+    /// Returns the text of these bytes.
     pub fn new(bytes: &[u8]) -> FixedText<N>
         requires fits { length bytes.now ≤ N }
         requires short { N < 256 }
@@ -48,11 +50,20 @@ impl<const N: usize> FixedText<N> {
         }
     }
 
-    /// The bytes of the text, without the zeros.
+    /// Returns the bytes of the text, without the zeros.
     pub fn as_bytes(&self) -> &[u8]
         ensures { result.now ≡ self.now }
     {
         &self.cells[..usize::from(self.len)]
+    }
+
+    /// Returns the text as a `str`.
+    pub fn as_str(&self) -> &str
+        requires { IsUtf8 self.now }
+        ensures { result.now ≡ self.now }
+    {
+        // The bytes are UTF-8, as the `requires` says.
+        unsafe { str::from_utf8_unchecked(self.as_bytes()) }
     }
 }
 

@@ -26,7 +26,7 @@ impl Model for Level {
 }
 
 impl Level {
-    /// The level, or `None` exactly where the amount is over 1,000,000,000.
+    /// Returns the level, or `None` exactly where the amount is over 1,000,000,000.
     pub fn new(amount: u64) -> Option<Level>
         ensures { SomeIff result (IsLevel amount) amount }
     {
@@ -39,7 +39,7 @@ impl Level {
         }
     }
 
-    /// The level of an amount that is known to be one.
+    /// Returns the level of an amount that is known to be one.
     pub fn of(amount: u64) -> Level
         requires { IsLevel amount }
         ensures { result ≡ amount }
@@ -48,7 +48,7 @@ impl Level {
         Level { amount }
     }
 
-    /// The amount, in pieces.
+    /// Returns the amount, in pieces.
     pub fn get(self) -> u64
         ensures value { result ≡ self }
         ensures range { IsLevel self }
@@ -77,7 +77,7 @@ impl Model for Qty {
 }
 
 impl Qty {
-    /// The quantity, or `None` exactly where it is 0 or over 1,000,000.
+    /// Returns the quantity, or `None` exactly where it is 0 or over 1,000,000.
     pub fn new(pieces: u64) -> Option<Qty>
         ensures { SomeIff result (IsQty pieces) pieces }
     {
@@ -90,7 +90,7 @@ impl Qty {
         }
     }
 
-    /// The number of pieces.
+    /// Returns the number of pieces.
     pub fn get(self) -> u64
         ensures value { result ≡ self }
         ensures range { IsQty self }
@@ -119,7 +119,7 @@ impl Model for Moment {
 }
 
 impl Moment {
-    /// The moment, or `None` exactly where it is over 4,000,000,000 minutes.
+    /// Returns the moment, or `None` exactly where it is over 4,000,000,000 minutes.
     pub fn new(minutes: u64) -> Option<Moment>
         ensures { SomeIff result (IsMoment minutes) minutes }
     {
@@ -132,14 +132,14 @@ impl Moment {
         }
     }
 
-    /// The first moment, at which the clock of a new desk stands.
+    /// Returns the first moment, at which the clock of a new desk stands.
     pub fn first() -> Moment
         ensures { result ≡ 0 }
     {
         Moment { minutes: 0 }
     }
 
-    /// The moment, in whole minutes.
+    /// Returns the moment, in whole minutes.
     pub fn get(self) -> u64
         ensures value { result ≡ self }
         ensures range { IsMoment self }
@@ -168,7 +168,7 @@ impl Model for OrderNo {
 }
 
 impl OrderNo {
-    /// The order's number, or `None` exactly where it is 0 or over 999,999,999.
+    /// Returns the order's number, or `None` exactly where it is 0 or over 999,999,999.
     pub fn new(number: u64) -> Option<OrderNo>
         ensures { SomeIff result (IsOrderNo number) number }
     {
@@ -181,7 +181,7 @@ impl OrderNo {
         }
     }
 
-    /// The number.
+    /// Returns the number.
     pub fn get(self) -> u64
         ensures value { result ≡ self }
         ensures range { IsOrderNo self }

@@ -16,7 +16,7 @@ pub enum Way {
     Add,
 }
 
-/// The value does not lie within the bounds, or the infimum and the supremum do not lie between it and them.
+/// The numbers are not in this order: `lo <= inf <= value <= sup <= hi`.
 #[derive(Clone, Copy, Debug, PartialEq, Eq, Error)]
 #[error("not lo <= inf <= value <= sup <= hi")]
 pub struct BadBounds;
@@ -41,12 +41,13 @@ pub enum Rebound {
     TooMuch,
 }
 
-/// A quantity of stock, in pieces: its bounds, its settled value, and the least and the greatest value that
-/// open orders can leave. Contracts see the amounts that these hold to take and to add in place of the last two.
+/// A quantity of stock, in pieces: its bounds, its settled value, and the least and the greatest value that open
+/// orders can leave. In place of the last two, contracts see the amounts that open orders hold to take and to add.
 ///
-/// Each order that is open may still take or add any part of what it holds. So a request is tested
-/// against the worst outcome of all of them (O'Neil's escrow method), and whatever is held can be used
-/// or given back in any order, within the bounds.
+/// Contracts speak of choices: any part of what is held to take, with any part of what is held to add. This allows more
+/// than the outcomes of the open orders do, as an order line that commits ends with no less than it has used; the least
+/// and the greatest result are the same. So a request is tested against the worst outcome of all open orders (O'Neil's
+/// escrow method), and whatever is held can be used or given back in any order, within the bounds.
 #[derive(Clone, Copy, PartialEq, Eq)]
 pub struct Quantity {
     lo: u64,
@@ -93,7 +94,8 @@ impl Model for Quantity {
 }
 
 impl Quantity {
-    /// A quantity of which nothing is held, or `BadBounds` exactly where not `lo <= value <= hi`.
+    /// Returns a quantity with these bounds and this value, of which nothing is held. Fails with `BadBounds` exactly
+    /// where `lo <= value <= hi` does not hold.
     pub fn start(lo: Level, hi: Level, value: Level) -> Result<Quantity, BadBounds>
         ensures within { IsOk result ↔ ((lo ≤ value) × (value ≤ hi)) }
         ensures ok { IfOk result (λ q. q ≡ record {
@@ -116,8 +118,8 @@ impl Quantity {
         })
     }
 
-    /// The quantity with these numbers, of which `value - inf` is held to take and `sup - value` to add, or
-    /// `BadBounds` exactly where not `lo <= inf <= value <= sup <= hi`.
+    /// Returns the quantity with these numbers: `value - inf` is held to take, and `sup - value` to add. Fails with
+    /// `BadBounds` exactly where `lo <= inf <= value <= sup <= hi` does not hold.
     pub fn restore(
         lo: Level,
         hi: Level,
@@ -146,8 +148,9 @@ impl Quantity {
         })
     }
 
-    /// Holds an amount to take or to add, where the stock stays within its bounds whatever becomes of all
-    /// that is then held. Else a take is `TooLittle`, an add `TooMuch`, and the quantity is as it was.
+    /// Holds an amount more, to take or to add, exactly where the stock stays within its bounds whatever part of all
+    /// that is then held is taken and added. Else the quantity stays as it was, and the error is `TooLittle` for a
+    /// take and `TooMuch` for an add.
     pub fn ask(&mut self, way: Way, qty: Qty) -> Result<(), Bound>
         ensures granted { IsOk result ↔ IsSafe (holding self.old way qty) }
         ensures ok { OnOk result (self.new ≡ holding self.old way qty) }
@@ -174,8 +177,8 @@ impl Quantity {
         Ok(())
     }
 
-    /// Gives back an amount, in pieces, of what is held to take or to add; all else is as it was. At least so
-    /// much must be held that way.
+    /// Gives back an amount, in pieces, of what is held to take or to add; all else stays as it was. At least that
+    /// amount must be held that way. The book does not call this: it makes the new numbers by `restore`.
     pub fn give_back(&mut self, way: Way, amount: u64)
         requires { amount ≤ held_of self.old way }
         ensures { self.new ≡ giving_back self.old way amount }
@@ -186,8 +189,9 @@ impl Quantity {
         }
     }
 
-    /// Takes `held` pieces out of what is held to take or to add, and moves the value by `used`, down for a
-    /// take and up for an add; all else is as it was. At least `held` must be held that way, and no more used.
+    /// Lowers what is held to take or to add by `held` pieces, and moves the value by `used` pieces, down for a take
+    /// and up for an add; all else stays as it was. At least `held` pieces must be held that way, and `used` must be
+    /// at most `held`. The book does not call this: it makes the new numbers by `restore`.
     pub fn settle(&mut self, way: Way, held: u64, used: u64)
         requires held { held ≤ held_of self.old way }
         requires used { used ≤ held }
@@ -207,9 +211,9 @@ impl Quantity {
         }
     }
 
-    /// Moves the value itself, down for a write-off and up for a delivery, where the stock stays within its
-    /// bounds whatever becomes of what is held. Else a take is `TooLittle`, an add `TooMuch`, and the
-    /// quantity is as it was.
+    /// Moves the value itself, down for a write-off and up for a delivery, exactly where the stock then stays within
+    /// its bounds whatever part of what is held is taken and added. Else the quantity stays as it was, and the error
+    /// is `TooLittle` for a write-off and `TooMuch` for a delivery.
     pub fn at_once(&mut self, way: Way, qty: Qty) -> Result<(), Bound>
         ensures granted { IsOk result ↔ IsSafeMoved self.old way qty }
         ensures ok { OnOk result (MovesValue self.old way qty self.new) }
@@ -238,9 +242,9 @@ impl Quantity {
         Ok(())
     }
 
-    /// Takes other bounds, where the stock stays within them whatever becomes of what is held. Else the quantity is as
-    /// it was: it is `BadBounds` where `lo > hi`, then `TooLittle` where some outcome is below `lo`, then `TooMuch`
-    /// where some outcome is above `hi`.
+    /// Gives the quantity other bounds, exactly where the stock stays within them whatever part of what is held is
+    /// taken and added. Else the quantity stays as it was, and the error is the first that applies: `BadBounds` where
+    /// `lo > hi`, `TooLittle` where some outcome is below `lo`, `TooMuch` where some outcome is above `hi`.
     pub fn rebound(&mut self, lo: Level, hi: Level) -> Result<(), Rebound>
         ensures granted { IsOk result ↔ IsSafe (bounded self.old lo hi) }
         ensures ok { OnOk result (self.new ≡ bounded self.old lo hi) }
@@ -262,21 +266,21 @@ impl Quantity {
         Ok(())
     }
 
-    /// The lower bound.
+    /// Returns the lower bound.
     pub fn lo(&self) -> Level
         ensures { result ≡ self.now.lo }
     {
         Level::of(self.lo)
     }
 
-    /// The upper bound.
+    /// Returns the upper bound.
     pub fn hi(&self) -> Level
         ensures { result ≡ self.now.hi }
     {
         Level::of(self.hi)
     }
 
-    /// The settled value. Whatever becomes of what is held, the stock stays within its bounds.
+    /// Returns the settled value. The stock stays within its bounds, whatever part of what is held is taken and added.
     pub fn value(&self) -> Level
         ensures value { result ≡ self.now.value }
         ensures safe { IsSafe self.now }
@@ -284,14 +288,14 @@ impl Quantity {
         Level::of(self.value)
     }
 
-    /// The infimum (O'Neil's inf): the least value that the outcomes of the open orders can leave.
+    /// Returns the infimum (O'Neil's inf): the least value that the outcomes of the open orders can leave.
     pub fn inf(&self) -> Level
         ensures { IsInfimum self.now (pos result) }
     {
         Level::of(self.inf)
     }
 
-    /// The supremum (O'Neil's sup): the greatest value that they can leave.
+    /// Returns the supremum (O'Neil's sup): the greatest value that the outcomes of the open orders can leave.
     pub fn sup(&self) -> Level
         ensures { IsSupremum self.now (pos result) }
     {

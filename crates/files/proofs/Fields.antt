@@ -14,7 +14,8 @@ if_none None P h = h
 if_none (Some x) P h = tt
 
 -- four fields
-pub four : (row : List (List ℕ)) (a b c d : List ℕ) → length row ≡ 4 → Some a ≡ field_at row 0 → Some b ≡ field_at row 1 → Some c ≡ field_at row 2 → Some d ≡ field_at row 3 → row ≡ a ∷ b ∷ c ∷ d ∷ []
+pub four : (row : List (List ℕ)) (a b c d : List ℕ) → length row ≡ 4 → Some a ≡ field_at row 0 → Some b ≡ field_at row 1
+    → Some c ≡ field_at row 2 → Some d ≡ field_at row 3 → row ≡ a ∷ b ∷ c ∷ d ∷ []
 unfolding field_at
 four (x ∷ y ∷ z ∷ w ∷ []) a b c d h p q r s = cc
 four [] a b c d h p q r s = absurd (cc)
@@ -24,7 +25,9 @@ four (x ∷ y ∷ z ∷ []) a b c d h p q r s = absurd (cc)
 four (x ∷ y ∷ z ∷ w ∷ v ∷ more) a b c d h p q r s = absurd (omega arith)
 
 -- five fields
-pub five : (row : List (List ℕ)) (a b c d e : List ℕ) → length row ≡ 5 → Some a ≡ field_at row 0 → Some b ≡ field_at row 1 → Some c ≡ field_at row 2 → Some d ≡ field_at row 3 → Some e ≡ field_at row 4 → row ≡ a ∷ b ∷ c ∷ d ∷ e ∷ []
+pub five : (row : List (List ℕ)) (a b c d e : List ℕ) → length row ≡ 5 → Some a ≡ field_at row 0
+    → Some b ≡ field_at row 1 → Some c ≡ field_at row 2 → Some d ≡ field_at row 3 → Some e ≡ field_at row 4
+    → row ≡ a ∷ b ∷ c ∷ d ∷ e ∷ []
 unfolding field_at
 five [] a b c d e h p q r s t = absurd (cc)
 five (x ∷ rest) a b c d e h p q r s t = let tail : rest ≡ b ∷ c ∷ d ∷ e ∷ [] = four rest b c d e (omega arith) q r s t in cc
@@ -36,7 +39,8 @@ front [] a e = absurd (cc)
 front (x ∷ xs) a e = (xs, cc)
 
 -- seven fields
-pub seven : (row : List (List ℕ)) (a b c d e f g : List ℕ) → length row ≡ 7 → Some a ≡ field_at row 0 → Some b ≡ field_at row 1 → Some c ≡ field_at row 2 → Some d ≡ field_at row 3
+pub seven : (row : List (List ℕ)) (a b c d e f g : List ℕ) → length row ≡ 7 → Some a ≡ field_at row 0
+    → Some b ≡ field_at row 1 → Some c ≡ field_at row 2 → Some d ≡ field_at row 3
     → Some e ≡ field_at row 4 → Some f ≡ field_at row 5 → Some g ≡ field_at row 6 → row ≡ a ∷ b ∷ c ∷ d ∷ e ∷ f ∷ g ∷ []
 unfolding field_at
 seven [] a b c d e f g h p q r s t u v = absurd (cc)

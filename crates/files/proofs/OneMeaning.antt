@@ -1,5 +1,6 @@
 -- What files say is one list, and their records in front of others say something.
-use Rattle.std.proofs.Common.{◌≡◌, ◌⊎◌, ◌∙◌, ◌≤◌, ℕ, List, [], ◌∷◌, ◌++◌, length, map, ap, arith, decimal, inl, inr, refl, subst, sym}
+use Rattle.std.proofs.Common.{◌≡◌, ◌⊎◌, ◌∙◌, ◌≤◌, ℕ, List, [], ◌∷◌, ◌++◌, length, map, ap, arith, decimal, inl, inr,
+    refl, subst, sym}
 use Rattle.std.specs.List.{AllZip, AllByRecursion as Each}
 use Rattle.std.proofs.lemmas.Fmt.{decimal_injective}
 use Rattle.std.proofs.lemmas.List.Elements.{All-from_recursion, recursion_from_All}
@@ -31,7 +32,8 @@ request_same x y e f = made_same x.key y.key x.command y.command e f
 
 delivery_one : (row : Record) (x y : Request) → IsDelivery row x → IsDelivery row y → x ≡ y
 delivery_one row x y h k =
-    let e : x.key ∷ h.branch ∷ h.article ∷ decimal h.qty ∷ [] ≡ y.key ∷ k.branch ∷ k.article ∷ decimal k.qty ∷ [] = sym h.fields ∙ k.fields in
+    let e : x.key ∷ h.branch ∷ h.article ∷ decimal h.qty ∷ [] ≡ y.key ∷ k.branch ∷ k.article ∷ decimal k.qty ∷ [] =
+        sym h.fields ∙ k.fields in
     let key : x.key ≡ y.key = cc in
     let branch : h.branch ≡ k.branch = cc in
     let article : h.article ≡ k.article = cc in
@@ -51,7 +53,8 @@ module _ (Says : Record → Request → Type 0) (one : (row : Record) (x y : Req
   all_one (r ∷ rs) (x ∷ xs) [] h k = absurd k
   all_one (r ∷ rs) (x ∷ xs) (y ∷ ys) h k = ap (λ z. z ∷ xs) (one r x y h.0 k.0) ∙ ap (λ l. y ∷ l) (all_one rs xs ys h.1 k.1)
 
-  all_front : (rows behind : List Record) (xs : List Request) → AllZip Says (rows ++ behind) xs → (ys : List Request) × AllZip Says rows ys
+  all_front : (rows behind : List Record) (xs : List Request) → AllZip Says (rows ++ behind) xs
+      → (ys : List Request) × AllZip Says rows ys
   all_front [] behind xs h = ([], tt)
   all_front (r ∷ rs) behind [] h = absurd h
   all_front (r ∷ rs) behind (x ∷ xs) h = let (ys, said) = all_front rs behind xs h.1 in (x ∷ ys, (h.0, said))
@@ -66,7 +69,9 @@ deliveries_say_one = singles_say_one IsDelivery delivery_one
 
 rebound_one : (row : Record) (x y : Request) → IsRebound row x → IsRebound row y → x ≡ y
 rebound_one row x y h k =
-    let e : x.key ∷ h.branch ∷ h.article ∷ decimal h.lo ∷ decimal h.hi ∷ [] ≡ y.key ∷ k.branch ∷ k.article ∷ decimal k.lo ∷ decimal k.hi ∷ [] = sym h.fields ∙ k.fields in
+    let e : x.key ∷ h.branch ∷ h.article ∷ decimal h.lo ∷ decimal h.hi ∷ []
+        ≡ y.key ∷ k.branch ∷ k.article ∷ decimal k.lo ∷ decimal k.hi ∷ [] =
+        sym h.fields ∙ k.fields in
     let key : x.key ≡ y.key = cc in
     let branch : h.branch ≡ k.branch = cc in
     let article : h.article ≡ k.article = cc in
@@ -100,19 +105,26 @@ orders_one rows [] (y ∷ ys) h (first, rest, split, order, other, say) = absurd
 orders_one rows (x ∷ xs) [] (first, rest, split, order, other, say) k = absurd (has_row first x order rest (sym split ∙ k))
 orders_one rows (x ∷ xs) (y ∷ ys) (first, rest, split, order, other, say) (first2, rest2, split2, order2, other2, say2) =
     let a = agree first first2 x y order order2 rest rest2 ys other2 say2 (sym split ∙ split2) in
-    by a.more a.lines a.rest a.key a.number a.until (λ same. orders_one rest xs ys say (subst (λ l. SayOrders l ys) (sym same) say2))
+    by a.more a.lines a.rest a.key a.number a.until
+        (λ same. orders_one rest xs ys say (subst (λ l. SayOrders l ys) (sym same) say2))
   where
-    by : (more : List OpenLine) → order2.lines ≡ order.lines ++ more → rest ≡ map (order_row x.key order.number order.until) more ++ rest2 → x.key ≡ y.key → order.number ≡ order2.number
+    by : (more : List OpenLine) → order2.lines ≡ order.lines ++ more
+        → rest ≡ map (order_row x.key order.number order.until) more ++ rest2 → x.key ≡ y.key
+        → order.number ≡ order2.number
         → order.until ≡ order2.until → (rest ≡ rest2 → xs ≡ ys) → x ∷ xs ≡ y ∷ ys
     by [] lines same key number until tails =
         let equal : order.lines ≡ order2.lines = sym (lines ∙ append_end order.lines) in
-        let command : ◌≡◌ {A = Command} (Open order.number order.until order.lines) (Open order2.number order2.until order2.lines) = cc in
+        let command : ◌≡◌ {A = Command} (Open order.number order.until order.lines)
+            (Open order2.number order2.until order2.lines) =
+            cc in
         let head = request_same x y key (order.command ∙ command ∙ sym order2.command) in
         ap (λ z. z ∷ xs) head ∙ ap (λ l. y ∷ l) (tails same)
-    by (z ∷ zs) lines same key number until tails = absurd ((subst (StartsOther x.key) same (starts_other x.key rest xs other say)) refl)
+    by (z ∷ zs) lines same key number until tails =
+        absurd ((subst (StartsOther x.key) same (starts_other x.key rest xs other say)) refl)
 
 -- two ways to cut the same records in two
-halves : (xs ys zs ws : List Record) → xs ++ ys ≡ zs ++ ws → ((m : List Record) × (zs ≡ xs ++ m)) ⊎ ((m : List Record) × (xs ≡ zs ++ m) × (ws ≡ m ++ ys))
+halves : (xs ys zs ws : List Record) → xs ++ ys ≡ zs ++ ws
+    → ((m : List Record) × (zs ≡ xs ++ m)) ⊎ ((m : List Record) × (xs ≡ zs ++ m) × (ws ≡ m ++ ys))
 halves [] ys zs ws e = inl (zs, refl)
 halves (x ∷ xs) ys [] ws e = inr (x ∷ xs, refl, sym e)
 halves (x ∷ xs) ys (z ∷ zs) ws e = by (halves xs ys zs ws tails)
@@ -123,12 +135,16 @@ halves (x ∷ xs) ys (z ∷ zs) ws e = by (halves xs ys zs ws tails)
     head : x ≡ z
     head = cc
 
-    by : ((m : List Record) × (zs ≡ xs ++ m)) ⊎ ((m : List Record) × (xs ≡ zs ++ m) × (ws ≡ m ++ ys)) → ((m : List Record) × (z ∷ zs ≡ (x ∷ xs) ++ m)) ⊎ ((m : List Record) × (x ∷ xs ≡ (z ∷ zs) ++ m) × (ws ≡ m ++ ys))
+    by : ((m : List Record) × (zs ≡ xs ++ m)) ⊎ ((m : List Record) × (xs ≡ zs ++ m) × (ws ≡ m ++ ys))
+        → ((m : List Record) × (z ∷ zs ≡ (x ∷ xs) ++ m))
+            ⊎ ((m : List Record) × (x ∷ xs ≡ (z ∷ zs) ++ m) × (ws ≡ m ++ ys))
     by (inl (m, longer)) = inl (m, ap (λ a. a ∷ zs) (sym head) ∙ ap (λ l. x ∷ l) longer)
     by (inr (m, longer, rest)) = inr (m, ap (λ a. a ∷ xs) head ∙ ap (λ l. z ∷ l) longer, rest)
 
 -- the lines of the first records of an order
-front_lines : (f : OpenLine → Record) (lines : List OpenLine) (xs m : List Record) → map f lines ≡ xs ++ m → (front : List OpenLine) × (xs ≡ map f front) × (length front ≤ length lines) × (Each IsOpenLine lines → Each IsOpenLine front)
+front_lines : (f : OpenLine → Record) (lines : List OpenLine) (xs m : List Record) → map f lines ≡ xs ++ m
+    → (front : List OpenLine) × (xs ≡ map f front) × (length front ≤ length lines)
+        × (Each IsOpenLine lines → Each IsOpenLine front)
 front_lines f lines [] m e = ([], refl, omega arith, λ h. tt)
 front_lines f [] (x ∷ xs) m e = absurd (cc)
 front_lines f (l ∷ ls) (x ∷ xs) m e =
@@ -138,12 +154,16 @@ front_lines f (l ∷ ls) (x ∷ xs) m e =
     (l ∷ front, ap (λ a. a ∷ xs) (sym head) ∙ ap (λ r. f l ∷ r) same, omega arith, λ h. (h.0, each h.1))
 
 -- the first records of an order, one at least, are an order
-front_order : (x : Record) (xs m first : List Record) (r : Request) → IsOrder first r → first ≡ (x ∷ xs) ++ m → (s : Request) × IsOrder (x ∷ xs) s × (s.key ≡ r.key)
+front_order : (x : Record) (xs m first : List Record) (r : Request) → IsOrder first r → first ≡ (x ∷ xs) ++ m
+    → (s : Request) × IsOrder (x ∷ xs) s × (s.key ≡ r.key)
 front_order x xs m first r order e =
-    let (front, same, fits, each) = front_lines (order_row r.key order.number order.until) order.lines (x ∷ xs) m (sym order.records ∙ e) in
+    let (front, same, fits, each) =
+        front_lines (order_row r.key order.number order.until) order.lines (x ∷ xs) m (sym order.records ∙ e) in
     by front same fits each
   where
-    by : (front : List OpenLine) → x ∷ xs ≡ map (order_row r.key order.number order.until) front → length front ≤ length order.lines → (Each IsOpenLine order.lines → Each IsOpenLine front) → (s : Request) × IsOrder (x ∷ xs) s × (s.key ≡ r.key)
+    by : (front : List OpenLine) → x ∷ xs ≡ map (order_row r.key order.number order.until) front
+        → length front ≤ length order.lines → (Each IsOpenLine order.lines → Each IsOpenLine front)
+        → (s : Request) × IsOrder (x ∷ xs) s × (s.key ≡ r.key)
     by [] same fits each = absurd (cc)
     by (l ∷ ls) same fits each =
         let most = order.lines_form.fits in (
@@ -156,7 +176,13 @@ front_order x xs m first r order e =
             key_form = order.key_form;
             number_range = order.number_range;
             until_range = order.until_range;
-            lines_form = record { some = omega arith; fits = omega arith; each = All-from_recursion IsOpenLine (l ∷ ls) (each (recursion_from_All IsOpenLine order.lines order.lines_form.each)) };
+            lines_form = record {
+              some = omega arith;
+              fits = omega arith;
+              each =
+                  All-from_recursion IsOpenLine (l ∷ ls)
+                      (each (recursion_from_All IsOpenLine order.lines order.lines_form.each))
+            };
             records = same;
           },
           refl,
@@ -166,7 +192,8 @@ front_order x xs m first r order e =
 abbrev BeginsAs : List Request → List Request → Type 0
 BeginsAs requests front = (key : List ℕ) → IsOtherKey key requests → IsOtherKey key front
 
-front_says : (requests : List Request) (rows behind : List Record) → SayOrders (rows ++ behind) requests → (front : List Request) × SayOrders rows front × BeginsAs requests front
+front_says : (requests : List Request) (rows behind : List Record) → SayOrders (rows ++ behind) requests
+    → (front : List Request) × SayOrders rows front × BeginsAs requests front
 front_says requests [] behind h = ([], refl, λ key other. tt)
 front_says [] (x ∷ xs) behind h = absurd (cc)
 front_says (r ∷ rs) (x ∷ xs) behind (first, rest, split, order, other, say) =
@@ -182,7 +209,8 @@ front_says (r ∷ rs) (x ∷ xs) behind (first, rest, split, order, other, say) 
         let (front, said, begins) = more m same in
         (r ∷ front, (first, m, longer, order, begins r.key other, said), λ k apart. apart)
 
-orders_front : (rows behind : List Record) (xs : List Request) → SayOrders (rows ++ behind) xs → (ys : List Request) × SayOrders rows ys
+orders_front : (rows behind : List Record) (xs : List Request) → SayOrders (rows ++ behind) xs
+    → (ys : List Request) × SayOrders rows ys
 orders_front rows behind xs h = let (front, said, begins) = front_says xs rows behind h in (front, said)
 
 pub orders_say_one : SaysOne SayOrders

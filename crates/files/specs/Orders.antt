@@ -12,11 +12,11 @@ abbrev pub order_header : Record
 order_header =
     codes "key" ∷ codes "order" ∷ codes "until" ∷ codes "way" ∷ codes "branch" ∷ codes "article" ∷ codes "qty" ∷ []
 
--- the record of one line of an order: the key, and the words of an `open` with this line
+-- the record of one order line: the key, and the words of an `open` with this line
 abbrev pub order_row : List ℕ → ℕ → ℕ → OpenLine → Record
 order_row key number until line = key ∷ decimal number ∷ decimal until ∷ line_words (line ∷ [])
 
--- the records say this order: one for each of its 1 to 64 lines, and in all of them its key, number and end
+-- the records say this order: one record for each of its 1 to 64 lines, each with the order's key, number and end
 pub record IsOrder (rows : List Record) (request : Request) : Type 0 where
   pub number : ℕ
   pub until : ℕ

@@ -1,4 +1,4 @@
--- How an order file is read: row by row, with the last order open for further lines.
+-- How an order file is read: row by row, where the last order may get further lines.
 use Rattle.std.specs.Prelude.{◌≡◌, ◌<◌, length, List, [], ◌∷◌, ◌++◌, Option, None, Some}
 use Rattle.escrow.specs.Codes.{IsKey}
 use Rattle.escrow.specs.Ranges.{IsMoment, IsOrderNo}
@@ -11,7 +11,7 @@ use Rattle.files.specs.Orders.{SayOrders, order_row}
 use Rattle.files.specs.declared.orders.OpenOrder.{OpenOrder}
 use Rattle.files.specs.declared.orders.Row.{Row}
 
--- the record says this line of an order
+-- the record says this order line
 pub record IsRow (fields : Record) (row : Row) : Type 0 where
   pub key_form : IsKey row.key
   pub number_range : IsOrderNo row.number
@@ -19,15 +19,16 @@ pub record IsRow (fields : Record) (row : Row) : Type 0 where
   pub line_form : IsOpenLine row.line
   pub fields_are : fields ≡ order_row row.key row.number row.until row.line
 
--- the order of a row alone
+-- the order that one row begins
 abbrev pub order_of_row : Row → OpenOrder
 order_of_row row = record { key = row.key; number = row.number; until = row.until; lines = row.line ∷ [] }
 
--- the order with a line more
+-- the order with one line more
 abbrev pub with_line : OpenOrder → OpenLine → OpenOrder
 with_line o line = record o { lines = o.lines ++ line ∷ [] }
 
--- a row under the order's key is one line more of it: it has its number and its end, and a line more fits
+-- The row, under the order's key, is one more line of the order: it has the order's number and end, and one line more
+-- fits.
 abbrev pub Continues : OpenOrder → Row → Type 0
 Continues o row = (row.number ≡ o.number) × (row.until ≡ o.until) × (length o.lines < most_lines)
 
@@ -35,12 +36,13 @@ Continues o row = (row.number ≡ o.number) × (row.until ≡ o.until) × (lengt
 abbrev pub request_of : OpenOrder → Request
 request_of o = record { key = o.key; command = Open o.number o.until o.lines }
 
--- the rows say the requests that are done and, behind them, the order that is open; before the first row there is none
+-- the rows say the requests that are done and, behind them, the order that may get further lines; before the first
+-- row there is none
 abbrev pub TookRows : List Request → Option OpenOrder → List Record → Type 0
 TookRows done None rows = (done ≡ []) × (rows ≡ [])
 TookRows done (Some o) rows = SayOrders rows (done ++ request_of o ∷ [])
 
--- the requests that are done, and behind them the order that is open
+-- the requests that are done, and behind them the order that may get further lines
 abbrev pub requests_of : List Request → Option OpenOrder → List Request
 requests_of done None = done
 requests_of done (Some o) = done ++ request_of o ∷ []

@@ -10,27 +10,27 @@ use Rattle.files.specs.declared.sheet.Shown.TheVariants.{OfArticle, OfBranch}
 
 -- ---- columns
 
--- a text left in a column of this width, with spaces behind it
+-- a text to the left in a column of this width, with spaces behind it
 abbrev pub left : ℕ → List ℕ → List ℕ
 left width text = text ++ replicate (width - length text) 32
 
--- a number right in a column of this width, with spaces before it
+-- a number to the right in a column of this width, with spaces before it
 abbrev pub right : ℕ → ℕ → List ℕ
 right width n = replicate (width - length (decimal n)) 32 ++ decimal n
 
--- a space, and a level right in 10
+-- a space, and a level to the right in 10 columns
 abbrev pub level_column : ℕ → List ℕ
 level_column n = codes " " ++ right 10 n
 
 -- ---- lines
 
--- a title left in 16, and the field's bounds, value, infimum and supremum
+-- a title to the left in 16 columns, and the field's bounds, value, infimum and supremum
 abbrev pub field_line : List ℕ → FieldView → List ℕ
 field_line title v =
     left 16 title ++ level_column v.lo ++ level_column v.hi ++ level_column v.value ++ level_column v.inf
     ++ level_column v.sup ++ codes "\n"
 
--- the word `total` left in 16, a space, and the total right in 14
+-- the word `total` to the left in 16 columns, a space, and the total to the right in 14
 abbrev pub total_line : ℕ → List ℕ
 total_line n = left 16 (codes "total") ++ codes " " ++ right 14 n ++ codes "\n"
 
@@ -55,14 +55,14 @@ IsBranchSheet A branch text = IsSheet (λ f. bytes_eq f.branch branch) (λ v. v.
 abbrev pub IsArticleSheet : Ledger → List ℕ → List ℕ → Type 0
 IsArticleSheet A article text = IsSheet (λ f. bytes_eq f.article article) (λ v. v.branch) A text
 
--- ---- what a sheet is of
+-- ---- what a sheet shows
 
--- whether a field is on it
+-- whether a field is on the sheet
 abbrev pub is_on : Shown → Name → Bool
 is_on (OfBranch branch) f = bytes_eq f.branch branch
 is_on (OfArticle article) f = bytes_eq f.article article
 
--- what its line has in front
+-- what stands in front in the field's line
 abbrev pub title_of : Shown → FieldView → List ℕ
 title_of (OfBranch branch) v = v.article
 title_of (OfArticle article) v = v.branch

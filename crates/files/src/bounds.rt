@@ -16,7 +16,7 @@ use std::alloc::Global;
 use std::io::Read;
 use words::{Command, Request};
 
-/// The command that a record says, other bounds of a field, and its key.
+/// Returns the command that a record says, which gives a field other bounds, and its key.
 fn rebound_of(row: &ByteRecord) -> Option<(Key, Command)>
     ensures some { IfSome result (λ r. IsRebound (fields_of row.now) (under_key r.0 r.1)) }
     ensures none { IfNone result ((request : Request) → IsRebound (fields_of row.now) request → ⊥) }
@@ -65,10 +65,10 @@ impl Single for Bounds {
     }
 }
 
-/// The other bounds that a file gives to fields, each under its key. Its first record is exactly
-/// `key,branch,article,lo,hi`, and each further one a `rebound` in the spelling of commands. `BadRecord` names the
-/// first record at fault: 0 is the header, also where there is none, and those behind it count from 1. Records are
-/// those of the crate `csv`: blank lines are none, and no field is trimmed.
+/// Reads a file of bounds, and returns the other bounds that it gives to fields, each under its key. The first record
+/// must be exactly `key,branch,article,lo,hi`, and each further one a `rebound` in the spelling of commands.
+/// `BadRecord` names the first record at fault: 0 is the header, also where it is missing, and the records after it
+/// count from 1. Records are those of the crate `csv`: a blank line is no record, and no value is trimmed.
 pub fn read_bounds<R: Read + Drop>(alloc: Global, reader: R) -> Result<Vec<Request>, FileFault>
     ensures ok { IfOk result (λ requests. IfSome (R.remaining reader) (λ bytes.
         IsFile bounds_header SayBounds bytes requests.items)) }

@@ -16,7 +16,7 @@ use std::alloc::Global;
 use std::io::Read;
 use words::{Command, Request};
 
-/// The delivery that a record says, and its key.
+/// Returns the delivery that a record says, and its key.
 fn delivery_of(row: &ByteRecord) -> Option<(Key, Command)>
     ensures some { IfSome result (λ r. IsDelivery (fields_of row.now) (under_key r.0 r.1)) }
     ensures none { IfNone result ((request : Request) → IsDelivery (fields_of row.now) request → ⊥) }
@@ -62,10 +62,10 @@ impl Single for Deliveries {
     }
 }
 
-/// The deliveries of a file, each under its key. Its first record is exactly `key,branch,article,qty`, and each further
-/// one a delivery in the spelling of commands. `BadRecord` names the first record at fault: 0 is the header, also where
-/// there is none, and those behind it count from 1. Records are those of the crate `csv`: blank lines are none, and no
-/// field is trimmed.
+/// Reads a delivery file, and returns its deliveries, each under its key. The first record must be exactly
+/// `key,branch,article,qty`, and each further one a `deliver` in the spelling of commands. `BadRecord` names the first
+/// record at fault: 0 is the header, also where it is missing, and the records after it count from 1. Records are those
+/// of the crate `csv`: a blank line is no record, and no value is trimmed.
 pub fn read_deliveries<R: Read + Drop>(alloc: Global, reader: R) -> Result<Vec<Request>, FileFault>
     ensures ok { IfOk result (λ requests. IfSome (R.remaining reader) (λ bytes.
         IsFile delivery_header SayDeliveries bytes requests.items)) }

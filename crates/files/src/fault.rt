@@ -1,4 +1,4 @@
-//! Why there are no requests, or no whole sheet.
+//! Why a file gave no requests, and why a sheet is not whole.
 
 ghost use Rattle.std.specs.Prelude.{◌≡◌, ◌⊎◌};
 
@@ -8,7 +8,8 @@ use thiserror::Error;
 /// Why a file gave no requests.
 #[derive(Clone, Copy, Debug, PartialEq, Eq, Error)]
 pub enum FileFault {
-    /// The first record at fault: 0 is the header, also where there is none, and those behind it count from 1.
+    /// This is the first record at fault: 0 is the header, also where it is missing, and the records after it count
+    /// from 1.
     #[error("record {0}")]
     BadRecord(u64),
     /// Memory was refused.
@@ -30,7 +31,7 @@ pub enum SheetFault {
     Io,
 }
 
-/// What a fault of the reader of records is told as.
+/// Returns what a fault of the reader of records becomes.
 pub(crate) fn fault_of(error: &CsvError) -> FileFault
     ensures { (result ≡ FileFault.Memory) ⊎ (result ≡ FileFault.Io) }
 {

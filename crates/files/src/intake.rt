@@ -16,13 +16,13 @@ pub trait Intake: Sized + Drop {
     /// The header.
     ghost header: { Record };
 
-    /// The requests that the records behind the header say.
+    /// The requests that the records after the header say.
     ghost says: { List Record → List Request → Type 0 };
 
-    /// The records behind the header that were taken in.
+    /// The records after the header that were taken in.
     ghost took: { Self → List Record → Type 0 };
 
-    /// Whether the record is the header.
+    /// Returns whether the record is the header.
     fn is_header(row: &ByteRecord) -> bool
         ensures { IsTrue result ↔ (fields_of row.now ≡ header) };
 

@@ -1,4 +1,4 @@
-//! What is true of every file and every sheet.
+//! What is true of every file and every sheet. The functions do nothing when run; the contract of each is a law.
 
 ghost use Rattle.std.specs.Prelude.{◌≡◌, ◌+◌, ◌*◌, ℕ, List, filter, length};
 ghost use Rattle.std.specs.Str.{bytes_eq};

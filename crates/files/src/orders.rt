@@ -19,7 +19,7 @@ use std::alloc::Global;
 use std::io::Read;
 use words::{Command, Memory, OpenLine, OpenLines, Request, SpelledCommand, read_way};
 
-/// What one record says: a line of an order.
+/// What one record says: an order line, and its order.
 #[derive(Clone, Copy)]
 pub struct Row {
     pub key: Key,
@@ -28,7 +28,7 @@ pub struct Row {
     pub line: OpenLine,
 }
 
-/// An order to which lines may be added.
+/// An order to which order lines may be added.
 #[derive(Drop)]
 pub struct OpenOrder {
     pub key: Key,
@@ -37,7 +37,7 @@ pub struct OpenOrder {
     pub lines: OpenLines,
 }
 
-/// The line that the last four fields of a record say.
+/// Returns the order line that the last four values of a record say.
 fn line_of(way: &[u8], branch: &[u8], article: &[u8], qty: &[u8]) -> Option<OpenLine>
     ensures form { IfSome result IsOpenLine }
     ensures found { IfSome result (λ line. way.now ∷ branch.now ∷ article.now ∷ qty.now ∷ [] ≡ line_words (line ∷ [])) }
@@ -56,7 +56,7 @@ fn line_of(way: &[u8], branch: &[u8], article: &[u8], qty: &[u8]) -> Option<Open
     })
 }
 
-/// What a record says.
+/// Returns what a record says.
 fn row_of(row: &ByteRecord) -> Option<Row>
     ensures some { IfSome result (IsRow (fields_of row.now)) }
     ensures none { IfNone result ((said : Row) → IsRow (fields_of row.now) said → ⊥) }
@@ -75,7 +75,7 @@ fn row_of(row: &ByteRecord) -> Option<Row>
 }
 
 impl OpenOrder {
-    /// The order of one row.
+    /// Returns the order of one row.
     fn begin(alloc: Global, row: &Row) -> Result<OpenOrder, Memory>
         ensures { IfOk result (λ order. order ≡ order_of_row row.now) }
     {
@@ -94,21 +94,21 @@ impl OpenOrder {
         })
     }
 
-    /// Whether it is the order's key.
+    /// Returns whether this is the order's key.
     fn has_key(&self, key: &Key) -> bool
         ensures { IsTrue result ↔ (self.now.key ≡ key.now) }
     {
         self.key.as_bytes() == key.as_bytes()
     }
 
-    /// Whether the row has the order's number and its end.
+    /// Returns whether the row has the order's number and its end.
     fn agrees(&self, row: &Row) -> bool
         ensures { IsTrue result ↔ ((row.now.number ≡ self.now.number) × (row.now.until ≡ self.now.until)) }
     {
         row.number.get() == self.number.get() && row.until.get() == self.until.get()
     }
 
-    /// The order with a line more, or `None` exactly where it has 64.
+    /// Returns the order with one line more, or `None` exactly where it has 64 lines.
     fn with(self, line: OpenLine) -> Result<Option<OpenOrder>, Memory>
         ensures more { IfOk result (λ found. IfSome found (λ longer. longer
             ≡ record self { lines = self.lines ++ line ∷ [] })) }
@@ -136,7 +136,7 @@ impl OpenOrder {
         }
     }
 
-    /// The order as a request.
+    /// Returns the order as a request.
     fn into_request(self, alloc: Global) -> Result<Request, Memory>
         ensures { IfOk result (λ request. request ≡ request_of self) }
     {
@@ -164,7 +164,7 @@ struct Orders {
 }
 
 impl Orders {
-    /// Goes on with the order by a row under its key, if that fits.
+    /// Goes on with the order by a row under its key. Returns whether the row fits.
     fn go_on(&mut self, order: OpenOrder, row: &Row) -> Result<bool, Memory>
         ensures done { self.new.done.items ≡ self.old.done.items }
         ensures good { IfOk result (λ good. IsTrue good → Continues order row.now
@@ -246,11 +246,12 @@ impl Intake for Orders {
     }
 }
 
-/// The orders of a file. Its first record is exactly `key,order,until,way,branch,article,qty`, and each further one is
-/// a line of an order in the spelling of commands. Neighbouring records with one key are one `open`, with their 1 to 64
-/// lines in their order; order and until are equal in all of them. `BadRecord` names the first record at fault: 0 is
-/// the header, also where there is none, and those behind it count from 1. Records are those of the crate `csv`: blank
-/// lines are none, and no field is trimmed.
+/// Reads an order file, and returns its orders. The first record must be exactly
+/// `key,order,until,way,branch,article,qty`, and each further one an order line in the spelling of commands.
+/// Neighbouring records with one key are one `open`, with their 1 to 64 order lines as they come; `order` and `until`
+/// must be equal in all of them. `BadRecord` names the first record at fault: 0 is the header, also where it is
+/// missing, and the records after it count from 1. Records are those of the crate `csv`: a blank line is no record, and
+/// no value is trimmed.
 pub fn read_orders<R: Read + Drop>(alloc: Global, reader: R) -> Result<Vec<Request>, FileFault>
     ensures ok { IfOk result (λ requests. IfSome (R.remaining reader) (λ bytes.
         IsFile order_header SayOrders bytes requests.items)) }

@@ -1,11 +1,11 @@
-//! The fields of a record.
+//! The values of a record, which `csv` calls fields.
 
 ghost use Rattle.std.specs.Prelude.{◌≡◌, ◌≢◌, ◌∷◌, [], IfNone, IfSome, length};
 ghost use Rattle.csv.specs.Records.{fields_of};
 
 use csv::ByteRecord;
 
-/// The fields of a record that has four, or `None` exactly where it has not.
+/// Returns the values of a record that has four, or `None` exactly where it has another number of them.
 pub fn four_fields(row: &ByteRecord) -> Option<(&[u8], &[u8], &[u8], &[u8])>
     ensures some { IfSome result (λ f. fields_of row.now ≡ f.0.now ∷ f.1.now ∷ f.2.now ∷ f.3.now ∷ []) }
     ensures none { IfNone result (length (fields_of row.now) ≢ 4) }
@@ -20,7 +20,7 @@ pub fn four_fields(row: &ByteRecord) -> Option<(&[u8], &[u8], &[u8], &[u8])>
     Some((first, second, third, fourth))
 }
 
-/// The fields of a record that has five, or `None` exactly where it has not.
+/// Returns the values of a record that has five, or `None` exactly where it has another number of them.
 pub fn five_fields(row: &ByteRecord) -> Option<(&[u8], &[u8], &[u8], &[u8], &[u8])>
     ensures some { IfSome result (λ f. fields_of row.now ≡ f.0.now ∷ f.1.now ∷ f.2.now ∷ f.3.now ∷ f.4.now ∷ []) }
     ensures none { IfNone result (length (fields_of row.now) ≢ 5) }
@@ -36,7 +36,7 @@ pub fn five_fields(row: &ByteRecord) -> Option<(&[u8], &[u8], &[u8], &[u8], &[u8
     Some((first, second, third, fourth, fifth))
 }
 
-/// The fields of a record that has seven.
+/// The values of a record that has seven.
 #[derive(Clone, Copy)]
 pub struct Seven<'a> {
     pub first: &'a [u8],
@@ -48,7 +48,7 @@ pub struct Seven<'a> {
     pub seventh: &'a [u8],
 }
 
-/// The fields of a record that has seven, or `None` exactly where it has not.
+/// Returns the values of a record that has seven, or `None` exactly where it has another number of them.
 pub fn seven_fields(row: &ByteRecord) -> Option<Seven<'_>>
     ensures some { IfSome result (λ f. fields_of row.now ≡ f.first.now ∷ f.second.now ∷ f.third.now ∷ f.fourth.now
         ∷ f.fifth.now ∷ f.sixth.now ∷ f.seventh.now ∷ []) }

@@ -13,10 +13,10 @@ use std::alloc::Global;
 use std::io::Write;
 use words::{Memory, write_whole};
 
-/// The greatest width of a column.
+/// So many spaces as the widest column has.
 const SPACES: [u8; 16] = [b' '; 16];
 
-/// What a sheet is of.
+/// What a sheet shows.
 #[derive(Clone, Copy)]
 pub enum Shown {
     OfBranch(Branch),
@@ -24,7 +24,7 @@ pub enum Shown {
 }
 
 impl Shown {
-    /// What a field's line has in front, where the field is on the sheet.
+    /// Returns what stands in front in a field's line, where the field is on the sheet.
     fn title<'a>(&self, view: &'a FieldView) -> Option<&'a [u8]>
         ensures { let on = is_on self.now (name_of view.now.branch view.now.article) in MatchOption result (on ≡ false)
             (λ title. (on ≡ true) × (title.now ≡ title_of self.now view.now)) }
@@ -47,7 +47,7 @@ fn push_text(out: &mut Vec<u8>, text: &[u8]) -> Result<(), Memory>
     Ok(out.extend_from_slice(text)?)
 }
 
-/// Appends as many spaces as a text of that length lacks in a column.
+/// Appends the spaces that a text of that length needs to fill a column.
 fn push_spaces(out: &mut Vec<u8>, width: usize, len: usize) -> Result<(), Memory>
     requires { width ≤ 16 }
     ensures { OnOk result (out.new.items ≡ out.old.items ++ replicate (width - len) 32) }
@@ -55,7 +55,7 @@ fn push_spaces(out: &mut Vec<u8>, width: usize, len: usize) -> Result<(), Memory
     push_text(out, &SPACES[..width.saturating_sub(len)])
 }
 
-/// Appends a text left in a column.
+/// Appends a text to the left in a column.
 fn push_left(out: &mut Vec<u8>, width: usize, text: &[u8]) -> Result<(), Memory>
     requires { width ≤ 16 }
     ensures { OnOk result (out.new.items ≡ out.old.items ++ left width text.now) }
@@ -64,7 +64,7 @@ fn push_left(out: &mut Vec<u8>, width: usize, text: &[u8]) -> Result<(), Memory>
     push_spaces(out, width, text.len())
 }
 
-/// Appends a space, and a number right in a column.
+/// Appends a space, and a number to the right in a column.
 fn push_right(out: &mut Vec<u8>, width: usize, number: u128) -> Result<(), Memory>
     requires { width ≤ 16 }
     ensures { OnOk result (out.new.items ≡ out.old.items ++ codes " " ++ right width number) }
@@ -104,7 +104,7 @@ fn push_total(out: &mut Vec<u8>, total: u128) -> Result<(), Memory>
     push_text(out, b"\n")
 }
 
-/// The text of a sheet.
+/// Returns the text of a sheet.
 fn text_of(alloc: Global, book: &Book, shown: Shown) -> Result<Vec<u8>, Memory>
     ensures { IfOk result (λ text. IsSheet (is_on shown) (title_of shown) book.now.ledger text.items) }
 {
@@ -123,7 +123,7 @@ fn text_of(alloc: Global, book: &Book, shown: Shown) -> Result<Vec<u8>, Memory>
     Ok(text)
 }
 
-/// Makes the text of a sheet, then writes it.
+/// Makes the whole text of a sheet, and then writes it.
 fn write_sheet<W: Write>(
     alloc: Global,
     book: &Book,
@@ -147,10 +147,11 @@ fn write_sheet<W: Write>(
     }
 }
 
-/// The sheet of a branch: a line for each of its fields, in the order of articles, and the total of their values. A
-/// line has the article, left in 16, and the bounds, the value, the infimum and the supremum, each after a space and
-/// right in 10; the last one `total`, left in 16, and the total, after a space and right in 14. The whole text is made
-/// before any of it is written: after `Memory` nothing is, and after `Io` a beginning.
+/// Writes the sheet of a branch: a line for each of its fields, in the order of articles, and a last line with the
+/// total of their values. A line has the article, to the left in 16 columns; then `lo`, `hi`, the value, the infimum
+/// and the supremum follow, each as a space and 10 columns, to the right. The last line has `total`, to the left in
+/// 16 columns, a space, and the total, to the right in 14 columns. The whole text is made before any of it is
+/// written: after `Memory` nothing is written, and after `Io` a beginning.
 pub fn branch_sheet<W: Write>(
     alloc: Global,
     book: &Book,
@@ -167,8 +168,8 @@ pub fn branch_sheet<W: Write>(
     write_sheet(alloc, book, Shown::OfBranch(branch), writer)
 }
 
-/// The sheet of an article: a line for each of its fields, in the order of branches, and the total of their values,
-/// laid out as in the sheet of a branch with the branch in front.
+/// Writes the sheet of an article: a line for each of its fields, in the order of branches, and a last line with the
+/// total of their values. It is laid out as the sheet of a branch, with the branch in front.
 pub fn article_sheet<W: Write>(
     alloc: Global,
     book: &Book,

@@ -1,4 +1,4 @@
-//! Files of which each record is a request by itself.
+//! Files in which each record after the header is one request.
 
 ghost use Rattle.std.specs.Prelude.{◌≡◌, ◌↔◌, IfErr, IfNone, IfOk, IfSome, IsTrue};
 ghost use Rattle.std.specs.List.{AllZip};
@@ -14,7 +14,7 @@ use std::alloc::Global;
 use std::io::Read;
 use words::{Command, Memory, Request, SpelledCommand};
 
-/// A kind of file of which each record behind the header is one request.
+/// A kind of file in which each record after the header is one request.
 pub trait Single: Sized + Drop {
     /// The header.
     ghost header: { Record };
@@ -22,17 +22,17 @@ pub trait Single: Sized + Drop {
     /// The record says the request.
     ghost says: { Record → Request → Type 0 };
 
-    /// Whether the record is the header.
+    /// Returns whether the record is the header.
     fn is_header(row: &ByteRecord) -> bool
         ensures { IsTrue result ↔ (fields_of row.now ≡ header) };
 
-    /// The key and the command of the request that a record says.
+    /// Returns the key and the command of the request that a record says.
     fn command_of(row: &ByteRecord) -> Option<(Key, Command)>
         ensures some { IfSome result (λ r. says (fields_of row.now) (under_key r.0 r.1)) }
         ensures none { IfNone result ((request : Request) → says (fields_of row.now) request → ⊥) };
 }
 
-/// The requests of a file of that kind so far.
+/// The requests that a file of that kind has given so far.
 #[derive(Drop)]
 struct Singles<S: Single> {
     kind: S,
@@ -69,7 +69,7 @@ impl<S: Single> Intake for Singles<S> {
     }
 }
 
-/// The requests of a file of that kind, or its first record at fault.
+/// Reads a file of that kind, and returns its requests, or the first record at fault.
 pub fn read_singles<S: Single, R: Read + Drop>(
     alloc: Global,
     reader: R,

@@ -1,4 +1,4 @@
-//! The numbers that stand in a field by itself, in the spelling of commands.
+//! The numbers that stand by themselves in a value of a record, in the spelling of commands.
 
 ghost use Rattle.std.specs.Prelude.{◌≡◌, ◌≢◌, ℕ, IfNone, IfSome, decimal};
 ghost use Rattle.escrow.specs.Ranges.{IsLevel, IsMoment, IsOrderNo, IsQty};
@@ -6,7 +6,7 @@ ghost use Rattle.escrow.specs.Ranges.{IsLevel, IsMoment, IsOrderNo, IsQty};
 use escrow::{Level, Moment, OrderNo, Qty};
 use words::read_number;
 
-/// The quantity that the bytes write.
+/// Returns the quantity that the bytes spell.
 pub fn read_qty(bytes: &[u8]) -> Option<Qty>
     ensures form { IfSome result IsQty }
     ensures found { IfSome result (λ n. bytes.now ≡ decimal n) }
@@ -16,7 +16,7 @@ pub fn read_qty(bytes: &[u8]) -> Option<Qty>
     Qty::new(number)
 }
 
-/// The level that the bytes write.
+/// Returns the level that the bytes spell.
 pub fn read_level(bytes: &[u8]) -> Option<Level>
     ensures form { IfSome result IsLevel }
     ensures found { IfSome result (λ n. bytes.now ≡ decimal n) }
@@ -26,7 +26,7 @@ pub fn read_level(bytes: &[u8]) -> Option<Level>
     Level::new(number)
 }
 
-/// The moment that the bytes write.
+/// Returns the moment that the bytes spell.
 pub fn read_moment(bytes: &[u8]) -> Option<Moment>
     ensures form { IfSome result IsMoment }
     ensures found { IfSome result (λ n. bytes.now ≡ decimal n) }
@@ -36,7 +36,7 @@ pub fn read_moment(bytes: &[u8]) -> Option<Moment>
     Moment::new(number)
 }
 
-/// The order's number that the bytes write.
+/// Returns the number of an order that the bytes spell.
 pub fn read_order_no(bytes: &[u8]) -> Option<OrderNo>
     ensures form { IfSome result IsOrderNo }
     ensures found { IfSome result (λ n. bytes.now ≡ decimal n) }

@@ -1,5 +1,6 @@
 -- What the answers of a search by halving show.
-use Rattle.index.proofs.Prelude.{Equal, Greater, Less, List, Ordering, Some, [], arith, get_or_from_slice_get, length, refl, slice_get, slice_get_within, ℕ, ◌+◌, ◌∷◌, ◌≡◌, ◌≤◌}
+use Rattle.index.proofs.Prelude.{Equal, Greater, Less, List, Ordering, Some, [], arith, get_or_from_slice_get, length,
+    refl, slice_get, slice_get_within, ℕ, ◌+◌, ◌∷◌, ◌≡◌, ◌≤◌}
 use Rattle.std.specs.Borrow.{Bor}
 use Rattle.std.specs.Fn.{Called, ComputesKey, Mut}
 use Rattle.std.specs.List.{AllWithin, HoldsAt}
@@ -25,19 +26,24 @@ module _ {X : Type 0} (ord : X → Ordering) (xs : List X) where
   module _ (low high middle : ℕ) (narrowed : IsNarrowed low high) (x : X) (there : slice_get xs middle ≡ Some x) where
     pub behind : ord x ≡ Less → IsNarrowed (middle + 1) high
     behind is = record {
-      less = λ rises k d at below. bottom _ (let up = rises k middle d (omega (arith, below)) (slice_get_within xs middle x there) in rw (get_or_from_slice_get xs middle x d there, is) at up);
+      less = λ rises k d at below. bottom _
+          (let up = rises k middle d (omega (arith, below)) (slice_get_within xs middle x there) in
+              rw (get_or_from_slice_get xs middle x d there, is) at up);
       greater = narrowed.greater;
     }
 
     pub in_front : ord x ≡ Greater → IsNarrowed low middle
     in_front is = record {
       less = narrowed.less;
-      greater = λ rises k d at below. top _ (let up = rises middle k d at below in rw (get_or_from_slice_get xs middle x d there, is) at up);
+      greater = λ rises k d at below.
+          top _ (let up = rises middle k d at below in rw (get_or_from_slice_get xs middle x d there, is) at up);
     }
 
   pub found : (middle : ℕ) (x : X) → slice_get xs middle ≡ Some x → ord x ≡ Equal → HoldsAt (λ x. ord x ≡ Equal) xs middle
   found middle x there is d = rw (get_or_from_slice_get xs middle x d there) is
 
 -- a call answers by ord, and so do those after it
-pub answered : {F X : Type 0} (g : Mut F (Bor X × Unit {0}) Ordering) (ord : X → Ordering) (f : F) (x : Bor X × Unit {0}) (r : Ordering) (f' : F) → Called g f x r f' → ComputesKey g ord f → (r ≡ ord x.0.now) × ComputesKey g ord f'
+pub answered : {F X : Type 0} (g : Mut F (Bor X × Unit {0}) Ordering) (ord : X → Ordering) (f : F)
+    (x : Bor X × Unit {0}) (r : Ordering) (f' : F) → Called g f x r f' → ComputesKey g ord f
+    → (r ≡ ord x.0.now) × ComputesKey g ord f'
 answered g ord f x r f' call h = ((h.at (x ∷ []) r f' call).0, record { at = λ xs. (h.at (x ∷ xs) r f' call).1 })

@@ -2,16 +2,16 @@
 use Rattle.std.specs.Prelude.{◌≡◌, ℕ, [], ◌∷◌, ◌++◌, ◌-◌, ◌^◌, ◌≤◌, min, List, length}
 use Rattle.std.specs.List.{AllByRecursion}
 
--- the memory that is kept: for how many blocks the table has slots, and for how many items each block
+-- how the memory is laid out: for how many blocks the table has slots, and for how many items each block has
 pub record BlockStorage : Type 0 where
   pub table : ℕ
   pub blocks : List ℕ
 
--- none
+-- no memory
 abbrev pub no_blocks : BlockStorage
 no_blocks = record { table = 0; blocks = [] }
 
--- what contracts see: the items, how many fit without memory, and the memory that is kept
+-- what contracts see: the items, for how many items there is memory, and how that memory is laid out
 pub record Items (T : Type 0) : Type 0 where
   pub items : List T
   pub capacity : ℕ
@@ -27,7 +27,7 @@ abbrev pub IsFilled : {T : Type 0} → ℕ → List (List T) → Type 0
 IsFilled n [] = n ≡ 0
 IsFilled n (b ∷ bs) = (length b ≡ min n 1024) × IsFilled (n - 1024) bs
 
--- so many items lie in blocks of these capacities, which are at most as many as 2 ^ 32 items fill
+-- n items lie in blocks of these capacities; there are at most as many blocks as 2 ^ 32 items fill
 pub record IsInBlocks {T : Type 0} (n : ℕ) (blocks : List (List T)) (capacities : List ℕ) : Type 0 where
   pub filled : IsFilled n blocks
   pub roomy : AllByRecursion (λ c. 1024 ≤ c) capacities

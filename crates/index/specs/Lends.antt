@@ -17,6 +17,7 @@ module _ (K V : RattleType) (key : OrdMembers K.Denot) where
     abbrev pub LendsAt : ℕ → MutBor V.Denot → Fml
     LendsAt place r = Lends entries_row V m r (λ v. record m.now { entries = set_value_at m.now.entries place v })
 
-    -- the entry whose key passes has it, and at `None` all stays
+    -- the entry whose key passes the test has the last value that is written through r; where r is `None`, all
+    -- entries stay as they were
     abbrev pub LendsUnder : (K.Denot → Bool) → Option (MutBor V.Denot) → Fml
     LendsUnder test r = LendsIf entries_row V m r (λ v. record m.now { entries = set_value test m.now.entries v }) m.now

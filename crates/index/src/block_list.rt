@@ -1,4 +1,4 @@
-//! A list into which one item more goes at any place, and out of which one comes, by moving few of those behind it.
+//! A list in which an item can be put in or taken out at any place by moving few of the items after it.
 
 ghost use Rattle.std.specs.Prelude.{◌≡◌, ◌≤◌, ◌<◌, ◌+◌, ◌-◌, ◌++◌, ◌∷◌, ◌^◌, [], Some, length, slice_get, slice_set, OnOk, OnErr};
 ghost use Rattle.std.specs.Fn.{ComputesKey};
@@ -18,8 +18,8 @@ const BLOCK_LEN: usize = 1024;
 /// How many items there can be.
 const MAX_LEN: usize = 1 << 32;
 
-/// A list in blocks, each of them full but the last. Contracts see the items, how many fit without memory, and the
-/// memory that is kept.
+/// A list in blocks, each of them full but the last. Contracts see the items, for how many items there is memory, and
+/// how that memory is laid out.
 #[derive(Drop)]
 pub struct BlockList<T> {
     blocks: Vec<VecDeque<T>>,
@@ -57,7 +57,7 @@ fn put_in<T: Drop>(block: &mut VecDeque<T>, place: usize, item: T)
     block.rotate_right(place);
 }
 
-/// Puts an item into a full block, and gives back the last. Takes no memory.
+/// Puts an item into a full block, and returns the item that was the last. Takes no memory.
 fn push_through<T: Drop>(block: &mut VecDeque<T>, place: usize, item: T) -> T
     requires full { length block.old.items ≡ 1024 }
     requires room { 1024 ≤ deque_capacity block.old }
@@ -86,7 +86,7 @@ fn take_out<T>(block: &mut VecDeque<T>, place: usize) -> T
 }
 
 impl<T> BlockList<T> {
-    /// No items. Takes no memory.
+    /// Returns a list without items. Takes no memory.
     pub fn new(alloc: Global) -> BlockList<T>
         ensures { result ≡ record { items = []; capacity = 0; storage = no_blocks } }
     {
@@ -96,7 +96,7 @@ impl<T> BlockList<T> {
         }
     }
 
-    /// How many items there are.
+    /// Returns how many items there are.
     pub fn len(&self) -> usize
         ensures value { result ≡ length self.now.items }
         ensures fits { length self.now.items ≤ self.now.capacity }
@@ -105,7 +105,7 @@ impl<T> BlockList<T> {
         self.len
     }
 
-    /// How many items fit without memory.
+    /// Returns how many items the list has memory for, those in it included.
     pub fn capacity(&self) -> usize
         ensures value { result ≡ self.now.capacity }
         ensures fits { length self.now.items ≤ self.now.capacity }
@@ -114,7 +114,7 @@ impl<T> BlockList<T> {
         BLOCK_LEN * self.blocks.len()
     }
 
-    /// The item at a place.
+    /// Returns the item at a place.
     pub fn get(&self, place: usize) -> &T
         requires { place < length self.now.items }
         ensures { slice_get self.now.items place ≡ Some result.now }
@@ -122,7 +122,7 @@ impl<T> BlockList<T> {
         &self.blocks[place / BLOCK_LEN][place % BLOCK_LEN]
     }
 
-    /// Puts an item in place of the one there.
+    /// Replaces the item at a place.
     pub fn set(&mut self, place: usize, item: T)
     where
         T: Drop,
@@ -134,7 +134,7 @@ impl<T> BlockList<T> {
         self.blocks[place / BLOCK_LEN][place % BLOCK_LEN] = item;
     }
 
-    /// Searches by halving, as a slice is searched: `f` says how an item stands to what is looked for.
+    /// Searches by halving, as a slice's `binary_search_by` does: `f` compares an item with what is looked for.
     pub fn binary_search_by<F: FnMut(&T) -> Ordering>(&self, mut f: F) -> Result<usize, usize>
         requires { F.IsAlwaysCallable f }
         ensures bound { IsSearchInRange result (length self.now.items) }
@@ -154,7 +154,8 @@ impl<T> BlockList<T> {
         Err(low)
     }
 
-    /// Makes room for so many items more. Where there was such room, no memory is wanted and nothing changes.
+    /// Makes room for so many items more; the items stay as they are. Where there is that room already, the call
+    /// succeeds without taking memory and changes nothing.
     pub fn reserve(&mut self, additional: usize) -> Result<(), AllocError>
     where
         T: Drop,
@@ -199,8 +200,8 @@ impl<T> BlockList<T> {
         self.len += 1;
     }
 
-    /// Takes the item at a place out and gives it back. Those behind it move up by one. Takes no memory, and gives
-    /// none back.
+    /// Takes the item at a place out, and returns it. The items after it move up by one. Takes no memory, and frees
+    /// none.
     pub fn remove(&mut self, place: usize) -> T
     where
         T: Drop,

@@ -1,4 +1,4 @@
-//! Entries in the order of their keys: found by halving, and put in by moving indexes alone.
+//! Entries in the order of their keys. An entry is found by halving, and is put in by moving indexes alone.
 
 ghost use Rattle.std.specs.Prelude.{◌≡◌, ◌≤◌, ◌<◌, ◌+◌, ◌-◌, ◌^◌, [], length, slice_get, IfOk, IfErr, IsSome, OnOk, OnErr, vec_len};
 ghost use Rattle.std.specs.List.Sorted.{IsPermutation, IsStrictlySortedBy};
@@ -14,8 +14,9 @@ use std::alloc::{AllocError, Global};
 use std::cmp::Ordering;
 use std::marker::Model;
 
-/// Entries in the order of their keys. They lie as they came, under an index in that order. Contracts see them in
-/// the order of their keys, beside how many more fit without memory, and the memory that is kept.
+/// Entries in the order of their keys. In memory they lie in the order in which they came, and an index has them in
+/// the order of their keys. Contracts see the entries in the order of their keys, how many more fit without more
+/// memory, and how the memory is laid out.
 #[derive(Drop)]
 pub struct InOrder<K: Ord, V> {
     entries: Vec<(K, V)>,
@@ -37,7 +38,7 @@ impl<K: Ord, V> Model for InOrder<K, V> {
     ghost invariant = { λ m. IsKeyOrder K.cmp m.entries.items m.order.items };
 }
 
-/// How the key of the entry at an index compares with this key. Each index names an entry.
+/// Returns how the key of the entry at an index compares with this key; `Less` where there is no such entry.
 fn compare_at<K: Ord, V>(entries: &[(K, V)], index: u32, key: &K) -> Ordering
     ensures { result ≡ compare_at K.cmp entries.now key.now index }
 {
@@ -48,7 +49,7 @@ fn compare_at<K: Ord, V>(entries: &[(K, V)], index: u32, key: &K) -> Ordering
 }
 
 impl<K: Ord, V> InOrder<K, V> {
-    /// No entries. Takes no memory.
+    /// Returns a list without entries. Takes no memory.
     pub fn new(alloc: Global) -> InOrder<K, V>
         ensures { result ≡ record { entries = []; room = 0; storage = no_storage } }
     {
@@ -58,7 +59,7 @@ impl<K: Ord, V> InOrder<K, V> {
         }
     }
 
-    /// How many entries there are.
+    /// Returns how many entries there are.
     pub fn len(&self) -> usize
         ensures len { result ≡ length self.now.entries }
         ensures rising { IsStrictlySortedBy K.cmp (keys_of self.now.entries) }
@@ -66,21 +67,21 @@ impl<K: Ord, V> InOrder<K, V> {
         self.entries.len()
     }
 
-    /// How many entries more fit without memory.
+    /// Returns how many entries more fit without more memory.
     pub fn room(&self) -> usize
         ensures { result ≡ self.now.room }
     {
         self.entries.capacity().min(self.order.capacity()) - self.entries.len()
     }
 
-    /// The entries as they came in.
+    /// Returns all entries, in an order of which nothing is promised.
     pub fn arrived(&self) -> &[(K, V)]
         ensures { IsPermutation self.now.entries result.now }
     {
         &self.entries
     }
 
-    /// The entry at a place in the order.
+    /// Returns the entry at a place in the order of the keys, if there is one.
     pub fn nth(&self, place: usize) -> Option<&(K, V)>
         ensures { option_copied result ≡ slice_get self.now.entries place }
     {
@@ -91,7 +92,7 @@ impl<K: Ord, V> InOrder<K, V> {
         }
     }
 
-    /// What stands under the key.
+    /// Returns the value under the key, if there is one.
     pub fn get(&self, key: &K) -> Option<&V>
         ensures { option_copied result ≡ lookup (is_at (K.cmp key.now)) self.now.entries }
     {
@@ -101,7 +102,7 @@ impl<K: Ord, V> InOrder<K, V> {
         }
     }
 
-    /// What stands under the key, to be changed.
+    /// Returns the value under the key, to be changed, if there is one.
     pub fn get_mut(&mut self, key: &K) -> Option<&mut V>
         ensures* writes { sem 𝓛 (LendsUnder K.row V.row K.Ord self.entry (is_at (K.cmp key.now)) result) }
         ensures value { option_copied_mut result ≡ lookup (is_at (K.cmp key.now)) self.old.entries }
@@ -113,7 +114,7 @@ impl<K: Ord, V> InOrder<K, V> {
         }
     }
 
-    /// The value at a place in the order, to be changed.
+    /// Returns the value at a place in the order of the keys, to be changed.
     pub fn nth_mut(&mut self, place: usize) -> &mut V
         requires { place < length self.old.entries }
         ensures* writes { sem 𝓛 (LendsAt K.row V.row K.Ord self.entry place result) }
@@ -124,7 +125,7 @@ impl<K: Ord, V> InOrder<K, V> {
         &mut entry.1
     }
 
-    /// The entry at a place that is known to be within the order.
+    /// Returns the entry at a place in the order of the keys, where the caller knows that there is one.
     pub fn entry_at(&self, place: usize) -> &(K, V)
         requires { place < length self.now.entries }
         ensures { slice_get self.now.entries place ≡ Some result.now }
@@ -132,7 +133,7 @@ impl<K: Ord, V> InOrder<K, V> {
         &self.entries[*self.order.get(place) as usize]
     }
 
-    /// Where the key stands, or else where it would go.
+    /// Returns where the key stands, or else where it would go.
     fn place(&self, key: &K) -> Result<usize, usize>
         ensures found { IfOk result (IsAt K.cmp self.now.entries key.now) }
         ensures gap { IfErr result (IsGap K.cmp self.now.entries key.now) }
@@ -143,7 +144,8 @@ impl<K: Ord, V> InOrder<K, V> {
             .binary_search_by(|index| compare_at(entries, *index, key))
     }
 
-    /// Makes room for so many entries more. Where there was such room, no memory is wanted and nothing changes.
+    /// Makes room for so many entries more; the entries stay as they are. Where there is that room already, the call
+    /// succeeds without taking memory and changes nothing.
     pub fn reserve(&mut self, additional: usize) -> Result<(), AllocError>
         ensures ok { OnOk result (additional ≤ self.new.room) }
         ensures same { self.new.entries ≡ self.old.entries }
@@ -180,8 +182,8 @@ impl<K: Ord, V> InOrder<K, V> {
         };
     }
 
-    /// Puts an entry in: in place of the one under its key, or else at its place. Takes no memory: that for a new
-    /// entry must have been reserved. Where the key is there, no room is needed and none is taken.
+    /// Puts a value under a key: in place of the value that stands there, or else as a new entry. Takes no memory.
+    /// For a new entry there must be room for one more; where the key is there, no room is needed and none is used.
     pub fn put(&mut self, key: K, value: V)
     where
         K: Drop,
@@ -201,7 +203,7 @@ impl<K: Ord, V> InOrder<K, V> {
         }
     }
 
-    /// Entries that stand in the order of their keys.
+    /// Returns the list of entries that stand in the order of their keys.
     pub fn from_sorted(alloc: Global, entries: Vec<(K, V)>) -> Result<InOrder<K, V>, AllocError>
     where
         K: Drop,

@@ -1,4 +1,5 @@
-//! Lists into which one more goes at any place by moving little: of items, and of entries under keys.
+//! Two lists in which an entry is put in at any place by moving few others: a list of items, and a list of entries
+//! under keys.
 #![tactic(auto)]
 
 mod block_list;

@@ -6,7 +6,7 @@ use Rattle.ledger.specs.Changes.{put_content}
 use Rattle.ledger.specs.Rows.{Content, DeskCells}
 use Rattle.ledger.specs.Tables.{rows_among}
 
--- it is one of these
+-- the element is one of the list
 abbrev pub IsAmong : {X : Type 0} → List X → X → Type 0
 IsAmong [] x = ⊥
 IsAmong (y ∷ ys) x = (x ≡ y) ⊎ IsAmong ys x
@@ -15,7 +15,7 @@ IsAmong (y ∷ ys) x = (x ≡ y) ⊎ IsAmong ys x
 abbrev pub newest : ℕ
 newest = SCHEMA_VERSION
 
--- the row of `desk` is of that version
+-- the row of `desk` has that version
 abbrev pub IsVersion : ℤ → DeskCells → Type 0
 IsVersion version row = row.version ≡ version
 

@@ -1,8 +1,10 @@
 -- A keeper in memory.
-use Rattle.std.specs.Prelude.{◌≡◌, ◌+◌, ◌-◌, ◌≤◌, ℕ, Bool, false, true, if◌then◌else◌, Err, OnOk, Result, Option, Some, List, [], ◌∷◌, length, map, option_map}
+use Rattle.std.specs.Prelude.{◌≡◌, ◌+◌, ◌-◌, ◌≤◌, ℕ, Bool, false, true, if◌then◌else◌, Err, OnOk, Result, Option, Some,
+    List, [], ◌∷◌, length, map, option_map}
 use Rattle.ledger.specs.declared.rows.Change.{Change}
 use Rattle.ledger.specs.Rows.{Content, IsInKeyOrder}
-use Rattle.ledger.specs.Tables.{desk_cells, field_cells, firm_cells, kept_cells, line_cells, move_cells, no_content, order_cells, with_change}
+use Rattle.ledger.specs.Tables.{desk_cells, field_cells, firm_cells, kept_cells, line_cells, move_cells, no_content,
+    order_cells, with_change}
 use Rattle.keep.specs.Content.{IsTheRow, with_changes}
 use Rattle.keep.specs.declared.keep.KeepFault.{KeepFault}
 use Rattle.keep.specs.declared.keep.KeepFault.TheVariants.{Store}
@@ -20,7 +22,7 @@ shelf_content s = record {
   firms = map firm_cells s.firms.items;
 }
 
--- the rows stand in the order of their keys, and the one of `desk` is of the version that is written here
+-- the rows stand in the order of their keys, and the row of `desk` is of the version that is written here
 pub record IsInOrder (s : Shelf) : Type 0 where
   pub rows : IsInKeyOrder (shelf_content s)
   pub desk : IsTheRow (desk_cells s.desk)
@@ -42,12 +44,12 @@ row_of change = with_change change no_content
 abbrev pub IsCopy : Change → Change → Type 0
 IsCopy change copy = (x : Content) → with_change copy x ≡ with_change change x
 
--- what is seen of the keeper
+-- what contracts see of the keeper
 pub record Plain : Type 0 where
   pub content : Content
-  -- how many commits remain up to the one that fails, it included
+  -- how many commits there are up to the one that fails, that one included
   pub fails_in : Option ℕ
-  -- whether that commit's changes are found by a reopening
+  -- whether a reopening finds the changes of that commit
   pub lands : Bool
   pub stopped : Bool
 
@@ -69,7 +71,8 @@ after_failure changes k =
 abbrev pub after_error : Plain → Plain
 after_error k = record k { stopped = true }
 
--- the commit that is to fail does so as the store does, at once if it is not to land, and no other fails so
+-- The commit that is to fail never succeeds. Where its changes are not to be found later, it answers `Store`. No
+-- other commit answers `Store`, and where one does, `after_failure` says what is left.
 pub record FailsByNumber (changes : List Change) (old new : Plain) (answer : Result (Unit {0}) KeepFault) : Type 0 where
   pub fails : IsToFail old → OnOk answer ⊥
   pub at_once : IsToFail old → old.lands ≡ false → answer ≡ Err Store

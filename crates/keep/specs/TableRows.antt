@@ -1,7 +1,8 @@
--- The rows of each table: what one holds, and how their keys are ordered.
+-- The rows of each table: what a row holds, and how the keys are ordered.
 use Rattle.std.specs.Prelude.{List}
 use Rattle.std.specs.declared.cmp.Ordering.{Ordering}
-use Rattle.ledger.specs.Rows.{Content, DeskCells, FieldCells, FirmCells, KeptCells, LineCells, MoveCells, OrderCells, desk_cmp, field_cmp, firm_cmp, kept_cmp, line_cmp, move_cmp, order_cmp}
+use Rattle.ledger.specs.Rows.{Content, DeskCells, FieldCells, FirmCells, KeptCells, LineCells, MoveCells, OrderCells,
+    desk_cmp, field_cmp, firm_cmp, kept_cmp, line_cmp, move_cmp, order_cmp}
 use Rattle.keep.specs.declared.table_row.TableName.{TableName}
 use Rattle.keep.specs.declared.table_row.TableName.TheVariants as table
 
@@ -15,7 +16,7 @@ Cells table.Line = LineCells
 Cells table.Kept = KeptCells
 Cells table.Firm = FirmCells
 
--- by the key alone
+-- how two rows of the table compare, by their keys alone
 abbrev pub key_cmp : (t : TableName) → Cells t → Cells t → Ordering
 key_cmp table.Desk = desk_cmp
 key_cmp table.Field = field_cmp
@@ -25,7 +26,7 @@ key_cmp table.Line = line_cmp
 key_cmp table.Kept = kept_cmp
 key_cmp table.Firm = firm_cmp
 
--- the rows of it in a content
+-- the rows of the table in a content
 abbrev pub rows_of : (t : TableName) → Content → List (Cells t)
 rows_of table.Desk x = x.desk
 rows_of table.Field x = x.fields

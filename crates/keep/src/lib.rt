@@ -1,5 +1,5 @@
-//! Keepers: the seven tables, so that a stop at any moment leaves what was before a commit or the whole of it. What every
-//! keeper promises, and one that keeps them in memory.
+//! Keepers, which keep the seven tables: a stop of the program at any moment leaves these as they were before a commit,
+//! or with all that the commit changes. Here is what every keeper promises, and a keeper in memory.
 #![tactic(auto)]
 
 mod keep;

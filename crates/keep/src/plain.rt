@@ -19,9 +19,9 @@ use std::marker::Model;
 #[derive(Drop)]
 pub struct PlainKeep {
     shelf: Shelf,
-    /// How many commits remain up to the one that fails, it included.
+    /// How many commits there are up to the one that fails, that one included.
     fails_in: Option<u64>,
-    /// Whether the changes of that commit are found by a reopening.
+    /// Whether a reopening finds the changes of that commit.
     lands: bool,
     stopped: bool,
 }
@@ -42,8 +42,8 @@ impl Model for PlainKeep {
 }
 
 impl PlainKeep {
-    /// Keeps a new desk. The commit of that number, counted from 1, fails; `lands` says whether its changes are found
-    /// by a reopening. Takes no memory.
+    /// Returns a keeper of a new desk. Its commit of number `fail_at`, counted from 1, fails; `lands` says whether a
+    /// reopening finds the changes of that commit. Takes no memory.
     pub fn start(alloc: Global, fail_at: Option<u64>, lands: bool) -> PlainKeep
         ensures { result ≡ record { content = new_content; fails_in = fail_at; lands = lands; stopped = false } }
     {
@@ -55,7 +55,7 @@ impl PlainKeep {
         }
     }
 
-    /// The same content, kept by a keeper that goes on. Its commits are counted from 1 again. Takes no memory.
+    /// Returns a keeper with the same content that is not stopped. It counts its commits from 1 again. Takes no memory.
     pub fn reopen(mut self, fail_at: Option<u64>, lands: bool) -> PlainKeep
         ensures { result ≡ record { content = self.content; fails_in = fail_at; lands = lands; stopped = false } }
     {
@@ -92,7 +92,7 @@ impl Keep for PlainKeep {
 
     ghost stopped = { λ k. k.stopped };
 
-    // whether the commit that fails lands
+    // what is set is whether the changes of the commit that fails are found later
     ghost same_settings = { λ old new. new.lands ≡ old.lands };
 
     ghost has_names = { λ _. ⊤ };
@@ -105,7 +105,7 @@ impl Keep for PlainKeep {
         self.stopped
     }
 
-    /// Copies the rows. Fails for memory alone, if it is not stopped.
+    /// Copies the rows. Where the keeper is not stopped, this fails for want of memory alone.
     fn load(&mut self, alloc: Global) -> Result<Tables, KeepFault>
         ensures goes { GoesOn (λ k. k.stopped) self.old self.new result }
         ensures fault { IfErr result (λ fault. (fault ≡ KeepFault.Stopped) ⊎ (fault ≡ KeepFault.Memory)) }
@@ -125,8 +125,8 @@ impl Keep for PlainKeep {
         }
     }
 
-    /// Fails as the store does at the commit of its number alone, and there always, unless memory is wanted first. A
-    /// commit that is to fail and not to land wants none.
+    /// Answers `Store` at the commit of its number and at no other. That commit always fails, with `Store` unless
+    /// memory is refused first. Where its changes are not to be found later, it wants no memory.
     fn commit(&mut self, changes: &[Change]) -> Result<(), KeepFault>
         requires { All IsTheRow (rows_among changes.now).desk }
         ensures goes { GoesOn (λ k. k.stopped) self.old self.new result }
@@ -178,7 +178,8 @@ impl Keep for PlainKeep {
     ghost some_content = { λ k _ _ _. ∣ (k.content, refl) ∣₁ };
 }
 
-/// A stop between commits, or at the one that fails. Its next commit that fails, and whether that lands, are given.
+/// A stop comes between two commits, or at the one that fails. The options say which commit is to fail next, and
+/// whether its changes are found later.
 impl Recover for PlainKeep {
     type Options = (Option<u64>, bool);
 

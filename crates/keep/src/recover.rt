@@ -1,4 +1,4 @@
-//! From a stop to the next open.
+//! What the next opening finds after a stop.
 
 use crate::keep::Keep;
 use std::alloc::Global;
@@ -9,15 +9,16 @@ pub trait Recover: Keep {
     ghost use Rattle.ledger.specs.Rows.{Content};
     ghost use Rattle.keep.specs.Content.{IsAmong};
 
-    /// How it is opened.
+    /// With what the store is opened.
     type Options: Drop;
 
-    // Beside what it holds it is set as these options say.
+    // Apart from what it holds, the keeper is set as these options say.
     ghost is_set: { Self.Options → Self → Type 0 };
 
-    /// What the next open finds after a stop at this moment, or None where the open fails: a keeper that is not
-    /// stopped, is set as the options say, and holds one of the contents which the stop could leave; another stop leaves
-    /// nothing but that. A disk that is honest after the open was so before the stop.
+    /// Returns the keeper that the next opening finds after a stop at this moment, or `None` where that opening fails.
+    /// That keeper is not stopped, and is set as the options say. While the disk is honest, the keeper holds one of the
+    /// contents that the stop could leave, and another stop leaves that content and nothing else. A disk that is honest
+    /// after the opening was honest before the stop.
     fn recover(self, alloc: Global, options: Self::Options) -> Option<Self>
         ensures going { IfSome result (λ again. Self.Keep.stopped again ≡ false) }
         ensures settings { IfSome result (is_set options) }

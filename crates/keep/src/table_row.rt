@@ -41,22 +41,22 @@ pub trait TableRow: Sized + Drop {
     ghost use Rattle.keep.specs.TableRows.{Cells, key_cmp};
     ghost use Rattle.keep.specs.declared.table_row.TableName.{TableName};
 
-    // Which table it is of.
+    // The table to which the row belongs.
     ghost which: { TableName };
 
-    // What it holds.
+    // What the row holds.
     ghost cells: { Self → Cells which };
 
-    /// How their keys stand to one another. Takes no memory.
+    /// Returns how the keys of the two rows compare. Takes no memory.
     fn compare(&self, other: &Self) -> Ordering
         ensures { result ≡ key_cmp which (cells self.now) (cells other.now) };
 
-    /// A row with the same cells. Fails for memory alone.
+    /// Returns a row with the same cells. Fails for memory alone.
     fn copy(&self, alloc: Global) -> Result<Self, AllocError>
         ensures { IfOk result (λ row. cells row ≡ cells self.now) };
 }
 
-/// The row of `desk` of a new desk. Takes no memory.
+/// Returns the row of `desk` of a new desk. Takes no memory.
 pub fn new_row() -> DeskRow
     ensures { desk_cells result ≡ new_row }
 {

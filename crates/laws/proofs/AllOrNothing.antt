@@ -1,20 +1,27 @@
 -- Wherever a course stops, all of the deal is moved, or nothing is.
-use Rattle.ledger.proofs.Prelude.{[], ◌+ℤ◌, ◌==◌, ◌∙◌, ◌∷◌, ◌≡◌, ◌⊎◌, Bool, Each, FirstFailure, IfSome, IsFalse, IsNone, IsSomeAnd, IsTrue, Ledger, List, Name, None, OpenLine, Option, Order, Request, Some, accept, ap, arith, checks, effect, false, find, if◌then◌else◌, inl, inr, is_open, is_settled, map, name_of, numbered, option_map_or, order_numbered, pos, refl, same_name, signed, subst, sym, total, true, true≢false, ℕ, ℤ}
+use Rattle.ledger.proofs.Prelude.{Bool, Each, FirstFailure, IfSome, IsFalse, IsNone, IsSomeAnd, IsTrue, Ledger, List,
+    Name, None, OpenLine, Option, Order, Request, Some, [], accept, ap, arith, checks, effect, false, find,
+    if◌then◌else◌, inl, inr, is_open, is_settled, map, name_of, not, numbered, option_map, option_map_or,
+    order_numbered, pos, refl, same_name, settled_part, share_of, signed, subst, sym, total, true, true≢false, ℕ, ℤ,
+    ◌+ℤ◌, ◌==◌, ◌∙◌, ◌∷◌, ◌≡◌, ◌⊎◌}
 use Rattle.words.specs.declared.command.Command.{Command}
 use Rattle.words.specs.declared.command.Command.TheVariants as command
 use Rattle.ledger.specs.declared.order.Line.{Line}
 use Rattle.ledger.proofs.Runs.{accepted_answered}
-use Rattle.ledger.proofs.Sums.{each-imp}
-use Rattle.laws.specs.Deals.{AllMovedOrUnderWay, AllUsed, Deal, HasAborted, HasCommitted, HasMovedAll, HasMovedNothing, HasUsed, IsAborted, IsCommitted, IsTaken, IsUnderWay, NothingMoved, Side}
-use Rattle.laws.proofs.OneOrder.{AsOpened, changes, found_some, held_line, number_is}
+use Rattle.ledger.proofs.Lists.{found_passes}
+use Rattle.ledger.proofs.Steps.{found_changed, unsettled_none}
+use Rattle.ledger.proofs.Sums.{each, each-imp}
+use Rattle.laws.specs.Deals.{AllMovedOrUnderWay, AllUsed, Deal, HasAborted, HasCommitted, HasMovedAll, HasMovedNothing,
+    HasUsed, IsAborted, IsCommitted, IsTaken, IsUnderWay, NothingMoved, Side}
+use Rattle.laws.proofs.OneOrder.{AsOpened, changes, held_line}
 use Rattle.laws.proofs.Together.{Beside, Stands}
 
 -- ---- what an order has moved
 
 -- by its lines that pass the test
 abbrev pub moved_where : (List ℕ → List ℕ → Bool) → Option Order → ℤ
-moved_where test x = option_map_or (λ o. if is_settled o
-    then total (λ l. if test l.branch l.article then signed l.way l.used else pos 0) o.lines else pos 0) x (pos 0)
+moved_where test x = option_map_or (λ o. total
+    (λ l. if test l.branch l.article then settled_part l.way (share_of o.state o.firm l) else pos 0) o.lines) x (pos 0)
 
 abbrev pub asked_where : (List ℕ → List ℕ → Bool) → List OpenLine → ℤ
 asked_where test ls = total (λ l. if test l.branch l.article then signed l.way l.qty else pos 0) ls
@@ -34,7 +41,7 @@ module _ (test : List ℕ → List ℕ → Bool) where
       → IsSomeAnd x IsCommitted → IsSomeAnd x AllUsed → moved_where test x ≡ asked_where test lines
   all_moved lines Lasts None opened committed used = absurd committed
   all_moved lines Lasts (Some o) opened committed used =
-      ap (λ b. if b then total (λ l. if test l.branch l.article then signed l.way l.used else pos 0) o.lines else pos 0)
+      ap (λ b. total (λ l. if test l.branch l.article then signed l.way (if b then l.used else 0) else pos 0) o.lines)
       committed.1
       ∙ used_as_held o.lines used ∙ ap (asked_where test) opened.held
 
@@ -44,8 +51,7 @@ module _ (test : List ℕ → List ℕ → Bool) where
   none_moved lines Lasts (Some o) opened not = by (is_open o) (is_settled o) refl refl
     where
       by : (live settled : Bool) → is_open o ≡ live → is_settled o ≡ settled → moved_where test (Some o) ≡ pos 0
-      by live false a b =
-          ap (λ b. if b then total (λ l. if test l.branch l.article then signed l.way l.used else pos 0) o.lines else pos 0) b
+      by live false a b = unsettled_none (λ l. test l.branch l.article) o b
       by false true a b = absurd (not (a, b))
       by true true a b = absurd (true≢false (sym b ∙ opened.unsettled a))
 
@@ -80,14 +86,8 @@ pub changed : (A : Ledger) (n : ℕ) (c : Command) (o : Order) → ((o : Order) 
     → order_numbered A n ≡ Some o
     → find (λ o. o.number == n) (map (λ o. if numbered n o then changes (effect c) o else o) A.orders)
     ≡ Some (changes (effect c) o)
-changed A n c o same e = found_some n (numbered n) (changes (effect c)) same o A.orders e
-    ∙ ap (λ b. Some (if b then changes (effect c) o else o)) named
-  where
-    itself : (a b : ℕ) → a ≡ b → (a == b) ≡ true
-    itself a b e = grind arith
-
-    named : numbered n o ≡ true
-    named = itself o.number n (number_is n o A.orders e)
+changed A n c o same e = found_changed n (numbered n) (changes (effect c)) A.orders (each (λ o _. same o) A.orders)
+    ∙ ap (option_map _) e ∙ ap (λ b. Some (if b then changes (effect c) o else o)) (found_passes (numbered n) o A.orders e)
 
 module _ (n : ℕ) (lines : List OpenLine) (Lasts : ℕ → Type 0) (A : Ledger) (o : Order) (e : order_numbered A n ≡ Some o)
     (opened : AsOpened lines Lasts o) (live : is_open o ≡ true) (key : List ℕ) where

@@ -3,13 +3,13 @@ use Rattle.ledger.proofs.Prelude.{[], ◌++◌, ◌<◌, ◌∙◌, ◌∷◌, �
 use Rattle.ledger.proofs.Prelude.{Reply, Request, Runs, ap, append-nil, append_assoc, arith, bytes_decides, bytes_eq}
 use Rattle.ledger.proofs.Prelude.{false, if◌then◌else◌, inl, inr, kept_under, map-append, new_key, refl, subst, sym, true}
 use Rattle.ledger.proofs.Prelude.{ℕ}
-use Rattle.ledger.proofs.Lists.{any_none, each-unmap}
+use Rattle.ledger.proofs.Lists.{any_none, each-unmap, find-beside}
 use Rattle.ledger.proofs.Sums.{each-both, each-map}
 use Rattle.ledger.proofs.Runs.{runs_once}
 use Rattle.std.proofs.lemmas.List.Elements.{All-contains, All-from_recursion, Contains-append_left}
 use Rattle.laws.specs.Late.{Entry, carried, carried_on, is_late, overtakes, requests}
 use Rattle.laws.specs.Walks.{AreInRange}
-use Rattle.laws.proofs.Places.{Steps, by_key, find-beside, steps}
+use Rattle.laws.proofs.Places.{Steps, by_key, steps}
 
 -- ---- one entry
 

@@ -1,9 +1,12 @@
 -- What the orders of a deal move at all desks together, and what its own commands do to stock.
-use Rattle.ledger.proofs.Prelude.{[], ◌+ℤ◌, ◌∷◌, ◌≡◌, ◌≤ℤ◌, ◌⊎◌, Add, Each, Field, Good, IsNone, List, OpenLine, Way, arith, bytes_eq, false, true, if◌then◌else◌, inl, inr, ints, moved_by_order, option_map_or, order_numbered, pos, refl, settled, signed, subst, sym, total, ap, Bool, ℕ, ℤ}
+use Rattle.ledger.proofs.Prelude.{Add, Bool, Each, Field, Good, IsNone, List, OpenLine, Way, [], ap, arith, bytes_eq,
+    false, if◌then◌else◌, inl, inr, ints, not, option_map_or, order_numbered, part_of, pos, refl, settled, settled_part,
+    signed, subst, sym, total, true, ℕ, ℤ, ◌+ℤ◌, ◌∷◌, ◌≡◌, ◌≤ℤ◌, ◌⊎◌}
 use Rattle.std.specs.List.{AllZip}
 use Rattle.ledger.proofs.Goodness.{good_answer}
 use Rattle.ledger.proofs.Sums.{each-both, each-imp, total-eq, total-le, total-zero}
-use Rattle.laws.specs.Deals.{AtFirst, AtOther, ChangesByOrder, Course, Deal, HasCommitted, IsAnswered, IsNew, IsOver, IsOwn, IsTransfer, Side, Turn, article_moved, article_of_lines, moved_in_all, moved_under, other_guards}
+use Rattle.laws.specs.Deals.{AtFirst, AtOther, ChangesByOrder, Course, Deal, HasCommitted, IsAnswered, IsNew, IsOver,
+    IsOwn, IsTransfer, Side, Turn, article_moved, article_of_lines, moved_in_all, moved_under, other_guards}
 use Rattle.laws.proofs.AllOrNothing.{all_moved, committed_or_not, none_moved}
 use Rattle.laws.proofs.Ends.{aborted_if, some_there}
 use Rattle.laws.proofs.Stock.{moves_alone}
@@ -114,7 +117,9 @@ module _ (d : Deal) (a : List ℕ) (now : Stands d) where
 
 -- from s to t each field's value changes by what the order has moved there more
 abbrev Moves : ℕ → Side → Side → Type 0
-Moves n s t = (f : Field) → settled t.ledger f +ℤ moved_under s.ledger n f.name ≡ settled s.ledger f +ℤ moved_under t.ledger n f.name
+Moves n s t =
+    (f : Field)
+    → settled t.ledger f +ℤ moved_under s.ledger n f.name ≡ settled s.ledger f +ℤ moved_under t.ledger n f.name
 
 same : (n : ℕ) (s : Side) → Moves n s s
 same n s f = refl
@@ -153,7 +158,7 @@ own_along d (AtOther r reply ∷ turns) e good own (ts, h, more) =
 from_nothing : (n : ℕ) (s t : Side) → IsNone (order_numbered s.ledger n) → Moves n s t → ChangesByOrder n s t
 from_nothing n s t none moves f =
     adds (settled s.ledger f) (settled t.ledger f) (moved_under s.ledger n f.name) (moved_under t.ledger n f.name) (moves f)
-    (ap (λ x. option_map_or (moved_by_order f.name) x (pos 0)) (none_is (order_numbered s.ledger n) none))
+    (ap (λ x. option_map_or (part_of settled_part f.name) x (pos 0)) (none_is (order_numbered s.ledger n) none))
   where
     adds : (a c x z : ℤ) → c +ℤ x ≡ a +ℤ z → x ≡ pos 0 → c ≡ a +ℤ z
     adds a c x z h e = omega (arith, ints)

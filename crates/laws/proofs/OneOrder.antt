@@ -1,11 +1,18 @@
 -- What a command that keeps its guard does to the order under a number.
-use Rattle.ledger.proofs.Prelude.{[], ◌+◌, ◌==◌, ◌∙◌, ◌∷◌, ◌≡◌, ◌≢◌, ◌≤◌, ◌⊎◌, Answers, AnswersNew, Bool, Changes, Command, Done, Each, Effect, FirstFailure, IfSome, IsFalse, IsNone, IsSome, IsSomeAnd, Kept, KeyReused, Ledger, List, MatchOption, Name, None, Nothing, OpenLine, Opens, Option, Order, Refusal, Refused, Reply, Request, Some, accept, add_hold, ap, arith, change_lines, checks, effect, expires, false, find, if◌then◌else◌, inl, inr, is_open, is_settled, is_transfer, kept_under, map, name_of, nat_lt, new_line, new_order, next, numbered, on, order_numbered, places, raise_used, refl, same_command, subst, sym, transfer_kind, transfer_lines, true, true≢false, ℕ}
+use Rattle.ledger.proofs.Prelude.{Answers, Bool, Changes, Command, Each, Effect, FirstFailure, IfSome, IsFalse, IsNone,
+    IsSome, IsSomeAnd, Ledger, List, Name, None, Nothing, OpenLine, Opens, Option, Order, Reply, Request, Some, [],
+    add_hold, ap, arith, change_lines, checks, effect, expires, false, find, if◌then◌else◌, inl, inr, is_open,
+    is_settled, is_transfer, map, name_of, nat_lt, new_line, new_order, next, numbered, on, option_map, order_numbered,
+    raise_used, refl, subst, sym, transfer_kind, transfer_lines, true, true≢false, ℕ, ◌+◌, ◌==◌, ◌∙◌, ◌∷◌, ◌≡◌, ◌≢◌,
+    ◌≤◌, ◌⊎◌}
 use Rattle.words.specs.declared.command.Command.TheVariants as command
 use Rattle.ledger.specs.declared.order.Kind.TheVariants.{Plain, Transfer}
 use Rattle.ledger.specs.declared.order.Line.{Line}
 use Rattle.ledger.specs.Next.{insert_order}
-use Rattle.ledger.proofs.Passing.{Usable, all_pass, usable_there}
-use Rattle.ledger.proofs.Sums.{each-imp, each-map}
+use Rattle.ledger.proofs.Passing.{AllPass, Usable, all_pass, answered, open_there, usable_there}
+use Rattle.ledger.proofs.Lists.{find-beside, find-new, found_passes}
+use Rattle.ledger.proofs.Steps.{found_changed}
+use Rattle.ledger.proofs.Sums.{each, each-imp, each-map, none_found}
 use Rattle.laws.specs.Deals.{AllUsed, Guards, IsAborted, IsCommitted, MaySend}
 
 -- ---- the order under a number, in a list where orders change or one is put in
@@ -17,65 +24,11 @@ pub other_number : (a b : ℕ) → a ≢ b → (a == b) ≡ false
 other_number a b e = grind arith
 
 pub number_is : (n : ℕ) (o : Order) (os : List Order) → find (λ o. o.number == n) os ≡ Some o → o.number ≡ n
-number_is n o [] found = grind arith
-number_is n o (m ∷ ms) found = by (m.number == n) refl found (λ k. number_is n o ms k)
-  where
-    by : (b : Bool) → (m.number == n) ≡ b → (if b then Some m else find (λ o. o.number == n) ms) ≡ Some o
-        → (find (λ o. o.number == n) ms ≡ Some o → o.number ≡ n) → o.number ≡ n
-    by b e found more = grind arith
+number_is n o os found = same_number o.number n (found_passes (numbered n) o os found)
 
-module _ (n : ℕ) (names : Order → Bool) (change : Order → Order) (same : (o : Order) → (change o).number ≡ o.number) where
-  abbrev changed : Order → Order
-  changed o = if names o then change o else o
-
-  numbers : (o : Order) (b : Bool) → (if b then change o else o).number ≡ o.number
-  numbers o true = same o
-  numbers o false = refl
-
-  abbrev under : List Order → Option Order
-  under os = find (λ o. o.number == n) os
-
-  pub found_none : (os : List Order) → under os ≡ None → under (map changed os) ≡ None
-  found_none [] e = refl
-  found_none (o ∷ os) e = subst (λ k. (if k == n then Some (changed o) else under (map changed os)) ≡ None)
-      (sym (numbers o (names o))) (by (o.number == n) e (λ k. found_none os k))
-    where
-      by : (b : Bool) → (if b then Some o else under os) ≡ None → (under os ≡ None → under (map changed os) ≡ None)
-          → (if b then Some (changed o) else under (map changed os)) ≡ None
-      by b e more = grind arith
-
-  pub found_some : (x : Order) (os : List Order) → under os ≡ Some x → under (map changed os) ≡ Some (changed x)
-  found_some x [] e = grind arith
-  found_some x (o ∷ os) e = subst (λ k. (if k == n then Some (changed o) else under (map changed os)) ≡ Some (changed x))
-      (sym (numbers o (names o))) (by (o.number == n) e (λ k. found_some x os k))
-    where
-      by : (b : Bool) → (if b then Some o else under os) ≡ Some x
-          → (under os ≡ Some x → under (map changed os) ≡ Some (changed x))
-          → (if b then Some (changed o) else under (map changed os)) ≡ Some (changed x)
-      by b e more = grind arith
-
-module _ (n : ℕ) (x : Order) where
-  abbrev found : List Order → Option Order
-  found os = find (λ o. o.number == n) os
-
-  pub beside : (x.number == n) ≡ false → (os : List Order) → found (insert_order x os) ≡ found os
-  beside other [] = rw other refl
-  beside other (o ∷ os) = by (nat_lt x.number o.number) (beside other os)
-    where
-      by : (b : Bool) → found (insert_order x os) ≡ found os
-          → found (if b then x ∷ o ∷ os else o ∷ insert_order x os) ≡ found (o ∷ os)
-      by true more = rw other refl
-      by false more = rw more refl
-
-  pub put_in : (x.number == n) ≡ true → (os : List Order) → found os ≡ None → found (insert_order x os) ≡ Some x
-  put_in is [] none = rw is refl
-  put_in is (o ∷ os) none = by (nat_lt x.number o.number) (o.number == n) refl none (λ k. put_in is os k)
-    where
-      by : (b c : Bool) → (o.number == n) ≡ c → (if c then Some o else found os) ≡ None
-          → (found os ≡ None → found (insert_order x os) ≡ Some x)
-          → found (if b then x ∷ o ∷ os else o ∷ insert_order x os) ≡ Some x
-      by true c e none more = rw is refl
-      by false c e none more = grind arith
+pub beside : (n : ℕ) (x : Order) → (x.number == n) ≡ false → (os : List Order)
+    → find (numbered n) (insert_order x os) ≡ find (numbered n) os
+beside n x other os = find-beside (numbered n) (λ a b. nat_lt a.number b.number) x os other
 
 -- ---- the order of a side
 
@@ -156,15 +109,9 @@ raised q t ls none all = each-map (λ l. l.used ≡ l.held) (λ l. if t l then r
 -- ---- an order that is there
 
 -- what the checks of a use leave
-usable : (A : Ledger) (n : ℕ) (b a : List ℕ) (q : ℕ) → FirstFailure (checks A (command.Use n b a q)) None
+usable : (A : Ledger) (n : ℕ) (b a : List ℕ) (q : ℕ) → AllPass (checks A (command.Use n b a q))
     → IsSomeAnd (order_numbered A n) (Usable (name_of b a) q)
-usable A n b a q passed =
-    let p = all_pass (checks A (command.Use n b a q)) passed in let last = p.1.1.1 in
-    usable_there (name_of b a) q (order_numbered A n) p.1.0 p.1.1.0 last.0 last.1.0
-
-pub open_there : (x : Option Order) → (IsNone x → ⊥) → (IsSomeAnd x (λ o. IsFalse (is_open o)) → ⊥)
-    → IsSomeAnd x (λ o. is_open o ≡ true)
-open_there x a b = grind arith
+usable A n b a q p = usable_there (name_of b a) q (order_numbered A n) p.1.0 p.1.1.0 p.1.1.1.0 p.1.1.1.1.0
 
 pub more_number : (l : OpenLine) (o : Order) → (add_hold l o).number ≡ o.number
 more_number l o = grind arith
@@ -193,7 +140,8 @@ module _ (n : ℕ) (lines : List OpenLine) (Lasts : ℕ → Type 0) (g : Guards)
   changing : (names : Order → Bool) (change : Order → Order) → ((o : Order) → (change o).number ≡ o.number)
       → (names o ≡ true → Goes lines Lasts g o (change o))
       → Becomes (find (λ o. o.number == n) (map (λ o. if names o then change o else o) A.orders))
-  changing names change same step = subst Becomes (sym (found_some n names change same o A.orders there)) (by (names o) refl)
+  changing names change same step = subst Becomes
+      (sym (found_changed n names change A.orders (each (λ o _. same o) A.orders) ∙ ap (option_map _) there)) (by (names o) refl)
     where
       by : (b : Bool) → names o ≡ b → Becomes (Some (if b then change o else o))
       by true e = (change o, refl, step e)
@@ -273,27 +221,27 @@ module _ (n : ℕ) (lines : List OpenLine) (Lasts : ℕ → Type 0) (g : Guards)
       is_due = grind arith
 
   pub goes_on : (c : Command) → MaySend n lines g c → FirstFailure (checks A c) None → Becomes (order_numbered (next A c) n)
-  goes_on (command.Open m v ls) may passed = let p = all_pass (checks A (command.Open m v ls)) passed in
-      beside_it (new_order m Plain v ls) p.1.1.0
-  goes_on (command.Transfer m v a from to q) may passed = let p = all_pass (checks A (command.Transfer m v a from to q)) passed in
-      beside_it (new_order m Transfer v (transfer_lines a from to q)) p.1.1.0
-  goes_on (command.Use m b a q) may passed = one m (change_lines (name_of b a) (raise_used q)) (λ o. refl)
-      (λ e. uses (name_of b a) q (at m (Usable (name_of b a) q) e (usable A m b a q passed)))
-  goes_on (command.Commit m) may passed = let p = all_pass (checks A (command.Commit m)) passed in
-      one m (changes (effect (command.Commit m))) (λ o. refl) (λ e. commits m (live m e p.0 p.1.0) (may e))
-  goes_on (command.Abort m) may passed = let p = all_pass (checks A (command.Abort m)) passed in
-      one m (changes (effect (command.Abort m))) (λ o. refl) (λ e. aborts 0 (live m e p.0 p.1.0) (may e))
-  goes_on (command.Expire now) may passed =
-      changing (expires now) (changes (effect (command.Expire now))) (λ o. refl) (expiry now may)
-  goes_on (command.More m way b a q) may passed =
-      one m (changes (effect (command.More m way b a q))) (λ o. more_number _ o) (λ e. absurd (may e))
-  goes_on (command.Release m b a q) may passed =
-      one m (changes (effect (command.Release m b a q))) (λ o. refl) (λ e. absurd (may e))
-  goes_on (command.Firm m) may passed = one m (changes (effect (command.Firm m))) (λ o. refl) (λ e. absurd (may e))
-  goes_on (command.Field b a lo hi start) may passed = subst Becomes (sym there) stays
-  goes_on (command.Deliver b a q) may passed = subst Becomes (sym there) stays
-  goes_on (command.Writeoff b a q) may passed = subst Becomes (sym there) stays
-  goes_on (command.Rebound b a lo hi) may passed = subst Becomes (sym there) stays
+  goes_on c may passed = by c may (all_pass (checks A c) passed)
+    where
+      by : (c : Command) → MaySend n lines g c → AllPass (checks A c) → Becomes (order_numbered (next A c) n)
+      by (command.Open m v ls) may p =
+          beside_it (new_order m Plain v ls) p.1.1.0
+      by (command.Transfer m v a from to q) may p =
+          beside_it (new_order m Transfer v (transfer_lines a from to q)) p.1.1.0
+      by (command.Use m b a q) may p = one m (change_lines (name_of b a) (raise_used q)) (λ o. refl)
+          (λ e. uses (name_of b a) q (at m (Usable (name_of b a) q) e (usable A m b a q p)))
+      by (command.Commit m) may p =
+          one m (changes (effect (command.Commit m))) (λ o. refl) (λ e. commits m (live m e p.0 p.1.0) (may e))
+      by (command.Abort m) may p =
+          one m (changes (effect (command.Abort m))) (λ o. refl) (λ e. aborts 0 (live m e p.0 p.1.0) (may e))
+      by (command.Expire now) may p =
+          changing (expires now) (changes (effect (command.Expire now))) (λ o. refl) (expiry now may)
+      by (command.More m way b a q) may p =
+          one m (changes (effect (command.More m way b a q))) (λ o. more_number _ o) (λ e. absurd (may e))
+      by (command.Release m b a q) may p =
+          one m (changes (effect (command.Release m b a q))) (λ o. refl) (λ e. absurd (may e))
+      by (command.Firm m) may p = one m (changes (effect (command.Firm m))) (λ o. refl) (λ e. absurd (may e))
+      by c may p = subst Becomes (sym there) stays
 
 -- ---- no order is there yet
 
@@ -309,7 +257,8 @@ module _ (n : ℕ) (lines : List OpenLine) (Lasts : ℕ → Type 0) (g : Guards)
 
   still : (names : Order → Bool) (change : Order → Order) → ((o : Order) → (change o).number ≡ o.number)
       → Comes (find (λ o. o.number == n) (map (λ o. if names o then change o else o) A.orders))
-  still names change same = inl (found_none n names change same A.orders none)
+  still names change same =
+      inl (found_changed n names change A.orders (each (λ o _. same o) A.orders) ∙ ap (option_map _) none)
 
   fresh : (m v : ℕ) (ls : List OpenLine) → g.opens v → ls ≡ lines → AsOpened lines Lasts (new_order m Plain v ls)
   fresh m v ls ok same = record {
@@ -325,7 +274,9 @@ module _ (n : ℕ) (lines : List OpenLine) (Lasts : ℕ → Type 0) (g : Guards)
     where
       by : (b : Bool) → (m == n) ≡ b → Comes (order_numbered (next A (command.Open m v ls)) n)
       by true e = let k = may (same_number m n e) in let o = new_order m Plain v ls in
-          inr (o, put_in n o e A.orders none, fresh m v ls k.0 k.1, refl, k.0)
+          inr (o,
+              find-new (numbered n) (λ a b. nat_lt a.number b.number) o A.orders e
+                  (none_found (numbered n) A.orders none), fresh m v ls k.0 k.1, refl, k.0)
       by false e = inl (beside n (new_order m Plain v ls) e A.orders ∙ none)
   comes_to (command.Transfer m v a from to q) may =
       inl (beside n (new_order m Transfer v (transfer_lines a from to q)) (other_number m n may) A.orders ∙ none)
@@ -336,10 +287,7 @@ module _ (n : ℕ) (lines : List OpenLine) (Lasts : ℕ → Type 0) (g : Guards)
   comes_to (command.Abort m) may = still _ _ (λ o. refl)
   comes_to (command.Firm m) may = still _ _ (λ o. refl)
   comes_to (command.Expire now) may = still _ _ (λ o. refl)
-  comes_to (command.Field b a lo hi start) may = inl none
-  comes_to (command.Deliver b a q) may = inl none
-  comes_to (command.Writeoff b a q) may = inl none
-  comes_to (command.Rebound b a lo hi) may = inl none
+  comes_to c may = inl none
 
 -- ---- both together, and an answer
 
@@ -396,21 +344,6 @@ module _ (n : ℕ) (lines : List OpenLine) (Lasts : ℕ → Type 0) (g : Guards)
   one_steps A c may passed (Some o) e opened =
       let k = goes_on n lines Lasts g due A o e opened c may passed in
       subst (StepsTo (Some o)) (sym k.1) (goes o k.0 k.2)
-
--- an answer leaves the ledger, or the next one
-pub answered : (A : Ledger) (r : Request) (reply : Reply) (M : Ledger) (P : Ledger → Type 0) → Answers A r reply M → P A
-    → (FirstFailure (checks A r.command) None → P (accept A r)) → P M
-answered A r reply M P h stays moves = by_key (kept_under A r.key) h
-  where
-    by_found : (found : Option (Refusal × ℕ)) → FirstFailure (checks A r.command) found
-        → MatchOption found ((reply ≡ Done (places A + 1)) × (M ≡ accept A r)) (λ e. (reply ≡ Refused e.0 e.1) × (M ≡ A)) → P M
-    by_found None f m = subst P (sym m.1) (moves f)
-    by_found (Some e) f m = subst P (sym m.1) stays
-
-    by_key : (k : Option Kept) → MatchOption k (AnswersNew A r reply M)
-        (λ k. (reply ≡ (if same_command k.command r.command then Done k.place else Refused KeyReused 0)) × (M ≡ A)) → P M
-    by_key None m = by_found m.0 m.1 m.2
-    by_key (Some k) m = subst P (sym m.1) stays
 
 module _ (n : ℕ) (lines : List OpenLine) (Lasts : ℕ → Type 0) (g : Guards) (lasts : (v : ℕ) → g.opens v → Lasts v)
     (due : (v now : ℕ) → Lasts v → g.expires now → v ≤ now → g.aborts) where

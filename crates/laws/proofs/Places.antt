@@ -1,14 +1,14 @@
 -- Where a desk goes on: what is kept stays at its place, and the request that took the next place would have been
 -- accepted wherever it stood behind the request that took the place before.
-use Rattle.ledger.proofs.Prelude.{[], ◌+◌, ◌<◌, ◌==◌, ◌∙◌, ◌∷◌, ◌≡◌, ◌≤◌, ◌⊎◌, Answers, AnswersNew, Bool, Each}
-use Rattle.ledger.proofs.Prelude.{FirstFailure, Good, IsAccepted, IsInRange, IsKey, Kept, KeyReused, Ledger, List}
-use Rattle.ledger.proofs.Prelude.{MatchOption, None, Option, Refusal, Refused, Reply, Request, Runs, Some, Done, accept}
-use Rattle.ledger.proofs.Prelude.{ap, arith, checks, drop, find, false, if◌then◌else◌, inl, inr, insert_in_order, is_lt}
-use Rattle.ledger.proofs.Prelude.{is_some, kept_under, nat_cmp, new_key, places, refl, same_command, slice_cmp, subst}
-use Rattle.ledger.proofs.Prelude.{suc, sym, take, true≢false, zero, ℕ}
+use Rattle.ledger.proofs.Passing.{along_any}
+use Rattle.ledger.proofs.Prelude.{Answers, AnswersNew, Bool, Done, Each, FirstFailure, Good, IsAccepted, IsInRange,
+    IsKey, Kept, KeyReused, Ledger, List, MatchOption, None, Option, Refusal, Refused, Reply, Request, Runs, Some, [],
+    accept, ap, arith, checks, drop, false, find, if◌then◌else◌, inl, inr, is_lt, is_some, kept_under, nat_cmp, new_key,
+    places, refl, same_command, slice_cmp, subst, suc, sym, take, true≢false, zero, ℕ, ◌+◌, ◌<◌, ◌==◌, ◌∙◌, ◌∷◌, ◌≡◌,
+    ◌≤◌, ◌⊎◌}
 use Rattle.ledger.specs.Answers.{After}
 use Rattle.ledger.proofs.Goodness.{good_answer}
-use Rattle.ledger.proofs.Lists.{find-new, length-insert, same_number, some_is}
+use Rattle.ledger.proofs.Lists.{find-beside, find-new, length-insert, same_number, some_is}
 use Rattle.ledger.proofs.Sums.{each-imp}
 use Rattle.ledger.proofs.Runs.{accepted_once, answered_once}
 use native.Mathlib.Decide.{dec_le}
@@ -42,11 +42,6 @@ goes_good : (A M : Ledger) (r : Request) (p : Reply) → Good A → IsKey r.key 
 goes_good A M r p good (key, range) answer = good_answer A r p M good key range answer
 
 -- ---- places
-
-pub find-beside : {X : Type 0} (t : X → Bool) (p : X → X → Bool) (x : X) (xs : List X) → t x ≡ false
-    → find t (insert_in_order p x xs) ≡ find t xs
-find-beside t p x [] e = grind arith
-find-beside t p x (y ∷ ys) e = let more = find-beside t p x ys e in grind arith
 
 none_found : {X : Type 0} (t : X → Bool) (xs : List X) → Each (λ x. t x ≡ false) xs → find t xs ≡ None
 none_found t [] h = refl
@@ -110,24 +105,18 @@ range_take (suc i) [] h = tt
 range_take (suc i) (r ∷ rs) h = (h.0, range_take i rs h.1)
 
 places_grow : (A B : Ledger) (rs : List Request) (ps : List Reply) → Runs A rs ps B → places A ≤ places B
-places_grow A B [] [] same = let e = ap places same in omega arith
-places_grow A B [] (p ∷ ps) run = absurd run
-places_grow A B (r ∷ rs) [] run = absurd run
-places_grow A B (r ∷ rs) (p ∷ ps) (M, answer, run) =
-    let first = places_step A M r p answer in let more = places_grow M B rs ps run in omega arith
+places_grow A B rs ps run = along_any (λ M. places A ≤ places M)
+    (λ M r p N h le. let more = places_step M N r p h in omega arith) A rs ps B run (omega arith)
 
 stays : (A B : Ledger) (rs : List Request) (ps : List Reply) (n : ℕ) → n ≤ places A → Runs A rs ps B
     → kept_at B n ≡ kept_at A n
-stays A B [] [] n there same = ap (λ L. kept_at L n) same
-stays A B [] (p ∷ ps) n there run = absurd run
-stays A B (r ∷ rs) [] n there run = absurd run
-stays A B (r ∷ rs) (p ∷ ps) n there (M, answer, run) =
-    let first = places_step A M r p answer in
-    stays M B rs ps n (omega arith) run ∙ by (steps A r p M answer)
+stays A B rs ps n there run = (along_any (λ M. (n ≤ places M) × (kept_at M n ≡ kept_at A n))
+    (λ M r p N h k. let more = places_step M N r p h in (omega arith, by M N r k.0 (steps M r p N h) ∙ k.1)) A rs ps B run
+    (there, refl)).1
   where
-    by : Steps A r M → kept_at M n ≡ kept_at A n
-    by (inl (accepted, is)) = ap (λ L. kept_at L n) is ∙ still_there A r n there
-    by (inr (not, is)) = ap (λ L. kept_at L n) is
+    by : (M N : Ledger) (r : Request) → n ≤ places M → Steps M r N → kept_at N n ≡ kept_at M n
+    by M N r there (inl (accepted, is)) = ap (λ L. kept_at L n) is ∙ still_there M r n there
+    by M N r there (inr (not, is)) = ap (λ L. kept_at L n) is
 
 -- what is accepted first is kept at the next place, to the end
 first_kept : (A M B : Ledger) (r : Request) (rs : List Request) (ps : List Reply) → Good A → M ≡ accept A r → Runs M rs ps B

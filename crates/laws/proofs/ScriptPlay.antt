@@ -1,5 +1,8 @@
 -- Scripts are played by computing: a script whose replies and numbers are those computed is played as it stands.
-use Rattle.ledger.proofs.Prelude.{Answers, AnswersNew, Check, Done, Each, Field, FirstFailure, IsInfimum, IsSomeAnd, IsSupremum, Kept, KeyReused, Ledger, List, MatchOption, None, Option, Refusal, Refused, Reply, Request, Some, [], accept, ap, arith, article_total, checks, field_named, held_to_add, held_to_take, if◌then◌else◌, inl, inr, kept_under, map, places, pos, refl, same_command, settled, subst, ℕ, ℤ, ◌+ℤ◌, ◌+◌, ◌-ℤ◌, ◌∷◌, ◌≡◌}
+use Rattle.ledger.proofs.Prelude.{Answers, AnswersNew, Check, Done, Each, Field, FirstFailure, IsInfimum, IsSomeAnd,
+    IsSupremum, Kept, KeyReused, Ledger, List, MatchOption, None, Option, Refusal, Refused, Reply, Request, Some, [],
+    accept, ap, arith, article_total, checks, field_named, held_to_add, held_to_take, if◌then◌else◌, inl, inr,
+    kept_under, map, places, pos, refl, same_command, settled, subst, ℕ, ℤ, ◌+ℤ◌, ◌+◌, ◌-ℤ◌, ◌∷◌, ◌≡◌}
 use Rattle.laws.specs.Examples.{Numbers, Plays, Shows, Step, numbers, total}
 use Rattle.ledger.proofs.Bounds.{inf_is, sup_is}
 use Rattle.laws.proofs.Tests.{AllTested, Sounds, Tested, fails, holds, if_sounds, sounds, tested, unknown}
@@ -23,16 +26,20 @@ first_failure (c ∷ cs) t = first_or c cs t.0 (first_failure cs t.1)
 abbrev pub Answered : Ledger → Request → Type 0
 Answered A r = (reply : Reply) × (B : Ledger) × Answers A r reply B
 
-abbrev pub by_found : (A : Ledger) (r : Request) (found : Option (Refusal × ℕ)) → FirstFailure (checks A r.command) found → (reply : Reply) × (B : Ledger) × AnswersNew A r reply B
+abbrev pub by_found : (A : Ledger) (r : Request) (found : Option (Refusal × ℕ))
+    → FirstFailure (checks A r.command) found → (reply : Reply) × (B : Ledger) × AnswersNew A r reply B
 by_found A r None f = (Done (places A + 1), accept A r, (None, f, (refl, refl)))
 by_found A r (Some e) f = (Refused e.0 e.1, A, (Some e, f, (refl, refl)))
 
-abbrev pub by_new : (A : Ledger) (r : Request) → Option (Found (checks A r.command)) → Option ((reply : Reply) × (B : Ledger) × AnswersNew A r reply B)
+abbrev pub by_new : (A : Ledger) (r : Request) → Option (Found (checks A r.command))
+    → Option ((reply : Reply) × (B : Ledger) × AnswersNew A r reply B)
 by_new A r None = None
 by_new A r (Some f) = Some (by_found A r f.0 f.1)
 
 abbrev pub by_key : (A : Ledger) (r : Request) (o : Option Kept)
-    → Option ((reply : Reply) × (B : Ledger) × MatchOption o (AnswersNew A r reply B) (λ k. (reply ≡ (if same_command k.command r.command then Done k.place else Refused KeyReused 0)) × (B ≡ A)))
+    → Option ((reply : Reply) × (B : Ledger)
+        × MatchOption o (AnswersNew A r reply B)
+            (λ k. (reply ≡ (if same_command k.command r.command then Done k.place else Refused KeyReused 0)) × (B ≡ A)))
 by_key A r None = by_new A r (first_failure (checks A r.command) (tested A r.command))
 by_key A r (Some k) = Some (if same_command k.command r.command then Done k.place else Refused KeyReused 0, A, (refl, refl))
 
@@ -43,13 +50,15 @@ answered A r = by_key A r (kept_under A r.key)
 
 -- the value, the infimum and the supremum; nothing of a ledger whose orders are not seen to be sound
 abbrev pub field_seen : (A : Ledger) → Tested (Sounds A) → Option Field → List ℤ
-field_seen A (holds s) (Some f) = settled A f ∷ (settled A f -ℤ held_to_take A f.name) ∷ (settled A f +ℤ held_to_add A f.name) ∷ []
+field_seen A (holds s) (Some f) =
+    settled A f ∷ (settled A f -ℤ held_to_take A f.name) ∷ (settled A f +ℤ held_to_add A f.name) ∷ []
 field_seen A (holds s) None = []
 field_seen A (fails s) o = []
 field_seen A unknown o = []
 
 abbrev pub seen_at : Ledger → Numbers → List ℤ
-seen_at A (numbers branch article value infimum supremum) = field_seen A (if_sounds A) (field_named A (record { branch = branch; article = article }))
+seen_at A (numbers branch article value infimum supremum) =
+    field_seen A (if_sounds A) (field_named A (record { branch = branch; article = article }))
 seen_at A (total article amount) = article_total A article ∷ []
 
 abbrev pub wanted : Numbers → List ℤ
@@ -58,7 +67,8 @@ wanted (total article amount) = pos amount ∷ []
 
 shows : (A : Ledger) (n : Numbers) → seen_at A n ≡ wanted n → Shows A n
 shows A (total article amount) e = cc
-shows A (numbers branch article value infimum supremum) e = by (if_sounds A) (field_named A (record { branch = branch; article = article })) e
+shows A (numbers branch article value infimum supremum) e =
+    by (if_sounds A) (field_named A (record { branch = branch; article = article })) e
   where
     by : (t : Tested (Sounds A)) (o : Option Field) → field_seen A t o ≡ pos value ∷ pos infimum ∷ pos supremum ∷ []
         → IsSomeAnd o (λ f. (settled A f ≡ pos value) × IsInfimum A f (pos infimum) × IsSupremum A f (pos supremum))
@@ -74,7 +84,8 @@ each_shows A (n ∷ ns) e = (shows A n cc, each_shows A ns cc)
 -- ---- whole scripts
 
 -- the reply to each request and what is seen then, up to a request whose answer the tests do not find
-abbrev pub told_by : (s : Step) (A : Ledger) → (Ledger → List (Reply × List (List ℤ))) → Option (Answered A s.request) → List (Reply × List (List ℤ))
+abbrev pub told_by : (s : Step) (A : Ledger) → (Ledger → List (Reply × List (List ℤ))) → Option (Answered A s.request)
+    → List (Reply × List (List ℤ))
 told_by s A rest None = []
 told_by s A rest (Some a) = (a.0, map (seen_at a.1) s.seen) ∷ rest a.1
 
@@ -91,7 +102,8 @@ pub plays : (ss : List Step) (A : Ledger) → told ss A ≡ script ss → Plays 
 plays [] A e = tt
 plays (s ∷ ss) A e = by (plays ss) (answered A s.request) e
   where
-    by : ((B : Ledger) → told ss B ≡ script ss → Plays B ss) → (a : Option (Answered A s.request)) → told_by s A (told ss) a ≡ script (s ∷ ss) → Plays A (s ∷ ss)
+    by : ((B : Ledger) → told ss B ≡ script ss → Plays B ss) → (a : Option (Answered A s.request))
+        → told_by s A (told ss) a ≡ script (s ∷ ss) → Plays A (s ∷ ss)
     by rest None e = absurd cc
     by rest (Some a) e =
         let line : ◌≡◌ {A = Reply × List (List ℤ)} (a.0, map (seen_at a.1) s.seen) (s.reply, map wanted s.seen) = cc in

@@ -1,6 +1,10 @@
 -- Tests of a command's checks that compute. Each gives the proof of what it found, one way or the other: the tests are
 -- `abbrev`s, which unfold, and the proofs in them are not.
-use Rattle.ledger.proofs.Prelude.{Add, Bool, Check, Command, Each, IsFalse, IsNone, IsSomeAnd, IsTrue, Ledger, List, MAX_ORDER_LINES, Name, None, OpenLine, Option, Order, Some, Take, Way, [], arith, bound, checks, false, field_named, full, held_to_add, held_to_take, ints, is_open, is_transfer, length, line_checks, line_name, line_on, nat_le, nat_lt, new_order, next, on, open_orders, order_checks, order_numbered, places, pos, refl, settled, subst, sym, transfer_lines, true, true≢false, with_order, ℕ, ℤ, ◌++◌, ◌+ℤ◌, ◌+◌, ◌-ℤ◌, ◌<ℤ◌, ◌<◌, ◌↔◌, ◌∷◌, ◌≡◌, ◌≢◌, ◌≤◌}
+use Rattle.ledger.proofs.Prelude.{Add, Bool, Check, Command, Each, IsFalse, IsNone, IsSomeAnd, IsTrue, Ledger, List,
+    MAX_ORDER_LINES, Name, None, OpenLine, Option, Order, Some, Take, Way, [], arith, bound, checks, false, field_named,
+    full, held_to_add, held_to_take, ints, is_open, is_transfer, length, line_checks, line_name, line_on, nat_le,
+    nat_lt, new_order, next, on, open_orders, order_checks, order_numbered, places, pos, refl, settled, subst, sym,
+    transfer_lines, true, true≢false, with_order, ℕ, ℤ, ◌++◌, ◌+ℤ◌, ◌+◌, ◌-ℤ◌, ◌<ℤ◌, ◌<◌, ◌↔◌, ◌∷◌, ◌≡◌, ◌≢◌, ◌≤◌}
 use Rattle.ledger.specs.declared.order.Line.{Line}
 use Rattle.ledger.specs.declared.limits.TheConstants.{MAX_PLACES}
 use Rattle.ledger.specs.declared.order.Kind.TheVariants.{Plain, Transfer}
@@ -114,7 +118,8 @@ Apart (l ∷ ls) = Each (λ m. on (line_name l) m ≡ false) ls × Apart ls
 
 one_if_apart : (f : Name) (ls : List Line) → Apart ls → OneOn f ls
 one_if_apart f [] d = tt
-one_if_apart f (l ∷ ls) d = (λ e. subst (λ g. Each (λ m. on g m ≡ false) ls) (sym (name_is f (line_name l) e)) d.0, one_if_apart f ls d.1)
+one_if_apart f (l ∷ ls) d =
+    (λ e. subst (λ g. Each (λ m. on g m ≡ false) ls) (sym (name_is f (line_name l) e)) d.0, one_if_apart f ls d.1)
 
 -- what makes each order sound, in a form that can be tested
 abbrev pub Sounds : Ledger → Type 0
@@ -128,11 +133,17 @@ if_apart [] = holds tt
 if_apart (l ∷ ls) = if_both (if_each (λ m. on (line_name l) m ≡ false) ls (λ m. if_is (on (line_name l) m) false)) (if_apart ls)
 
 abbrev pub if_sounds : (A : Ledger) → Tested (Sounds A)
-if_sounds A = if_each (λ o. Each (λ l. l.used ≤ l.held) o.lines × Apart o.lines) A.orders (λ o. if_both (if_each (λ l. l.used ≤ l.held) o.lines (λ l. if_upto l.used l.held)) (if_apart o.lines))
+if_sounds A =
+    if_each (λ o. Each (λ l. l.used ≤ l.held) o.lines × Apart o.lines) A.orders
+        (λ o. if_both (if_each (λ l. l.used ≤ l.held) o.lines (λ l. if_upto l.used l.held)) (if_apart o.lines))
 
 abbrev pub if_bound : (w : Way) (B : Ledger) (f : Name) (i : ℕ) → Tested (bound w B f i).fails
-if_bound Take B f i = if_known (if_sounds B) (λ s. if_iff (falls_below_iff B (sounds B s) f) (if_some_and _ (field_named B f) (λ e. if_less_z (settled B e -ℤ held_to_take B e.name) (pos e.lo))))
-if_bound Add B f i = if_known (if_sounds B) (λ s. if_iff (rises_above_iff B (sounds B s) f) (if_some_and _ (field_named B f) (λ e. if_less_z (pos e.hi) (settled B e +ℤ held_to_add B e.name))))
+if_bound Take B f i =
+    if_known (if_sounds B) (λ s. if_iff (falls_below_iff B (sounds B s) f)
+        (if_some_and _ (field_named B f) (λ e. if_less_z (settled B e -ℤ held_to_take B e.name) (pos e.lo))))
+if_bound Add B f i =
+    if_known (if_sounds B) (λ s. if_iff (rises_above_iff B (sounds B s) f)
+        (if_some_and _ (field_named B f) (λ e. if_less_z (pos e.hi) (settled B e +ℤ held_to_add B e.name))))
 
 -- ---- the checks of a command
 
@@ -145,7 +156,8 @@ abbrev pub if_full : (A : Ledger) (more : ℕ) → Tested (MAX_PLACES < places A
 if_full A more = if_less MAX_PLACES (places A + open_orders A + more)
 
 -- the order under the number has some fact
-abbrev pub if_order : (A : Ledger) (n : ℕ) (P : Order → Type 0) → ((o : Order) → Tested (P o)) → Tested (IsSomeAnd (order_numbered A n) P)
+abbrev pub if_order : (A : Ledger) (n : ℕ) (P : Order → Type 0) → ((o : Order) → Tested (P o))
+    → Tested (IsSomeAnd (order_numbered A n) P)
 if_order A n P t = if_some_and P (order_numbered A n) t
 
 abbrev pub if_no_order : (A : Ledger) (n : ℕ) → Tested (IsNone (order_numbered A n))
@@ -158,21 +170,26 @@ abbrev pub if_firm : (A : Ledger) (n : ℕ) → Tested (IsSomeAnd (order_numbere
 if_firm A n = if_order A n (λ o. IsTrue o.firm) (λ o. if_is o.firm true)
 
 -- the order's line on the field has some fact
-abbrev pub if_line : (A : Ledger) (n : ℕ) (f : Name) (P : Line → Type 0) → ((l : Line) → Tested (P l)) → Tested (IsSomeAnd (order_numbered A n) (λ o. IsSomeAnd (line_on o f) P))
+abbrev pub if_line : (A : Ledger) (n : ℕ) (f : Name) (P : Line → Type 0) → ((l : Line) → Tested (P l))
+    → Tested (IsSomeAnd (order_numbered A n) (λ o. IsSomeAnd (line_on o f) P))
 if_line A n f P t = if_order A n (λ o. IsSomeAnd (line_on o f) P) (λ o. if_some_and P (line_on o f) t)
 
 -- the checks of a use and of a release
-abbrev pub part_tested : (A : Ledger) (n : ℕ) (f : Name) (q : ℕ) → AllTested (full A 1 ∷ no_order A n ∷ ended A n ∷ not_held A n f ∷ over_use A n f q ∷ [])
+abbrev pub part_tested : (A : Ledger) (n : ℕ) (f : Name) (q : ℕ)
+    → AllTested (full A 1 ∷ no_order A n ∷ ended A n ∷ not_held A n f ∷ over_use A n f q ∷ [])
 part_tested A n f q = (
   if_full A 1,
   (
     if_no_order A n,
-    (if_ended A n, (if_order A n (λ o. IsNone (line_on o f)) (λ o. if_is (is_some (line_on o f)) false), (if_line A n f (λ l. l.held < l.used + q) (λ l. if_less l.held (l.used + q)), tt))),
+    (if_ended A n,
+        (if_order A n (λ o. IsNone (line_on o f)) (λ o. if_is (is_some (line_on o f)) false),
+            (if_line A n f (λ l. l.held < l.used + q) (λ l. if_less l.held (l.used + q)), tt))),
   ),
 )
 
 -- the checks of the lines of an order
-abbrev pub lines_tested : (A : Ledger) (order : List OpenLine → Order) (before ls : List OpenLine) → AllTested (line_checks A order before ls)
+abbrev pub lines_tested : (A : Ledger) (order : List OpenLine → Order) (before ls : List OpenLine)
+    → AllTested (line_checks A order before ls)
 lines_tested A order before [] = tt
 lines_tested A order before (l ∷ ls) = let f : Name = record { branch = l.branch; article = l.article } in (
   if_is (is_some (line_on (order before) f)) true,
@@ -183,14 +200,17 @@ lines_tested A order before (l ∷ ls) = let f : Name = record { branch = l.bran
 )
 
 -- the checks of a new order
-abbrev pub order_tested : (A : Ledger) (n until : ℕ) (order : List OpenLine → Order) (ls : List OpenLine) → AllTested (order_checks A n until ++ line_checks A order [] ls)
+abbrev pub order_tested : (A : Ledger) (n until : ℕ) (order : List OpenLine → Order) (ls : List OpenLine)
+    → AllTested (order_checks A n until ++ line_checks A order [] ls)
 order_tested A n until order ls = (
   if_full A 2,
-  (if_upto MAX_ORDERS (length A.orders), (if_is (is_some (order_numbered A n)) true, (if_upto until A.clock, lines_tested A order [] ls))),
+  (if_upto MAX_ORDERS (length A.orders),
+      (if_is (is_some (order_numbered A n)) true, (if_upto until A.clock, lines_tested A order [] ls))),
 )
 
 -- the checks of a raise
-abbrev pub more_tested : (A : Ledger) (n : ℕ) (w : Way) (f : Name) (q : ℕ) → AllTested (checks A (command.More n w f.branch f.article q))
+abbrev pub more_tested : (A : Ledger) (n : ℕ) (w : Way) (f : Name) (q : ℕ)
+    → AllTested (checks A (command.More n w f.branch f.article q))
 more_tested A n w f q = (
   if_full A 1,
   (
@@ -206,7 +226,8 @@ more_tested A n w f q = (
             (
               if_line A n f (λ l. l.way ≢ w) (λ l. if_ways_differ l.way w),
               (
-                if_order A n (λ o. IsNone (line_on o f) × (MAX_ORDER_LINES ≤ length o.lines)) (λ o. if_both (if_is (is_some (line_on o f)) false) (if_upto MAX_ORDER_LINES (length o.lines))),
+                if_order A n (λ o. IsNone (line_on o f) × (MAX_ORDER_LINES ≤ length o.lines))
+                    (λ o. if_both (if_is (is_some (line_on o f)) false) (if_upto MAX_ORDER_LINES (length o.lines))),
                 (if_bound w (next A (command.More n w f.branch f.article q)) f 0, tt),
               ),
             ),
@@ -222,14 +243,16 @@ tested A (command.Field b a lo hi start) = (
   if_full A 1,
   (
     if_upto MAX_FIELDS (length A.fields),
-    (if_is (is_some (field_named A (record { branch = b; article = a }))) true, (if_not (if_both (if_upto lo start) (if_upto start hi)), tt)),
+    (if_is (is_some (field_named A (record { branch = b; article = a }))) true,
+        (if_not (if_both (if_upto lo start) (if_upto start hi)), tt)),
   ),
 )
 tested A (command.Deliver b a q) = let f : Name = record { branch = b; article = a } in
     (if_full A 1, (if_is (is_some (field_named A f)) false, (if_bound Add (next A (command.Deliver b a q)) f 0, tt)))
 tested A (command.Writeoff b a q) = let f : Name = record { branch = b; article = a } in
     (if_full A 1, (if_is (is_some (field_named A f)) false, (if_bound Take (next A (command.Writeoff b a q)) f 0, tt)))
-tested A (command.Rebound b a lo hi) = let f : Name = record { branch = b; article = a } in let B : Ledger = next A (command.Rebound b a lo hi) in
+tested A (command.Rebound b a lo hi) =
+    let f : Name = record { branch = b; article = a } in let B : Ledger = next A (command.Rebound b a lo hi) in
     (if_full A 1, (if_is (is_some (field_named A f)) false, (if_less hi lo, (if_bound Take B f 0, (if_bound Add B f 0, tt)))))
 tested A (command.Open n until lines) = order_tested A n until (new_order n Plain until) lines
 tested A (command.Transfer n until a from to q) = order_tested A n until (new_order n Transfer until) (transfer_lines a from to q)

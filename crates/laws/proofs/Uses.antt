@@ -1,33 +1,26 @@
 -- An open order of which nothing is used uses all, line by line, where there is room for it.
-use Rattle.ledger.proofs.Prelude.{[], ◌++◌, ◌+◌, ◌<◌, ◌||◌, ◌∙◌, ◌∷◌, ◌≡◌, ◌≤◌, Answers, Bool, Done, Each, FirstFailure, IfSome, IsDistinct, IsNone, IsSomeAnd, IsTrue, Kept, Ledger, List, Name, None, Option, Order, Request, Some, accept, ap, arith, bytes_eq, change_lines, checks, false, find, if◌then◌else◌, inr, insert_in_order, is_lt, is_open, is_transfer, kept_under, length, line_name, line_on, map, nat_cmp, new_key, numbered, on, open_orders, order_numbered, places, raise_used, refl, same_name, slice_cmp, subst, sym, true, true≢false, ℕ}
+use Rattle.ledger.proofs.Prelude.{Answers, Bool, Done, Each, FirstFailure, IfSome, IsDistinct, IsNone, IsSomeAnd,
+    IsTrue, Kept, Ledger, List, Name, None, Option, Order, Request, Some, [], accept, ap, arith, bytes_eq, change_lines,
+    checks, false, find, if◌then◌else◌, inr, is_lt, is_open, is_transfer, kept_under, length, line_name, line_on, map,
+    nat_cmp, new_key, numbered, on, open_orders, order_numbered, places, raise_used, refl, same_name, slice_cmp, subst,
+    sym, true, true≢false, ℕ, ◌++◌, ◌+◌, ◌<◌, ◌||◌, ◌∙◌, ◌∷◌, ◌≡◌, ◌≤◌}
 use Rattle.words.specs.declared.command.Command.TheVariants as command
 use Rattle.ledger.specs.declared.limits.TheConstants.{MAX_PLACES}
 use Rattle.ledger.specs.declared.order.Line.{Line}
-use Rattle.ledger.proofs.Lists.{count-map, each-unmap, length-insert, length-of-map}
+use Rattle.ledger.proofs.Lists.{count-map, each-found, each-unmap, find-beside, length-insert, length-of-map}
 use Rattle.ledger.proofs.FieldNames.{same_self, other_way}
 use Rattle.ledger.proofs.Runs.{accepted_answered}
 use Rattle.ledger.proofs.Sums.{each, each-of-push}
-use Rattle.ledger.proofs.Transfers.{found_is}
 use Rattle.laws.specs.Deals.{AllUsed, IsReady, Side}
 use Rattle.laws.proofs.AllOrNothing.{changed, not_closed, not_none, under}
 use Rattle.laws.proofs.OneOrder.{AsOpened, held_line}
 
 -- ---- a key that is not kept is not kept behind another either
 
-key_beside : (key : List ℕ) (before : Kept → Kept → Bool) (x : Kept) → bytes_eq x.key key ≡ false → (ks : List Kept)
-    → IsNone (find (λ k. bytes_eq k.key key) ks) → IsNone (find (λ k. bytes_eq k.key key) (insert_in_order before x ks))
-key_beside key before x other [] none = rw other refl
-key_beside key before x other (k ∷ ks) none =
-    by (before x k) (bytes_eq k.key key) refl none (λ h. key_beside key before x other ks h)
-  where
-    by : (b c : Bool) → bytes_eq k.key key ≡ c → IsNone (if c then Some k else find (λ k. bytes_eq k.key key) ks)
-        → (IsNone (find (λ k. bytes_eq k.key key) ks) → IsNone (find (λ k. bytes_eq k.key key) (insert_in_order before x ks)))
-        → IsNone (find (λ k. bytes_eq k.key key) (if b then x ∷ k ∷ ks else k ∷ insert_in_order before x ks))
-    by b c e none more = grind (arith, other)
-
 still_free : (A : Ledger) (r : Request) (key : List ℕ) → bytes_eq r.key key ≡ false → IsNone (kept_under A key)
     → IsNone (kept_under (accept A r) key)
-still_free A r key other none = key_beside key (λ a b. is_lt (slice_cmp nat_cmp a.key b.key)) (new_key A r) other A.kept none
+still_free A r key other none = subst IsNone
+    (sym (find-beside (λ k. bytes_eq k.key key) (λ a b. is_lt (slice_cmp nat_cmp a.key b.key)) (new_key A r) A.kept other)) none
 
 -- ---- one line among lines on other fields
 
@@ -269,7 +262,7 @@ ready_uses n commit uses Lasts s opened apart other ready =
     by None e opened live unused = absurd live
     by (Some o) e opened live unused =
         let as_many : length s.lines ≡ length o.lines = ap length (sym opened.held) ∙ held_length o.lines in
-        let good = found_is _ n s.ledger.orders o ready.good.orders e in
+        let good = each-found _ _ o s.ledger.orders ready.good.orders e in
         let a = ready.room in let b = ready.enough in
         use_all n commit uses [] o.lines s.ledger (record {
           order = o;

@@ -1,7 +1,8 @@
--- A deal between desks: under one number an order at each. They move all that they hold or nothing, whatever stops where.
--- The first desk's commit decides. Each command of the deal rests on a fact that stays once it is so, by a law: so it may
--- come late, twice, or from two that carry the deal on at once.
-use Rattle.std.specs.Prelude.{ℕ, ◌+◌, ◌<◌, ◌≤◌, ◌≡◌, ℤ, pos, ◌+ℤ◌, List, [], ◌∷◌, length, ◌⊎◌, IsSome, IsNone, IsTrue, IsFalse, if◌then◌else◌}
+-- A deal between desks: under one number there is an order at each. Together the orders move all that they hold or
+-- nothing, whatever stops where. The first desk's commit decides. Each command of the deal rests on a fact which, by
+-- a law, stays once it is so. So the command may come late, twice, or from two that carry the deal on at once.
+use Rattle.std.specs.Prelude.{ℕ, ◌+◌, ◌<◌, ◌≤◌, ◌≡◌, ℤ, pos, ◌+ℤ◌, List, [], ◌∷◌, length, ◌⊎◌, IsSome, IsNone, IsTrue,
+    IsFalse, if◌then◌else◌}
 use Rattle.std.specs.Str.{bytes_eq}
 use Rattle.std.specs.List.{AllByRecursion as Each}
 use Rattle.std.specs.Option.{option_map_or}
@@ -16,8 +17,9 @@ use Rattle.words.specs.declared.reply.Reply.{Reply}
 use Rattle.words.specs.declared.reply.Reply.TheVariants.{Done}
 use Rattle.ledger.specs.declared.limits.TheConstants.{MAX_PLACES}
 use Rattle.ledger.specs.Good.{Good}
-use Rattle.ledger.specs.Ledger.{Field as FieldOf, Ledger, Name, Order, is_open, is_settled, kept_under, name_of, open_orders, order_numbered, places, same_name}
-use Rattle.ledger.specs.Outcomes.{moved_by_order, settled, signed, total}
+use Rattle.ledger.specs.Ledger.{Field as FieldOf, Ledger, Name, Order, is_open, is_settled, kept_under, name_of,
+    open_orders, order_numbered, places, same_name}
+use Rattle.ledger.specs.Outcomes.{part_of, settled, settled_part, share_of, signed, total}
 use Rattle.ledger.specs.Answers.{Answers, OfOrder}
 
 -- one side of a deal: what the order at the desk is to move, and the desk's ledger
@@ -25,7 +27,7 @@ pub record Side : Type 0 where
   pub lines : List OpenLine
   pub ledger : Ledger
 
--- a deal, as it stands
+-- a deal, as it stands at one time
 pub record Deal : Type 0 where
   -- the number of its orders at all desks
   pub number : ℕ
@@ -44,11 +46,11 @@ IsThere n s = IsSome (order_numbered s.ledger n)
 abbrev pub AllUsed : Order → Type 0
 AllUsed o = Each (λ l. l.used ≡ l.held) o.lines
 
--- it has ended, and what it used is settled
+-- the order has ended, and what it used is settled
 abbrev pub IsCommitted : Order → Type 0
 IsCommitted o = IsFalse (is_open o) × IsTrue (is_settled o)
 
--- it has ended, and nothing is settled
+-- the order has ended, and nothing is settled
 abbrev pub IsAborted : Order → Type 0
 IsAborted o = IsFalse (is_open o) × IsFalse (is_settled o)
 
@@ -62,7 +64,7 @@ HasCommitted n s = OfOrder s.ledger n IsCommitted
 abbrev pub HasAborted : ℕ → Side → Type 0
 HasAborted n s = OfOrder s.ledger n IsAborted
 
--- what is so of the order at s is so at t
+-- what holds for the order at s holds for it at t
 pub record Keeps (n : ℕ) (s t : Side) : Type 0 where
   pub there : IsThere n s → IsThere n t
   pub used : HasUsed n s → HasUsed n t
@@ -71,16 +73,17 @@ pub record Keeps (n : ℕ) (s t : Side) : Type 0 where
 
 -- ---- what a desk may be sent
 
--- what the commands of an order rest on
+-- the facts on which the commands of an order rest
 pub record Guards : Type 1 where
-  -- of an opening until that moment
+  -- for an opening until that moment
   pub opens : ℕ → Type 0
   pub commits : Type 0
   pub aborts : Type 0
-  -- of an expiry at that moment
+  -- for an expiry at that moment
   pub expires : ℕ → Type 0
 
--- The first order is committed once all orders have used all. It may be opened until any moment, and ended at any.
+-- The first order may be committed once all orders have used all. It may be opened until any moment, and ended at
+-- any.
 abbrev pub first_guards : Deal → Guards
 first_guards d = record {
   opens = λ until. Unit {0};
@@ -89,7 +92,7 @@ first_guards d = record {
   expires = λ now. Unit {0};
 }
 
--- Another is opened once the first is there, and ended as the first has ended.
+-- Another order may be opened once the first is there, and may be ended as the first has ended.
 abbrev pub other_guards : Deal → Guards
 other_guards d = record {
   opens = λ until. IsThere d.number d.first × (until ≡ d.until);
@@ -110,7 +113,8 @@ Names (Abort m) n = m ≡ n
 Names (Firm m) n = m ≡ n
 Names c n = ⊥
 
--- The guards of an order of these lines. Whatever does not name the order is free, and so is each use.
+-- Whether a command may be sent, by the guards of an order of these lines. A command that does not name the order may
+-- always be sent, and so may each use.
 abbrev pub MaySend : ℕ → List OpenLine → Guards → Command → Type 0
 MaySend n lines g (Open m until opened) = m ≡ n → g.opens until × (opened ≡ lines)
 MaySend n lines g (Use m b a q) = Unit {0}
@@ -121,13 +125,13 @@ MaySend n lines g c = Names c n → ⊥
 
 -- ---- what the desks answer, in the order in which they do
 
--- A request that may be sent comes to the desk of s, which answers it; t is that side then.
+-- A request that may be sent comes to the desk of s, which answers it; t is that side after the answer.
 pub record IsAnswered (n : ℕ) (g : Guards) (r : Request) (reply : Reply) (s t : Side) : Type 0 where
   pub may : MaySend n s.lines g r.command
   pub answers : Answers s.ledger r reply t.ledger
   pub lines : t.lines ≡ s.lines
 
--- one of the sides goes to another, and the others stay
+-- one of the sides goes on to another, and the others stay
 abbrev pub OneGoes : (Side → Side → Type 0) → List Side → List Side → Type 0
 OneGoes Goes [] ts = ⊥
 OneGoes Goes (s ∷ ss) [] = ⊥
@@ -138,7 +142,7 @@ pub data Turn : Type 0 where
   AtFirst : Request → Reply → Turn
   AtOther : Request → Reply → Turn
 
--- from the deal d to the deal e, by requests that may be sent when they come in
+-- the deal goes from d to e, by requests each of which may be sent when it arrives
 abbrev pub Course : Deal → List Turn → Deal → Type 0
 Course d [] e = e ≡ d
 Course d (AtFirst r reply ∷ turns) e =
@@ -155,20 +159,20 @@ IsNew d = IsNone (order_numbered d.first.ledger d.number) × Each (λ s. IsNone 
 
 -- what the order has moved on the field, up or down, if that is settled
 abbrev pub moved_under : Ledger → ℕ → Name → ℤ
-moved_under A n f = option_map_or (moved_by_order f) (order_numbered A n) (pos 0)
+moved_under A n f = option_map_or (part_of settled_part f) (order_numbered A n) (pos 0)
 
--- what the lines are to move there
+-- what the lines are to move on the field
 abbrev pub moved_by_lines : Name → List OpenLine → ℤ
 moved_by_lines f lines =
     total (λ l. if same_name f (name_of l.branch l.article) then signed l.way l.qty else pos 0) lines
 
--- whatever key is not kept, the desk accepts the command under it, and then this holds
+-- under each key that is not kept, the desk accepts the command, and then this holds
 abbrev pub IsTaken : Side → Command → (Side → Type 0) → Type 0
 IsTaken s c Then = (key : List ℕ) → IsNone (kept_under s.ledger key)
     → (A : Ledger) × Answers s.ledger (record { key = key; command = c }) (Done (places s.ledger + 1)) A
     × Then (record s { ledger = A })
 
--- Nothing is moved there, and if the order is open it can be aborted, also at a full desk.
+-- Nothing is moved there; and if the order is open, it can be aborted, also at a full desk.
 pub record HasMovedNothing (n : ℕ) (s : Side) : Type 0 where
   pub moved : (f : Name) → moved_under s.ledger n f ≡ pos 0
   pub aborts : OfOrder s.ledger n (λ o. IsTrue (is_open o)) → IsTaken s (Abort n) (HasAborted n)
@@ -186,7 +190,7 @@ pub record IsUnderWay (n : ℕ) (s : Side) : Type 0 where
 abbrev pub NothingMoved : Deal → Type 0
 NothingMoved d = HasMovedNothing d.number d.first × Each (HasMovedNothing d.number) d.others
 
--- all is moved at the first, and at each other, or under way there
+-- all is moved at the first desk, and at each other desk all is moved or under way
 abbrev pub AllMovedOrUnderWay : Deal → Type 0
 AllMovedOrUnderWay d =
     HasMovedAll d.number d.first × Each (λ s. HasMovedAll d.number s ⊎ IsUnderWay d.number s) d.others
@@ -208,7 +212,8 @@ IsEnd n (AtOther r reply) = ((r.command ≡ Commit n) ⊎ (r.command ≡ Abort n
 abbrev pub IsOver : ℕ → Side → Type 0
 IsOver n s = OfOrder s.ledger n (λ o. IsTrue (is_open o)) → ⊥
 
--- It comes to an end by such commands, at most one for each desk: with all moved, or nothing.
+-- There is a course of such commands that brings the deal to its end, no more of them than there are desks: then all is
+-- moved, or nothing.
 pub record ComesToAnEnd (d : Deal) : Type 0 where
   pub turns : List Turn
   pub end : Deal
@@ -243,23 +248,25 @@ article_of_lines a lines = total (λ l. if bytes_eq l.article a then signed l.wa
 -- what the order has moved of the article, if that is settled
 abbrev pub article_of_order : List ℕ → Order → ℤ
 article_of_order a o =
-    if is_settled o then total (λ l. if bytes_eq l.article a then signed l.way l.used else pos 0) o.lines else pos 0
+    total (λ l. if bytes_eq l.article a then settled_part l.way (share_of o.state o.firm l) else pos 0) o.lines
 
 abbrev pub article_moved : ℕ → List ℕ → Side → ℤ
 article_moved n a s = option_map_or (article_of_order a) (order_numbered s.ledger n) (pos 0)
 
--- at all desks together
+-- what the orders at all desks together have moved of the article
 abbrev pub moved_in_all : Deal → List ℕ → ℤ
 moved_in_all d a = article_moved d.number a d.first +ℤ total (article_moved d.number a) d.others
 
--- A transfer: the other desks only add, and of each article as much as the first takes.
+-- A transfer: the other desks only add, and together they add as much of each article as the first takes, less what the
+-- first adds.
 pub record IsTransfer (d : Deal) : Type 0 where
   pub adds : Each (λ s. Each (λ l. l.way ≡ Add) s.lines) d.others
   pub even : (a : List ℕ) → article_of_lines a d.first.lines +ℤ total (λ s. article_of_lines a s.lines) d.others ≡ pos 0
 
 -- ---- how it goes through
 
--- The order is open and has used nothing, there is a place free and a key for each use, and the keys are not kept.
+-- The ledger is good; the order is open and has used nothing; there is a place free and a key for each use; and the keys
+-- are not kept.
 pub record IsReady (n : ℕ) (commit : List ℕ) (uses : List (List ℕ)) (s : Side) : Type 0 where
   pub good : Good s.ledger
   pub live : OfOrder s.ledger n (λ o. IsTrue (is_open o))
@@ -269,7 +276,7 @@ pub record IsReady (n : ℕ) (commit : List ℕ) (uses : List (List ℕ)) (s : S
   pub commit_free : IsFree commit s
   pub uses_free : Each (λ key. IsFree key s) uses
 
--- some course goes on to the end at which all is moved
+-- some course leads on to an end at which all is moved
 pub record GoesThrough (d : Deal) : Type 0 where
   pub turns : List Turn
   pub end : Deal

@@ -1,5 +1,5 @@
--- The worked examples of the desk's rules: scripts from a new desk, with the reply to each request and the numbers that
--- are seen then.
+-- The worked examples of the desk's rules: scripts from a new desk, with the reply to each request and the numbers
+-- that the ledger then shows.
 use Prim.Native.String.{String}
 use Rattle.std.specs.Prelude.{ℕ, pos, ◌≡◌, List, [], ◌∷◌, IsSomeAnd, codes}
 use Rattle.std.specs.List.{AllByRecursion as Each}
@@ -7,17 +7,19 @@ use Rattle.escrow.specs.declared.quantity.Way.{Way}
 use Rattle.escrow.specs.declared.quantity.Way.TheVariants.{Take, Add}
 use Rattle.words.specs.declared.open_line.OpenLine.{OpenLine}
 use Rattle.words.specs.declared.command.Command.{Command}
-use Rattle.words.specs.declared.command.Command.TheVariants.{Abort, Commit, Deliver, Expire, Field, Firm, More, Open, Rebound, Release, Transfer, Use}
+use Rattle.words.specs.declared.command.Command.TheVariants.{Abort, Commit, Deliver, Expire, Field, Firm, More, Open,
+    Rebound, Release, Transfer, Use}
 use Rattle.words.specs.declared.command.Request.{Request}
 use Rattle.words.specs.declared.reply.Refusal.TheVariants as refusal
-use Rattle.words.specs.declared.reply.Refusal.TheVariants.{KeyReused, NoOrder, NoField, BadBounds, Ended, Past, SameField, OtherWay, TooLittle, TooMuch, NotHeld, OverUse, TransferFixed, ClockBack}
+use Rattle.words.specs.declared.reply.Refusal.TheVariants.{KeyReused, NoOrder, NoField, BadBounds, Ended, Past,
+    SameField, OtherWay, TooLittle, TooMuch, NotHeld, OverUse, TransferFixed, ClockBack}
 use Rattle.words.specs.declared.reply.Reply.{Reply}
 use Rattle.words.specs.declared.reply.Reply.TheVariants.{Done, Refused}
 use Rattle.ledger.specs.Ledger.{Ledger, field_named, name_of}
 use Rattle.ledger.specs.Outcomes.{settled, article_total, IsInfimum, IsSupremum}
 use Rattle.ledger.specs.Answers.{Answers}
 
--- what is seen of a ledger: the settled value, the infimum and the supremum of a field, or the total of an article
+-- numbers that a ledger shows: the settled value, the infimum and the supremum of a field, or the total of an article
 pub data Numbers : Type 0 where
   numbers : (branch article : List ℕ) (value infimum supremum : ℕ) → Numbers
   total : (article : List ℕ) (amount : ℕ) → Numbers
@@ -28,13 +30,14 @@ Shows A (numbers branch article value infimum supremum) = IsSomeAnd (field_named
     (λ f. (settled A f ≡ pos value) × IsInfimum A f (pos infimum) × IsSupremum A f (pos supremum))
 Shows A (total article amount) = article_total A article ≡ pos amount
 
--- a line of a script: a request, its reply, and what is seen then (nothing more is said where the list is empty)
+-- a line of a script: a request, its reply, and numbers that the ledger then shows; an empty list says nothing about
+-- them
 pub record Step : Type 0 where
   pub request : Request
   pub reply : Reply
   pub seen : List Numbers
 
--- Each request is answered so, at the ledger that those before it leave, and leaves these numbers.
+-- Each request gets this reply at the ledger that those before it leave, and leaves these numbers.
 abbrev pub Plays : Ledger → List Step → Type 0
 Plays A [] = Unit {0}
 Plays A (s ∷ ss) = (B : Ledger) × Answers A s.request s.reply B × Each (Shows B) s.seen × Plays B ss
@@ -45,7 +48,7 @@ Plays A (s ∷ ss) = (B : Ledger) × Answers A s.request s.reply B × Each (Show
 abbrev step : String → Command → Reply → List Numbers → Step
 step key c reply seen = record { request = record { key = codes key; command = c }; reply = reply; seen = seen }
 
--- a line of an order
+-- an order line
 abbrev line : Way → List ℕ → List ℕ → ℕ → OpenLine
 line w b a q = record { way = w; branch = b; article = a; qty = q }
 
@@ -86,7 +89,7 @@ long_script = step "K1" (Field N1 A1 0 100 40) (Done 1) (numbers N1 A1 40 40 40 
     ∷ step "K6" (Deliver N1 A1 1) (Refused TooMuch 0) []
     ∷ step "K7" (Use 7 N1 A1 20) (Done 5) []
     ∷ step "K8" (Commit 7) (Done 6) (numbers N1 A1 80 75 80 ∷ [])
-    -- the key is kept, though the order has ended
+    -- the key stays kept, though the order has ended
     ∷ step "K2" (Open 7 120 (line Take N1 A1 35 ∷ [])) (Done 2) []
     ∷ step "K2" (Open 7 120 (line Take N1 A1 36 ∷ [])) (Refused KeyReused 0) []
     ∷ step "K9" (Expire 120) (Done 7) (numbers N1 A1 80 80 80 ∷ [])

@@ -1,6 +1,6 @@
--- A log whose entries may come late: each says up to where the log had been read when its request was asked for. All
--- who carry out the log pass over the late ones, so an old copy of a request changes nothing behind the answer to a
--- newer one.
+-- A log whose entries may come late. Each entry says up to where the log had been read when its request was asked
+-- for. All who carry out the log pass over the late entries, so an old copy of a request changes nothing behind the
+-- answer to a newer one.
 use Rattle.std.specs.Prelude.{ℕ, Bool, ◌&&◌, nat_lt, List, [], ◌∷◌, ◌++◌, map, if◌then◌else◌}
 use Rattle.std.specs.List.{list_any}
 use Rattle.std.specs.Str.{bytes_eq}
@@ -15,15 +15,15 @@ pub record Entry : Type 0 where
 abbrev pub requests : List Entry → List Request
 requests entries = map (λ e. e.request) entries
 
--- the first has the second's key, and stands behind its base: it had not been read when that one was asked for
+-- b has the key of e and stands behind the base of e: b had not been read when e was asked for
 abbrev pub overtakes : Entry → Entry → Bool
 overtakes b e = bytes_eq b.request.key e.request.key && nat_lt e.base b.position
 
--- the entry is late: one of those carried out before overtakes it
+-- the entry is late: one of the entries carried out before overtakes it
 abbrev pub is_late : List Entry → Entry → Bool
 is_late before e = list_any (λ b. overtakes b e) before
 
--- those carried out before, and then each entry of the log that is not late behind those before it
+-- the entries carried out before, and then each entry of the log that is not late behind those before it
 abbrev pub carried_on : List Entry → List Entry → List Entry
 carried_on before [] = before
 carried_on before (e ∷ log) = carried_on (if is_late before e then before else before ++ e ∷ []) log

@@ -1,18 +1,21 @@
--- The table of the rows that each command changes. A law says that these are the rows of `changed_rows`.
+-- The table of the rows that each command changes. A law says that they are the rows of `changed_rows`.
 use Rattle.std.specs.Prelude.{ℕ, ◌+◌, Bool, false, ◌&&◌, ◌||◌, List, [], ◌∷◌, ℤ, map, neg_ℤ, pos}
 use Rattle.std.specs.List.{filter, list_any}
 use Rattle.std.specs.Option.{option_map_or}
 use Rattle.words.specs.declared.command.Command.{Command}
-use Rattle.words.specs.declared.command.Command.TheVariants.{Field, Deliver, Writeoff, Rebound, Open, Transfer, More, Use, Release, Commit, Abort, Firm, Expire}
+use Rattle.words.specs.declared.command.Command.TheVariants.{Field, Deliver, Writeoff, Rebound, Open, Transfer, More,
+    Use, Release, Commit, Abort, Firm, Expire}
 use Rattle.words.specs.declared.command.Request.{Request}
 use Rattle.ledger.specs.Ledger.{Ledger, Name, Order, is_transfer, name_of, on, order_numbered, places, same_name}
-use Rattle.ledger.specs.Next.{add_hold, change_lines, expires, lower_held, new_key, new_order, raise_used, set_state, transfer_lines}
-use Rattle.ledger.specs.Rows.{Content, FirmCells, LineCells, MoveCells, OrderCells, firm_row, kept_row, move_row, order_lines, order_row}
+use Rattle.ledger.specs.Next.{add_hold, change_lines, expires, lower_held, new_key, new_order, raise_used, set_state,
+    transfer_lines}
+use Rattle.ledger.specs.Rows.{Content, FirmCells, LineCells, MoveCells, OrderCells, firm_row, kept_row, move_row,
+    order_lines, order_row}
 use Rattle.ledger.specs.declared.order.Kind.TheVariants as kind
 use Rattle.ledger.specs.declared.order.State.TheVariants.{Aborted, Committed}
 
--- the fields whose rows change, and the rows that change of the other tables; besides these the row of the desk and the
--- new row of the key
+-- The fields whose rows change, and the rows of the other tables that change. Beside these the row of the desk and
+-- the new row of the key change.
 pub record TableRows : Type 0 where
   pub fields : Name → Bool
   pub moves : List MoveCells
@@ -27,7 +30,8 @@ no_rows = record { fields = λ f. false; moves = []; orders = []; lines = []; fi
 abbrev pub has_line_on : Name → Order → Bool
 has_line_on f o = list_any (on f) o.lines
 
--- some line on the field is one that a use or a release of that field changes: it is that line, on a transfer both lines
+-- some line on the field f changes with a use or a release on the field `part`: it is the line on that field, and on
+-- a transfer either line
 abbrev pub has_part_on : Name → Name → Order → Bool
 has_part_on part f o = list_any (λ l. on f l && (is_transfer o || on part l)) o.lines
 
@@ -39,19 +43,19 @@ part_rows part o = filter (λ row. is_transfer o || same_name part (name_of row.
 abbrev pub opened_rows : Order → TableRows
 opened_rows o = record no_rows { fields = λ f. has_line_on f o; orders = order_row o ∷ []; lines = order_lines o }
 
--- a move of that amount at the next place
+-- the rows of a move of that amount, at the next place
 abbrev pub moved_rows : Ledger → Name → ℤ → TableRows
 moved_rows A f amount = record no_rows {
   fields = λ g. same_name g f;
   moves = move_row (record { place = places A + 1; field = f; amount = amount }) ∷ [];
 }
 
--- what is told of the order under that number
+-- the rows that the order under that number gives
 abbrev pub of_order : Ledger → ℕ → (Order → TableRows) → TableRows
 of_order A n rows = option_map_or rows (order_numbered A n) no_rows
 
--- The table: of fields whose numbers are made anew (also where they come out as they were), of moves, of orders that are
--- new or end, of lines that are new or whose amounts change, and of new marks.
+-- The table, by commands: the fields whose numbers are made anew (also where they come out as they were), the moves,
+-- the orders that are new or end, the lines that are new or whose amounts change, and the new marks.
 abbrev pub rows_by_command : Ledger → Command → TableRows
 rows_by_command A (Field b a lo hi start) = record no_rows { fields = λ f. same_name f (name_of b a) }
 rows_by_command A (Deliver b a q) = moved_rows A (name_of b a) (pos q)
@@ -88,7 +92,7 @@ rows_by_command A (Expire now) = record no_rows {
   orders = map (λ o. order_row (set_state Aborted o)) (filter (expires now) A.orders);
 }
 
--- the rows that the request changes, told so, where these are the next ledger's
+-- the rows that the request changes by the table, out of `next`, the rows of the next ledger
 abbrev pub rows_told : Ledger → Request → Content → Content
 rows_told A r next = let t = rows_by_command A r.command in record {
   desk = next.desk;

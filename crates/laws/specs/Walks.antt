@@ -1,5 +1,6 @@
--- A log of requests, which several desks carry out in its order, and where in it a desk goes on that has stopped. Of
--- the requests that it carried out such a desk keeps the accepted ones alone, and not how far in the log it came.
+-- A log of requests, which several desks carry out in its order, and where in the log a desk goes on that has
+-- stopped. Of the requests that it carried out, such a desk keeps only the accepted ones; it does not keep how far in
+-- the log it came.
 use Rattle.std.specs.Prelude.{ℕ, ◌+◌, ◌≤◌, ◌≡◌, ◌⊎◌, ◌==◌, List, [], ◌∷◌, take, Option, Some, find}
 use Rattle.std.specs.List.{AllByRecursion as Each}
 use Rattle.escrow.specs.Codes.{IsKey}

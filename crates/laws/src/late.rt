@@ -1,4 +1,4 @@
-//! The law of copies that come late into a log.
+//! The law about copies that come late into a log.
 
 ghost use Rattle.ledger.specs.Answers.{Runs};
 ghost use Rattle.ledger.specs.Ledger.{Ledger, kept_under};
@@ -8,10 +8,10 @@ ghost use Rattle.std.specs.List.{AllByRecursion as Each, Contains};
 ghost use Rattle.std.specs.Prelude.{◌≡◌, ◌<◌, ◌≤◌, ◌∷◌, ◌++◌, List};
 ghost use Rattle.words.specs.declared.reply.Reply.{Reply};
 
-/// As a log grows, what was carried out of it stays carried out. Behind an entry that is carried out, another with its
-/// key is carried out only if the first had been read when the other was asked for; an older one might as well not stand
-/// in the log. So where all that come with that key are older, what is kept under it stays as it was: nothing, where it
-/// was refused.
+/// What was carried out of a log stays carried out as the log grows. After an entry that is carried out, another entry
+/// with its key is carried out only if the first had been read when the other was asked for; an older entry might as
+/// well not stand in the log. So where all entries that come with that key are older, what is kept under the key stays
+/// as it was: nothing, where the request was refused.
 pub fn late_copies_change_nothing()
     ensures fresh { (log more : List Entry) → (rest : List Entry) × (carried (log ++ more) ≡ carried log ++ rest)
         × ((e : Entry) → Contains (carried log) e

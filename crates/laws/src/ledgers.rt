@@ -29,8 +29,8 @@ ghost use Rattle.words.specs.declared.open_line.OpenLine.{OpenLine};
 ghost use Rattle.words.specs.declared.reply.Reply.TheVariants.{Done};
 ghost use Rattle.words.specs.declared.reply.Reply.{Reply};
 
-/// At a good ledger every request has an answer; at no ledger it has two. An accepted one is done at the next
-/// place, and any other leaves the ledger as it was.
+/// At a good ledger every request has an answer; at no ledger does it have two. An accepted request is done at the
+/// next place, and any other request leaves the ledger as it was.
 pub fn exactly_one_answer()
     ensures some { (A : Ledger) (r : Request) → Good A → (reply : Reply) × (B : Ledger) × Answers A r reply B }
     ensures one { (A : Ledger) (r : Request) (p q : Reply) (B C : Ledger) → Answers A r p B → Answers A r q C → (p ≡ q)
@@ -41,14 +41,14 @@ pub fn exactly_one_answer()
         → Answers A r reply B → B ≡ A }
 {}
 
-/// What a good ledger answers to a request in range leaves a good ledger.
+/// Where a good ledger answers a request in range, the next ledger is good.
 pub fn answers_stay_good()
     ensures { (A : Ledger) (r : Request) (reply : Reply) (B : Ledger) → Good A → IsKey r.key → IsInRange r.command
         → Answers A r reply B → Good B }
 {}
 
-/// A run of requests in range from a good ledger has a course, and ends at a good ledger; no run has two
-/// courses. So after each number of its requests there is exactly one ledger.
+/// A run of requests in range from a good ledger has a course, and ends at a good ledger; no run has two courses. So
+/// after each number of its requests there is exactly one ledger.
 pub fn runs_stay_good()
     ensures some { (A : Ledger) (rs : List Request) → Good A → Each (λ r. IsKey r.key × IsInRange r.command) rs
         → (replies : List Reply) × (B : Ledger) × Runs A rs replies B }
@@ -61,16 +61,17 @@ pub fn runs_stay_good()
         → Each (λ r. IsKey r.key × IsInRange r.command) rs → Runs A rs replies B → Good B }
 {}
 
-/// The infimum is the settled value less all that open orders hold to take, and the supremum the settled value
-/// plus all that they hold to add.
+/// The infimum is the settled value less all that open orders hold to take; the supremum is the settled value plus
+/// all that they hold to add.
 pub fn bounds_are_held()
     ensures infimum { (A : Ledger) (f : FieldOf) → Good A → IsInfimum A f (settled A f -ℤ held_to_take A f.name) }
     ensures supremum { (A : Ledger) (f : FieldOf) → Good A → IsSupremum A f (settled A f +ℤ held_to_add A f.name) }
 {}
 
-/// The test of a check by all outcomes of the ledger with the amount in it is one comparison with the infimum or
-/// the supremum of the ledger as it is: for a delivery, a write-off, an amount more on an order that may hold it,
-/// and a line of an `open` or a `transfer`, where it and those before it are each on a field of its own.
+/// The test of a check asks about all outcomes of the ledger with the amount in it. It is one comparison with the
+/// infimum or the supremum of the ledger as it is. This holds for a delivery and a write-off, for an amount more on
+/// an order that may hold it, and for a line of an `open` or a `transfer`, where this line and those before it are
+/// each on a field of its own.
 pub fn tests_are_comparisons()
     ensures deliver { (A : Ledger) (f : Name) (q : ℕ) → Good A → RisesAbove (next A (Deliver f.branch f.article q)) f
         ↔ BreaksBound Add A f q }
@@ -95,7 +96,7 @@ pub fn good_ledgers_honour()
     ensures always { (A : Ledger) → Good A → HonoursAlways A }
 {}
 
-/// The commit of a transfer, a `firm` on it and a use leave the total of every article as it was.
+/// A commit, a `firm` or a use of a transfer leaves the total of every article as it was.
 pub fn transfers_even_out()
     ensures { (A : Ledger) (r : Request) (n : ℕ) (reply : Reply) (B : Ledger) (article : List ℕ) → Good A
         → Settles r.command n → Answers A r reply B
@@ -103,7 +104,7 @@ pub fn transfers_even_out()
         → article_total B article ≡ article_total A article }
 {}
 
-/// An order that is firm is firm after any run, and is not aborted: it leaves the open ones by its commit alone.
+/// A firm order is firm after any run, and is not aborted: only its commit ends it.
 pub fn firm_orders_stay()
     ensures { (A : Ledger) (rs : List Request) (replies : List Reply) (B : Ledger) (n : ℕ) → Good A
         → Runs A rs replies B → IsSomeAnd (order_numbered A n) (λ o. IsTrue o.firm)
@@ -120,14 +121,14 @@ pub fn rows_tell_all()
     ensures { (A B : Ledger) (C : Content) → Good A → Good B → IsRowsOf A C → IsRowsOf B C → A ≡ B }
 {}
 
-/// A ledger has not two contents; a good one has one, whose rows stand in the order of their keys.
+/// No ledger has two contents. A good one has one, whose rows stand in the order of their keys.
 pub fn rows_are_one()
     ensures some { (A : Ledger) → Good A → (C : Content) × IsRowsOf A C }
     ensures one { (A : Ledger) (C D : Content) → IsRowsOf A C → IsRowsOf A D → C ≡ D }
     ensures order { (A : Ledger) (C : Content) → Good A → IsRowsOf A C → IsInKeyOrder C }
 {}
 
-/// The rows that an accepted request changes, put into the rows of a good ledger, give those of the next one.
+/// The rows that an accepted request changes, put into the rows of a good ledger, give the rows of the next ledger.
 pub fn changes_suffice()
     ensures { (A : Ledger) (r : Request) (C D : Content) → Good A → IsKey r.key → IsInRange r.command → IsAccepted A r
         → IsRowsOf A C → IsRowsOf (accept A r) D → put_content (changed_rows A r D) C ≡ D }
@@ -140,14 +141,14 @@ pub fn each_command_changes_its_rows()
         → FirstFailure (checks A r.command) None → changed_rows A r next ≡ rows_told A r next }
 {}
 
-/// The rows of two lists of changes, put in together, are those of the first put in, and then those of the second.
+/// To put in the rows of two lists of changes together is to put in those of the first, and then those of the second.
 pub fn changes_are_put_in_turn()
     ensures { (first second : List Change) (C : Content) → put_content (rows_among (first ++ second)) C
         ≡ put_content (rows_among second) (put_content (rows_among first) C) }
 {}
 
-/// The worked examples of the desk's rules are theorems over the definitions: each request of a script is answered
-/// so, and leaves these numbers.
+/// The worked examples of the desk's rules are theorems about the definitions: each request of a script gets this
+/// answer, and leaves these numbers.
 pub fn worked_examples_hold()
     ensures long_script { Plays new_ledger long_script }
     ensures tight_bounds { Plays new_ledger tight_bounds }

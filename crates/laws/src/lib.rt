@@ -1,4 +1,5 @@
-//! Laws of ledgers, answers and runs; of desks that carry out one log, and of a deal between desks.
+//! Laws of ledgers, answers and runs; of desks that carry out one log, and of a deal between desks. The functions do
+//! nothing when run; the contract of each is a law.
 #![tactic(auto)]
 
 mod deals;

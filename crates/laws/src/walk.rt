@@ -1,4 +1,4 @@
-//! Laws of a desk that stopped while it carried out a log.
+//! Laws of a desk that a stop has ended while it carried out a log.
 
 ghost use Rattle.ledger.specs.Answers.{After, Runs};
 ghost use Rattle.ledger.specs.Good.{Good};
@@ -8,10 +8,10 @@ ghost use Rattle.std.specs.Prelude.{◌≡◌, ◌≢◌, ◌≤◌, ◌+◌, �
 ghost use Rattle.words.specs.declared.command.Request.{Request};
 ghost use Rattle.words.specs.declared.reply.Reply.{Reply};
 
-/// A desk began at A, and stopped at B after some of the log's requests. Those that it keeps are one list, and stand in
-/// the log; the desk goes on behind the fewest requests of the log in which they stand. It had carried out so many at
-/// least, and what it carried out beyond them changed nothing. From there it replies as a desk that did not stop, and
-/// comes to that one's ledger.
+/// A desk began at A, and a stop ended it at B after some of the log's requests. The requests that it keeps are exactly
+/// one list, and stand in the log; the desk goes on after the fewest requests of the log in which they stand. It had
+/// carried out at least so many, and what it carried out beyond them changed nothing. From there it replies as a desk
+/// that no stop has ended, and comes to the ledger of that desk.
 pub fn stopped_desks_find_where_to_go_on()
     ensures kept { (A B : Ledger) (log : List Request) (i : ℕ) → Good A → AreInRange log → After A log i B
         → (kept : List Request) × AreKeptBehind B (places A) kept }
@@ -26,8 +26,8 @@ pub fn stopped_desks_find_where_to_go_on()
         → Runs A log replies C → Runs B (drop j log) (drop j replies) C }
 {}
 
-/// One walk over the log finds where a desk goes on: it takes each kept request in turn where that first comes, and
-/// passes what comes between. Where the log ends before all are taken, it is not the log of that desk.
+/// One walk over the log finds where a desk goes on: the walk takes each kept request in turn where it first comes,
+/// and passes what comes between. Where the log ends before all are taken, it is not the log of that desk.
 pub fn one_walk_finds_the_place()
     ensures taken { (n : Request) (kept log : List Request) (j : ℕ) → GoesOnBehind kept log j
         → GoesOnBehind (n ∷ kept) (n ∷ log) (j + 1) }

@@ -1,13 +1,22 @@
 -- A command that asks for stock: so much more is held or moved on one field. Where the check of the bound passes, each
 -- field keeps its room; and the check, over all outcomes, is one comparison with the ledger before.
-use Rattle.ledger.proofs.Prelude.{Add, Bool, BreaksBound, Changes, Each, Field, Good, IsDistinct, IsNone, IsSomeAnd, IsStrictlySortedBy, Kind, Ledger, Line, List, MatchOption, MayHoldMore, Move, Name, None, Open, OpenLine, Option, Order, Share, Some, State, Take, Way, [], add_hold, add_part, added_by_order, ap, append-nil, append_assoc, arith, bound, by_lt_z, false, field_named, find, held_to_add, held_to_take, hold_more, if_add, if_take, if◌then◌else◌, ints, is_open, is_some, length, line_checks, line_name, line_on, map, moved_by_order, nat_cmp, nat_lt, new_line, new_order, numbered, on, open_state, option_map_or, order_numbered, orders_after, places, pos, raise_held, refl, same_name, settled, settled_part, share_of, signed, steps, subst, sym, take_part, taken_by_order, total, true, true≢false, with_order, ℕ, ℤ, ◌++◌, ◌+ℤ◌, ◌+◌, ◌-ℤ◌, ◌<ℤ◌, ◌==◌, ◌↔◌, ◌∙◌, ◌∷◌, ◌≡◌, ◌≤ℤ◌, ◌≤◌}
+use Rattle.ledger.proofs.Prelude.{Add, Bool, BreaksBound, Changes, Each, Field, Good, IsDistinct, IsNone, IsSomeAnd,
+    IsStrictlySortedBy, Kind, Ledger, Line, List, MatchOption, MayHoldMore, Move, Name, None, Open, OpenLine, Option,
+    Order, Part, Share, Some, State, Take, Way, [], add_hold, ap, append-nil, append_assoc, arith, bound, by_lt_z,
+    common_steps, false, field_named, find, held_to_add, held_to_take, hold_more, if_add, if_take, if◌then◌else◌, ints,
+    is_open, is_some, length, line_checks, line_name, line_on, map, nat_cmp, nat_lt, new_line, new_order, next,
+    numbered, on, open_state, order_numbered, orders_after, part_of, pos, raise_held, refl, same_name, settled,
+    share_of, signed, subst, sym, total, true, true≢false, with_order, ℕ, ℤ, ◌++◌, ◌+ℤ◌, ◌+◌, ◌-ℤ◌, ◌<ℤ◌, ◌↔◌, ◌∙◌, ◌∷◌,
+    ◌≡◌, ◌≤ℤ◌, ◌≤◌}
 use Rattle.ledger.proofs.Bounds.{HasRoom, Sound, falls_below_iff, none-total, rises_above_iff}
 use Rattle.ledger.proofs.Falls.{sounds_from_good}
-use Rattle.ledger.proofs.FieldNames.{InOrder, OneOn, line_field, name_is, named, none_bad, one_on, one_on-map, one_on-push, other_way, same_self}
+use Rattle.ledger.proofs.FieldNames.{InOrder, OneOn, line_field, name_is, named, none_bad, one_on, one_on-map,
+    one_on-push, other_way, same_self}
 use Rattle.ledger.proofs.Lists.{NumbersInOrder, found_both}
 use Rattle.ledger.proofs.Passing.{AllPass, none_if_not_some}
-use Rattle.ledger.proofs.Steps.{IsPart, add_counts, added_is, before, moved_is, no_settled, one_step, part_of, settled_counts, steps_add, take_counts, taken_is}
-use Rattle.ledger.proofs.Sums.{change_order, each, each-both, each-imp, each-insert, each-map, each-of-push, none_found, total-eq, total-insert, total-push, with_move}
+use Rattle.ledger.proofs.Steps.{IsPart, add_counts, no_settled, one_changes, settled_counts, take_counts}
+use Rattle.ledger.proofs.Sums.{change_order, each, each-both, each-imp, each-insert, each-map, each-of-push, none_found,
+    total-eq, total-insert, total-push, with_move}
 
 -- ---- one field, that way
 
@@ -105,14 +114,10 @@ module _ (A : Ledger) (name : Name) (q i : ℕ) (sound : Each Sound A.orders) wh
 
   moved_value : (w : Way) (f : Field)
       → settled (moved w) f ≡ settled A f +ℤ (if same_name f.name name then signed w q else pos 0)
-  moved_value w f =
-      let push = total-push (λ (m : Move). if same_name f.name m.field then m.amount else pos 0) A.moves
-      (record { place = places A + 1; field = name; amount = signed w q }) in
-      omega (arith, ints)
+  moved_value w f = grind (arith, ints, common_steps, total-push)
 
   moved_here : (w : Way) (f : Field) → f.name ≡ name → settled (moved w) f ≡ settled A f +ℤ signed w q
-  moved_here w f e = moved_value w f ∙ ap (λ b. settled A f +ℤ (if b then signed w q else pos 0))
-      (ap (same_name f.name) (sym e) ∙ same_self f.name)
+  moved_here w f e = grind (arith, ints, common_steps, moved_value, same_self)
 
   pub moved_test : (w : Way) → (bound w (moved w) name i).fails ↔ BreaksBound w A name q
   moved_test w = compared A (moved w).moves A.orders sound w name q i (λ f e. by w f (moved_here w f e))
@@ -146,7 +151,7 @@ held_if b q = only_held (if b then q else 0)
 -- in each part the orders count for so much more on the field
 abbrev AddsOn : Name → Way → Share → List Order → List Order → Type 0
 AddsOn f w s os new =
-    (part : Way → Share → ℤ) → IsPart part → total (part_of part f) new ≡ total (part_of part f) os +ℤ part w s
+    (part : Part) → IsPart part → total (part_of part f) new ≡ total (part_of part f) os +ℤ part w s
 
 -- ..on that of the name alone
 abbrev AddsAlone : Name → Way → ℕ → List Order → List Order → Type 0
@@ -163,27 +168,15 @@ module _ (A : Ledger) (os : List Order) where
   C = record A { orders = os }
 
   holds_more : (f : Field) (w : Way) (q : ℕ) → AddsOn f.name w (only_held q) A.orders os → HoldsMore A C f w q
-  holds_more f w q more =
-      let value = own settled_part settled_counts (moved_by_order f.name) (moved_is f.name) in
-      let none = no_settled w in (
-        omega (arith, ints),
-        own take_part take_counts (taken_by_order f.name) (taken_is f.name),
-        own add_part add_counts (added_by_order f.name) (added_is f.name),
-      )
-    where
-      own : (part : Way → Share → ℤ) → IsPart part → (g : Order → ℤ) → ((o : Order) → g o ≡ part_of part f.name o)
-          → total g os ≡ total g A.orders +ℤ part w (only_held q)
-      own part is g same = total-eq g _ os (each same os) ∙ more part is
-          ∙ ap (λ z. z +ℤ part w (only_held q)) (sym (total-eq g _ A.orders (each same A.orders)))
+  holds_more f w q more = grind (arith, ints, common_steps, settled_counts, no_settled, take_counts, add_counts)
 
   has_more : (w : Way) (f : Field) (q : ℕ) → HoldsMore A C f w q → HasMore w A C q f
-  has_more Take f q more = let value = more.0 in let takes = more.1 in omega (arith, ints)
-  has_more Add f q more = let value = more.0 in let adds = more.2 in omega (arith, ints)
+  has_more Take f q more = grind (arith, ints, common_steps)
+  has_more Add f q more = grind (arith, ints, common_steps)
 
   held_test : (w : Way) (name : Name) (q i : ℕ) → Each Sound os → AddsOn name w (only_held q) A.orders os
       → (bound w C name i).fails ↔ BreaksBound w A name q
-  held_test w name q i sound more = compared A A.moves os sound w name q i
-      (λ f e. has_more w f q (holds_more f w q (subst (λ n. AddsOn n w (only_held q) A.orders os) (sym e) more)))
+  held_test w name q i sound more = grind (arith, ints, common_steps, compared, has_more, holds_more)
 
   room_held : (w : Way) (name : Name) (q i : ℕ) → Each Sound os → InOrder A → Room A → AddsAlone name w q A.orders os
       → ((bound w C name i).fails → ⊥) → Room C
@@ -202,7 +195,7 @@ module _ (A : Ledger) (os : List Order) where
           ((λ e high. omega (arith, ints)), λ low. omega (arith, ints))
 
 -- what a line that holds so much counts for
-if_held : (part : Way → Share → ℤ) → IsPart part → (b : Bool) (w : Way) (q : ℕ)
+if_held : (part : Part) → IsPart part → (b : Bool) (w : Way) (q : ℕ)
     → (if b then part w (only_held q) else pos 0) ≡ part w (held_if b q)
 if_held part is true w q = refl
 if_held part is false w q = sym (is.nothing w)
@@ -217,7 +210,8 @@ map-push (m ∷ ms) l = λ i. new_line m ∷ map-push ms l i
 pub fresh-push : (ls : List OpenLine) (l : OpenLine) → ((g : Name) → OneOn g (map new_line ls))
     → find (on (line_field l)) (map new_line ls) ≡ None → (g : Name) → OneOn g (map new_line (ls ++ l ∷ []))
 fresh-push ls l one none g =
-    rw (map-push ls l) (one_on-push g (map new_line ls) (new_line l) (one g) (none_found (on (line_field l)) (map new_line ls) none))
+    rw (map-push ls l)
+        (one_on-push g (map new_line ls) (new_line l) (one g) (none_found (on (line_field l)) (map new_line ls) none))
 
 pub fresh-sound : (n : ℕ) (k : Kind) (u : ℕ) (ls : List OpenLine) → ((g : Name) → OneOn g (map new_line ls))
     → Sound (new_order n k u ls)
@@ -235,25 +229,18 @@ module _ (A : Ledger) (n : ℕ) (k : Kind) (u : ℕ) where
   with_lines ls = with_order (order ls) A
 
   -- what the orders count for, with the new one
-  lines_total : (part : Way → Share → ℤ) (f : Name) (ls : List OpenLine)
+  lines_total : (part : Part) (f : Name) (ls : List OpenLine)
       → total (part_of part f) (with_lines ls).orders ≡ part_of part f (order ls) +ℤ total (part_of part f) A.orders
   lines_total part f ls = total-insert (part_of part f) (λ a b. nat_lt a.number b.number) (order ls) A.orders
 
-  line_more : (part : Way → Share → ℤ) → IsPart part → (f : Name) (ls : List OpenLine) (l : OpenLine)
+  line_more : (part : Part) → IsPart part → (f : Name) (ls : List OpenLine) (l : OpenLine)
       → part_of part f (order (ls ++ l ∷ []))
       ≡ part_of part f (order ls) +ℤ part l.way (held_if (same_name f (line_field l)) l.qty)
-  line_more part is f ls l = ap (total one) (map-push ls l) ∙ total-push one (map new_line ls) (new_line l)
-      ∙ ap (λ z. total one (map new_line ls) +ℤ z) (if_held part is (on f (new_line l)) l.way l.qty)
-    where
-      one : Line → ℤ
-      one m = if on f m then part m.way (share_of Open false m) else pos 0
+  line_more part is f ls l = grind (arith, ints, common_steps, map-push, total-push, if_held)
 
   line_adds : (ls : List OpenLine) (l : OpenLine)
       → AddsAlone (line_field l) l.way l.qty (with_lines ls).orders (with_lines (ls ++ l ∷ [])).orders
-  line_adds ls l f part is =
-      let now = lines_total part f (ls ++ l ∷ []) in let was = lines_total part f ls in
-      let more = line_more part is f ls l in
-      omega (arith, ints)
+  line_adds ls l f part is = grind (arith, ints, common_steps, lines_total, line_more)
 
   -- beside lines on other fields it adds so much to the ledger without them
   first_adds : (ls : List OpenLine) (l : OpenLine) → find (on (line_field l)) (map new_line ls) ≡ None
@@ -349,19 +336,18 @@ hold_sound l o sound = by (line_on o name) refl
     }
 
 -- what lines count for whose order is open and not firm
-abbrev held_of : (Way → Share → ℤ) → Name → List Line → ℤ
+abbrev held_of : Part → Name → List Line → ℤ
 held_of part f ls = total (λ m. if on f m then part m.way (only_held m.held) else pos 0) ls
 
 pub loose_share : (s : State) (b : Bool) (m : Line) → open_state s ≡ true → b ≡ false
     → share_of s b m ≡ only_held m.held
 loose_share s b m e d = grind arith
 
-loose_part : (part : Way → Share → ℤ) (f : Name) (o : Order) → is_open o ≡ true → o.firm ≡ false
+loose_part : (part : Part) (f : Name) (o : Order) → is_open o ≡ true → o.firm ≡ false
     → part_of part f o ≡ held_of part f o.lines
-loose_part part f o e d = total-eq _ _ o.lines
-    (each (λ m. ap (λ s. if on f m then part m.way s else pos 0) (loose_share o.state o.firm m e d)) o.lines)
+loose_part part f o e d = grind (arith, ints, common_steps, total-eq, each, loose_share)
 
-module _ (part : Way → Share → ℤ) (is : IsPart part) (f name : Name) (w : Way) (q : ℕ) where
+module _ (part : Part) (is : IsPart part) (f name : Name) (w : Way) (q : ℕ) where
   abbrev more : ℤ
   more = part w (held_if (same_name f name) q)
 
@@ -369,8 +355,7 @@ module _ (part : Way → Share → ℤ) (is : IsPart part) (f name : Name) (w : 
       → held_of part f (map (raised name q) ms) ≡ held_of part f ms
   unfolding raised
   none_raised [] none = refl
-  none_raised (m ∷ ms) none =
-      rw (none.0) (ap (λ z. (if on f m then part m.way (only_held m.held) else pos 0) +ℤ z) (none_raised ms none.1))
+  none_raised (m ∷ ms) none = grind (arith, ints, common_steps, (none_raised ms none.1))
 
   one_raised : (ms : List Line) → OneOn name ms → IsSomeAnd (find (on name) ms) (λ m. m.way ≡ w)
       → held_of part f (map (raised name q) ms) ≡ held_of part f ms +ℤ more
@@ -394,7 +379,7 @@ module _ (part : Way → Share → ℤ) (is : IsPart part) (f name : Name) (w : 
           omega (arith, ints)
       by false e there more = let rest = more there in omega (arith, ints)
 
-hold_part : (part : Way → Share → ℤ) → IsPart part → (f : Name) (l : OpenLine) (o : Order) → Sound o
+hold_part : (part : Part) → IsPart part → (f : Name) (l : OpenLine) (o : Order) → Sound o
     → MayHoldMore (line_field l) l.way o
     → part_of part f (add_hold l o) ≡ part_of part f o +ℤ part l.way (held_if (same_name f (line_field l)) l.qty)
 unfolding raised
@@ -415,22 +400,16 @@ hold_part part is f l o sound may =
         (subst (λ x. IsSomeAnd x (λ m. m.way ≡ l.way)) (sym e) way)
 
 -- the one order of that number counts for so much more
-one_changed : (g : Order → ℤ) (change : Order → Order) (n : ℕ) (z : ℤ) (os : List Order)
+one_more : (g : Order → ℤ) (change : Order → Order) (n : ℕ) (z : ℤ) (os : List Order)
     → IsStrictlySortedBy nat_cmp (map (λ o. o.number) os)
     → IsSomeAnd (find (numbered n) os) (λ o. g (change o) ≡ g o +ℤ z)
     → total g (orders_after (Changes (numbered n) change) os) ≡ total g os +ℤ z
-one_changed g change n z os sorted found = by (find (numbered n) os) (one_step n change os sorted) found
+one_more g change n z os sorted found = by (find (numbered n) os) refl found
   where
-    by : (x : Option Order)
-        → steps (Changes (numbered n) change) os
-        ≡ option_map_or (λ o. record { before = Some o; after = change o } ∷ []) x []
-        → IsSomeAnd x (λ o. g (change o) ≡ g o +ℤ z)
+    by : (x : Option Order) → find (numbered n) os ≡ x → IsSomeAnd x (λ o. g (change o) ≡ g o +ℤ z)
         → total g (orders_after (Changes (numbered n) change) os) ≡ total g os +ℤ z
     by None is more = absurd more
-    by (Some o) is more =
-        let add = steps_add g (Changes (numbered n) change) os in
-        let was = ap (total (before g)) is in let now = ap (total (λ s. g s.after)) is in
-        omega (arith, ints)
+    by (Some o) is more = let sum = one_changes g change n o os sorted is in omega (arith, ints)
 
 module _ (A : Ledger) (n : ℕ) (l : OpenLine) (sound : Each Sound A.orders) (sorted : NumbersInOrder A)
     (may : IsSomeAnd (order_numbered A n) (MayHoldMore (line_field l) l.way)) where
@@ -438,26 +417,17 @@ module _ (A : Ledger) (n : ℕ) (l : OpenLine) (sound : Each Sound A.orders) (so
   with_more = change_order n (add_hold l) A
 
   pub sound_more : Each Sound with_more.orders
-  sound_more = each-map Sound _ A.orders (each-imp (λ o s. by (o.number == n) o s) A.orders sound)
-    where
-      by : (b : Bool) (o : Order) → Sound o → Sound (if b then add_hold l o else o)
-      by true o s = hold_sound l o s
-      by false o s = s
+  sound_more = grind (arith, ints, common_steps, each-map, each-imp, hold_sound)
 
   more_adds : AddsAlone (line_field l) l.way l.qty A.orders with_more.orders
-  more_adds f part is = one_changed (part_of part f) (add_hold l) n _ A.orders sorted
+  more_adds f part is = one_more (part_of part f) (add_hold l) n _ A.orders sorted
       (found_both (numbered n) A.orders (λ o s m. hold_part part is f l o s m) sound may)
 
   adds_here : (f : Name) → f ≡ line_field l → AddsOn f l.way (only_held l.qty) A.orders with_more.orders
-  adds_here f e = subst (λ b. AddsOn f l.way (held_if b l.qty) A.orders with_more.orders)
-      (ap (same_name f) (sym e) ∙ same_self f) (more_adds f)
-
-  -- with an amount more on a line of it, so much more is held, and its value stays
-  pub more_sums : (f : Field) → f.name ≡ line_field l → HoldsMore A with_more f l.way l.qty
-  more_sums f e = holds_more A with_more.orders f l.way l.qty (adds_here f.name e)
+  adds_here f e = grind (arith, ints, common_steps, same_self, more_adds)
 
   pub more_test : (i : ℕ) → (bound l.way with_more (line_field l) i).fails ↔ BreaksBound l.way A (line_field l) l.qty
-  more_test i = held_test A with_more.orders l.way (line_field l) l.qty i sound_more (adds_here (line_field l) refl)
+  more_test i = grind (arith, ints, common_steps, held_test, sound_more, adds_here)
 
   pub room_raised : (i : ℕ) → InOrder A → Room A → ((bound l.way with_more (line_field l) i).fails → ⊥)
       → Room with_more

@@ -1,7 +1,11 @@
 -- The least and the greatest result over all outcomes, by what is held.
-use Rattle.ledger.proofs.Prelude.{Add, Bool, Each, FallsBelow, Field, IsInfimum, IsSafe, IsSomeAnd, IsSupremum, IsTrue, IsWithin, Ledger, Line, List, Name, None, Option, Order, RisesAbove, Some, Take, Way, [], ap, arith, false, field_named, held_to_add, held_to_take, if_add, if_take, if◌then◌else◌, ints, is_open, list_any, neg_ℤ, on, pos, refl, settled, signed, subst, sym, total, true, true≢false, unsettled, ℕ, ℤ, ◌&&◌, ◌+ℤ◌, ◌-ℤ◌, ◌-◌, ◌<ℤ◌, ◌||◌, ◌↔◌, ◌∙◌, ◌∷◌, ◌≡◌, ◌≤ℤ◌, ◌≤◌}
+use Rattle.ledger.proofs.Prelude.{Add, Bool, Each, FallsBelow, Field, IsInfimum, IsSafe, IsSomeAnd, IsSupremum, IsTrue,
+    IsWithin, Ledger, Line, List, Name, None, Option, Order, Part, RisesAbove, Some, Take, Way, [], ap, arith,
+    common_steps, false, field_named, held_to_add, held_to_take, if_add, if_take, if◌then◌else◌, ints, is_open,
+    list_any, neg_ℤ, on, part_of, pos, refl, settled, signed, subst, sym, total, true, true≢false, unsettled, ℕ, ℤ,
+    ◌&&◌, ◌+ℤ◌, ◌-ℤ◌, ◌-◌, ◌<ℤ◌, ◌||◌, ◌↔◌, ◌∙◌, ◌∷◌, ◌≡◌, ◌≤ℤ◌, ◌≤◌}
 use Rattle.ledger.specs.Outcomes.{IsOutcome, Outcome, commits_in, outcome_result}
-use Rattle.ledger.proofs.Sums.{each-imp, least_if, total-not_negative}
+use Rattle.ledger.proofs.Sums.{each, each-imp, total-not_negative, total-zero}
 use Rattle.ledger.proofs.FieldNames.{OneOn}
 
 -- the field is within its bounds where all takes are used and where all adds are
@@ -39,35 +43,30 @@ both_toward w y z = grind arith
 nothing_toward : (w : Way) → pos 0 ≡ toward w (pos 0)
 nothing_toward w = grind arith
 
--- what a line holds that way on the field beyond what is settled, in an order that is firm or not
-abbrev held : Way → Bool → Name → Line → ℤ
-held w m f l = if on f l then pos (if_way w l.way (unsettled m l l.held)) else pos 0
+-- what a line holds that way on the field, in an order that is open or not, firm or not
+abbrev held : Way → Bool → Bool → Name → Line → ℤ
+held w b m f l = if on f l then pos (if_way w l.way (if b then unsettled m l l.held else 0)) else pos 0
 
--- what an order holds that way, if it is open
-abbrev held_by : Way → Name → Order → ℤ
-held_by w f o = if is_open o then total (held w o.firm f) o.lines else pos 0
+-- the part that is held that way
+abbrev held_part : Way → Part
+held_part w v s = pos (if_way w v s.held)
 
 when-not_negative : (b : Bool) (n : ℕ) → pos 0 ≤ℤ (if b then pos n else pos 0)
 when-not_negative b n = grind arith
 
-lines_least : (w : Way) (m : Bool) (f : Name) (ls : List Line) → pos 0 ≤ℤ total (held w m f) ls
-lines_least w m f ls =
-    total-not_negative (held w m f) (λ l. when-not_negative (on f l) (if_way w l.way (unsettled m l l.held))) ls
-
-all_least : (w : Way) (f : Name) (os : List Order) → pos 0 ≤ℤ total (held_by w f) os
-all_least w f os = total-not_negative (held_by w f)
-    (λ o. least_if (is_open o) (total (held w o.firm f) o.lines) (lines_least w o.firm f o.lines)) os
+order_least : (w : Way) (f : Name) (o : Order) → pos 0 ≤ℤ part_of (held_part w) f o
+order_least w f o = total-not_negative (held w (is_open o) o.firm f) (λ l. when-not_negative (on f l) _) o.lines
 
 pub held_least : (A : Ledger) (f : Name) → (pos 0 ≤ℤ held_to_take A f) × (pos 0 ≤ℤ held_to_add A f)
-held_least A f = (all_least Take f A.orders, all_least Add f A.orders)
+held_least A f = grind (arith, ints, common_steps, total-not_negative, order_least)
 
 -- ---- every outcome is within what is held
 
 -- one line, at any amount from what is used to what is held
-one_within : (w v : Way) (b m : Bool) (used amount held : ℕ) → used ≤ amount → amount ≤ held
+one_within : (w v : Way) (b live m : Bool) (used amount held : ℕ) → live ≡ true → used ≤ amount → amount ≤ held
     → toward w (if b then signed v (if m then amount - used else amount) else pos 0)
-    ≤ℤ (if b then pos (if_way w v (if m then held - used else held)) else pos 0)
-one_within w v b m used amount held p q = grind (arith, ints)
+    ≤ℤ (if b then pos (if_way w v (if live then (if m then held - used else held) else 0)) else pos 0)
+one_within w v b live m used amount held e p q = grind (arith, ints)
 
 -- what a line moves on the field at these amounts, beyond what is settled, and what an order's lines move
 abbrev line_at : Bool → Name → (Line → ℕ) → Line → ℤ
@@ -76,18 +75,15 @@ line_at m f amount l = if on f l then signed l.way (unsettled m l (amount l)) el
 abbrev AreAmounts : (Line → ℕ) → List Line → Type 0
 AreAmounts amount ls = Each (λ l. (l.used ≤ amount l) × (amount l ≤ l.held)) ls
 
-lines_within : (w : Way) (m : Bool) (f : Name) (amount : Line → ℕ) (ls : List Line) → AreAmounts amount ls
-    → toward w (total (line_at m f amount) ls) ≤ℤ total (held w m f) ls
-lines_within w m f amount [] h = let none = nothing_toward w in omega (arith, ints)
-lines_within w m f amount (l ∷ ls) h =
-    let one = one_within w l.way (on f l) m l.used (amount l) l.held h.0.0 h.0.1 in
-    let more = lines_within w m f amount ls h.1 in
-    let sum = both_toward w (line_at m f amount l) (total (line_at m f amount) ls) in
-    omega (arith, ints)
+lines_within : (w : Way) (b m : Bool) (f : Name) (amount : Line → ℕ) (ls : List Line) → b ≡ true → AreAmounts amount ls
+    → toward w (total (line_at m f amount) ls) ≤ℤ total (held w b m f) ls
+lines_within w b m f amount [] e h = grind (arith, ints, common_steps, nothing_toward)
+lines_within w b m f amount (l ∷ ls) e h =
+    grind (arith, ints, common_steps, (lines_within w b m f amount ls e h.1), one_within, both_toward)
 
 -- one order: it is open or not, and commits or not
-order_within : (w : Way) (b c : Bool) (held m : ℤ) → pos 0 ≤ℤ held → (IsTrue (b && c) → toward w m ≤ℤ held)
-    → toward w (if b && c then m else pos 0) ≤ℤ (if b then held else pos 0)
+order_within : (w : Way) (b c : Bool) (held m : ℤ) → pos 0 ≤ℤ held → (b ≡ true → c ≡ true → toward w m ≤ℤ held)
+    → toward w (if b && c then m else pos 0) ≤ℤ held
 order_within w b c held m p q = grind arith
 
 -- what an order moves in the outcome, beyond what is settled
@@ -96,14 +92,17 @@ moved_in X f o = if commits_in X o then total (line_at o.firm f (X.amount o)) o.
 
 within : (w : Way) (f : Name) (X : Outcome) (os : List Order)
     → Each (λ o. IsTrue (commits_in X o) → AreAmounts (X.amount o) o.lines) os
-    → toward w (total (moved_in X f) os) ≤ℤ total (held_by w f) os
+    → toward w (total (moved_in X f) os) ≤ℤ total (part_of (held_part w) f) os
 within w f X [] h = let none = nothing_toward w in omega (arith, ints)
 within w f X (o ∷ os) h =
-    let one = order_within w (is_open o) (o.firm || X.commits o) _ _ (lines_least w o.firm f o.lines)
-    (λ c. lines_within w o.firm f (X.amount o) o.lines (h.0 c)) in
+    let one = order_within w (is_open o) (o.firm || X.commits o) _ _ (order_least w f o)
+    (λ e c. lines_within w (is_open o) o.firm f (X.amount o) o.lines e (h.0 (both_true _ _ e c))) in
     let more = within w f X os h.1 in
     let sum = both_toward w (moved_in X f o) (total (moved_in X f) os) in
     omega (arith, ints)
+  where
+    both_true : (b c : Bool) → b ≡ true → c ≡ true → (b && c) ≡ true
+    both_true b c d e = cc
 
 least : (A : Ledger) (f : Field) (X : Outcome) → IsOutcome A X
     → (settled A f -ℤ held_to_take A f.name) ≤ℤ outcome_result A X f
@@ -119,8 +118,7 @@ greatest A f X h = let above = within Add f.name X A.orders h in omega (arith, i
 pub none-total : (f : Name) (g : Line → ℤ) (ls : List Line) → Each (λ m. on f m ≡ false) ls
     → total (λ l. if on f l then g l else pos 0) ls ≡ pos 0
 none-total f g [] h = refl
-none-total f g (l ∷ ls) h =
-    rw h.0 (let b : total (λ l. if on f l then g l else pos 0) ls ≡ pos 0 = none-total f g ls h.1 in omega (arith, ints))
+none-total f g (l ∷ ls) h = grind (arith, ints, common_steps, (none-total f g ls h.1))
 
 none-has : (w : Way → Bool) (f : Name) (ls : List Line) → Each (λ m. on f m ≡ false) ls → has w f ls ≡ false
 unfolding has
@@ -139,11 +137,11 @@ unfolding is_way
 firm_step w b v used held h = grind arith
 
 in_firm : (w : Way) (f : Name) (ls : List Line) → Each (λ l. l.used ≤ l.held) ls
-    → total (line_at true f (reaching w)) ls ≡ toward w (total (held w true f) ls)
+    → total (line_at true f (reaching w)) ls ≡ toward w (total (held w true true f) ls)
 in_firm w f [] h = nothing_toward w
 in_firm w f (l ∷ ls) h =
     let one = firm_step w (on f l) l.way l.used l.held h.0 in
-    (λ i. one i +ℤ in_firm w f ls h.1 i) ∙ sym (both_toward w (held w true f l) (total (held w true f) ls))
+    (λ i. one i +ℤ in_firm w f ls h.1 i) ∙ sym (both_toward w (held w true true f l) (total (held w true true f) ls))
 
 -- of one that is not firm, where it commits only with a line that way on the field, which is its one line there
 
@@ -156,7 +154,7 @@ unfolding is_way
 full_step w b v used h r s any p q e = grind arith
 
 in_full : (w : Way) (f : Name) (ls : List Line) → OneOn f ls → has (is_way w) f ls ≡ true
-    → total (line_at false f (reaching w)) ls ≡ toward w (total (held w false f) ls)
+    → total (line_at false f (reaching w)) ls ≡ toward w (total (held w true false f) ls)
 unfolding has
 in_full w f [] one e = absurd (true≢false (sym e))
 in_full w f (l ∷ ls) one e = full_step w (on f l) l.way l.used l.held _ _ (has (is_way w) f ls)
@@ -173,11 +171,11 @@ none_step : (w : Way) (b : Bool) (v : Way) (h : ℕ) (s : ℤ) (any : Bool) → 
 unfolding is_way
 none_step w b v h s any q e = grind arith
 
-none_held : (w : Way) (f : Name) (ls : List Line) → has (is_way w) f ls ≡ false → total (held w false f) ls ≡ pos 0
+none_held : (w : Way) (f : Name) (ls : List Line) → has (is_way w) f ls ≡ false → total (held w true false f) ls ≡ pos 0
 unfolding has
 none_held w f [] e = refl
 none_held w f (l ∷ ls) e =
-    none_step w (on f l) l.way l.held (total (held w false f) ls) (has (is_way w) f ls) (λ h. none_held w f ls h) e
+    none_step w (on f l) l.way l.held (total (held w true false f) ls) (has (is_way w) f ls) (λ h. none_held w f ls h) e
 
 -- every open order with such a line on the field commits, and beside it the firm ones alone
 extreme : Way → Name → Outcome
@@ -189,28 +187,27 @@ reaches b used held h = grind arith
 
 extreme-outcome : (w : Way) (f : Name) (A : Ledger) → Each Sound A.orders → IsOutcome A (extreme w f)
 unfolding extreme
-extreme-outcome w f A h =
-    each-imp (λ o s c. each-imp (λ l u. reaches (is_way w l.way) l.used l.held u) o.lines s.used) A.orders h
+extreme-outcome w f A h = grind (arith, ints, common_steps, each-imp, reaches, is_way)
 
-extreme_order : (w : Way) (b c : Bool) (m z : ℤ) → (c ≡ true → m ≡ toward w z) → (c ≡ false → z ≡ pos 0)
-    → (if b && c then m else pos 0) ≡ toward w (if b then z else pos 0)
-extreme_order w b c m z p q = grind arith
+extreme_order : (w : Way) (c : Bool) (m z : ℤ) → (c ≡ true → m ≡ toward w z) → (c ≡ false → z ≡ pos 0)
+    → (if c then m else pos 0) ≡ toward w z
+extreme_order w c m z p q = grind arith
 
--- one order, firm or not
+-- one order, open or not, firm or not
 one_order : (w : Way) (f : Name) (b m : Bool) (ls : List Line) → OneOn f ls → Each (λ l. l.used ≤ l.held) ls
     → (if b && (m || has (is_way w) f ls) then total (line_at m f (reaching w)) ls else pos 0)
-    ≡ toward w (if b then total (held w m f) ls else pos 0)
-one_order w f b true ls one used = extreme_order w b true _ _ (λ _. in_firm w f ls used) (λ e. absurd (true≢false e))
-one_order w f b false ls one used =
-    extreme_order w b (has (is_way w) f ls) _ _ (in_full w f ls one) (none_held w f ls)
+    ≡ toward w (total (held w b m f) ls)
+one_order w f true true ls one used = in_firm w f ls used
+one_order w f true false ls one used = grind (arith, ints, common_steps, extreme_order, has, is_way, in_full, none_held)
+one_order w f false m ls one used = grind (arith, ints, common_steps, nothing_toward, total-zero, each)
 
 extreme-result : (w : Way) (f : Field) (A : Ledger) → Each Sound A.orders
-    → outcome_result A (extreme w f.name) f ≡ settled A f +ℤ toward w (total (held_by w f.name) A.orders)
+    → outcome_result A (extreme w f.name) f ≡ settled A f +ℤ toward w (total (part_of (held_part w) f.name) A.orders)
 unfolding extreme
 extreme-result w f A h = ap (λ z. settled A f +ℤ z) (go A.orders h)
   where
     go : (os : List Order) → Each Sound os
-        → total (moved_in (extreme w f.name) f.name) os ≡ toward w (total (held_by w f.name) os)
+        → total (moved_in (extreme w f.name) f.name) os ≡ toward w (total (part_of (held_part w) f.name) os)
     go [] h = nothing_toward w
     go (o ∷ os) h = grind (arith, (one_order w f.name (is_open o) o.firm o.lines (h.0.one f.name) h.0.used), (go os h.1))
 
@@ -222,7 +219,10 @@ pub inf_is : (A : Ledger) → Each Sound A.orders → (f : Field) → IsInfimum 
 inf_is A h f = record { reached = (extreme Take f.name, extreme-outcome Take f.name A h, least-result f A h); least = least A f }
 
 pub sup_is : (A : Ledger) → Each Sound A.orders → (f : Field) → IsSupremum A f (settled A f +ℤ held_to_add A f.name)
-sup_is A h f = record { reached = (extreme Add f.name, extreme-outcome Add f.name A h, extreme-result Add f A h); greatest = greatest A f }
+sup_is A h f = record {
+  reached = (extreme Add f.name, extreme-outcome Add f.name A h, extreme-result Add f A h);
+  greatest = greatest A f
+}
 
 -- an infimum is unique
 pub inf_unique : (A : Ledger) (f : Field) (a b : ℤ) → IsInfimum A f a → IsInfimum A f b → a ≡ b

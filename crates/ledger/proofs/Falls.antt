@@ -1,14 +1,21 @@
 -- A command that asks for no stock: what its lines count for only falls, so that each field keeps its room.
-use Rattle.ledger.proofs.Prelude.{Aborted, Accepts, Add, AreHeld, AsksNoStock, Bool, Changes, Command, Committed, Each, Effect, Falls, Field, FirstFailure, Good, IsGoodOrder, IsSome, IsSomeAnd, IsStrictlySortedBy, IsTransferPair, IsTrue, Ledger, Line, List, MatchOption, Name, None, Nothing, Open, Opens, Option, Order, Request, Share, ShareStep, Some, State, Step, Take, Way, [], accept, add_part, added_on, ap, arith, before_on, change_lines, checks, effect, expires, false, field_named, find, if◌then◌else◌, insert_in_order, ints, is_open, is_transfer, line_name, lower_held, map, moved_by_command, name_of, nat_cmp, nat_le, nat_lt, next, not, numbered, on, open_state, order_numbered, orders_after, pos, raise_used, refl, same_name, set_firm, set_state, settled_part, share_of, share_steps, shares_of_step, steps, steps_of, subst, sym, take_part, total, true, true≢false, ℕ, ℤ, ◌&&◌, ◌++◌, ◌+ℤ◌, ◌+◌, ◌-ℤ◌, ◌-◌, ◌||◌, ◌∙◌, ◌∷◌, ◌≡◌, ◌≢◌, ◌≤ℤ◌, ◌≤◌}
-use Rattle.words.specs.declared.command.Command.TheVariants as command
+use Rattle.ledger.proofs.Prelude.{Aborted, Accepts, Add, AsksNoStock, Bool, Changes, Command, Committed, Each, Effect,
+    Field, FirstFailure, Good, IsGoodOrder, IsSome, IsSomeAnd, IsTransferPair, IsTrue, Ledger, Line, List, MatchOption,
+    Name, None, Nothing, Open, Opens, Option, Order, Request, Share, ShareStep, Some, State, Step, Take, Way, [],
+    accept, add_part, added_on, ap, arith, change_lines, checks, common_steps, effect, expires, false, field_named,
+    find, if◌then◌else◌, insert_in_order, ints, is_open, is_transfer, line_name, lower_held, map, moved_by_command,
+    name_of, nat_lt, next, numbered, on, open_state, order_numbered, orders_after, pos, raise_used, refl, same_name,
+    set_firm, set_state, settled_part, share_of, share_steps, shares_of_step, steps, steps_of, subst, sym, take_part,
+    true, true≢false, ℕ, ℤ, ◌+ℤ◌, ◌+◌, ◌-ℤ◌, ◌-◌, ◌||◌, ◌∙◌, ◌∷◌, ◌≡◌, ◌≤ℤ◌, ◌≤◌}
 use Rattle.ledger.specs.Next.{fields_after}
-use Rattle.ledger.specs.Held.{added_by_order, taken_by_order}
 use Rattle.ledger.proofs.Bounds.{HasRoom, Sound, room_from_safe}
 use Rattle.ledger.proofs.FieldNames.{at_line, one_on, one_on-map}
 use Rattle.ledger.proofs.Lists.{NumbersInOrder, at_number}
 use Rattle.ledger.proofs.Passing.{AllPass, Usable, all_pass, loose_there, open_there, usable_there}
-use Rattle.ledger.proofs.Steps.{Goes, IsPart, StepGoes, add_counts, added_is, adds_next, after_turns, alike, before_is, before_least, changes_each, firm_goes, lines_go, part_of, shares_from, state_goes, step_if, steps_go, take_counts, taken_is, takes_next, turns, value_next}
-use Rattle.ledger.proofs.Sums.{each, each-both, each-flat, each-imp, each-insert, each-map, least_if, total-eq, total-not_negative}
+use Rattle.ledger.proofs.Steps.{Goes, StepGoes, adds_next, after_turns, changes_each, commits, effect_goes, expired,
+    firm_goes, lines_go, numbers_after, shares_from, state_goes, step_if, takes_next, turns, value_next}
+use Rattle.ledger.proofs.Sums.{each, each-both, each-flat, each-imp, each-insert, each-map}
+use Rattle.words.specs.declared.command.Command.TheVariants as command
 
 -- ---- what holds of each order of the next ledger holds of those that the command makes
 
@@ -25,12 +32,7 @@ inserted P p x (y ∷ ys) all = by (p x y) all (λ k. inserted P p x ys k)
 changed_each : (P : Order → Type 0) (names : Order → Bool) (change : Order → Order) (os : List Order)
     → Each P (after_turns names change os) → Each P (map (λ s. s.after) (turns names change os))
 changed_each P names change [] all = tt
-changed_each P names change (o ∷ os) all = by (names o) all.0 (changed_each P names change os all.1)
-  where
-    by : (b : Bool) → P (if b then change o else o) → Each P (map (λ s. s.after) (turns names change os))
-        → Each P (map (λ s. s.after) (step_if b o (change o) ++ turns names change os))
-    by true own more = (own, more)
-    by false own more = more
+changed_each P names change (o ∷ os) all = grind (arith, ints, common_steps, (changed_each P names change os all.1))
 
 pub made_each : (P : Order → Type 0) (e : Effect) (os : List Order) → Each P (orders_after e os)
     → Each P (map (λ s. s.after) (steps e os))
@@ -42,23 +44,17 @@ made_each P (Changes names change) os all = changed_each P names change os all
 pub after_each : (P : Order → Type 0) (e : Effect) (os : List Order) → Each P os → Each (λ s. P s.after) (steps e os)
     → Each P (orders_after e os)
 after_each P Nothing os all new = all
-after_each P (Opens o) os all new = each-insert P (λ a b. nat_lt a.number b.number) o os new.0 all
+after_each P (Opens o) os all new = grind (arith, ints, common_steps, each-insert)
 after_each P (Changes names change) [] all new = tt
-after_each P (Changes names change) (o ∷ os) all new = by (names o) new (after_each P (Changes names change) os all.1)
-  where
-    by : (b : Bool) → Each (λ s. P s.after) (step_if b o (change o) ++ turns names change os)
-        → (Each (λ s. P s.after) (turns names change os) → Each P (after_turns names change os))
-        → Each P ((if b then change o else o) ∷ after_turns names change os)
-    by true new more = (new.0, more new.1)
-    by false new more = (all.0, more new)
+after_each P (Changes names change) (o ∷ os) all new =
+    grind (arith, ints, common_steps, (after_each P (Changes names change) os all.1))
 
 -- what holds of each order holds of those that are there before the steps
 pub before_each : (P : Order → Type 0) (e : Effect) (os : List Order) → Each P os
     → Each (λ s. MatchOption s.before (Unit {0}) P) (steps e os)
 before_each P Nothing os all = tt
 before_each P (Opens o) os all = (tt, tt)
-before_each P (Changes names change) os all =
-    changes_each (λ s. MatchOption s.before (Unit {0}) P) names change os (each-imp (λ o x e. x) os all)
+before_each P (Changes names change) os all = grind (arith, ints, common_steps, changes_each, each-imp)
 
 -- ---- what stays true under every future
 
@@ -99,7 +95,6 @@ LinesFall (b ∷ bs) (l ∷ ls) = LineFalls b l × LinesFall bs ls
 
 pub record OrderFalls (b a : Order) : Type 0 where
   pub goes : Goes b a
-  pub loose : a.state ≡ Aborted → a.firm ≡ false
   pub lines : LinesFall b.lines a.lines
   pub fine : Fine a
 
@@ -114,15 +109,11 @@ lines_stay : (ls : List Line) → Each (λ l. l.used ≤ l.held) ls → LinesFal
 lines_stay [] within = tt
 lines_stay (l ∷ ls) within = ((omega arith, omega arith, within.0), lines_stay ls within.1)
 
-not_aborted : (s : State) → open_state s ≡ true → s ≢ Aborted
-not_aborted s e d = true≢false (sym e ∙ ap open_state d)
-
 -- the end of an order, and a `firm`
 ended_falls : (s : State) (o : Order) → (s ≡ Aborted → o.firm ≡ false) → Fine o → is_open o ≡ true
     → OrderFalls o (set_state s o)
 ended_falls s o loose fine e = record {
-  goes = state_goes s o e;
-  loose = loose;
+  goes = state_goes s o loose e;
   lines = lines_stay o.lines fine.sound.used;
   fine = record { sound = record { used = fine.sound.used; one = fine.sound.one }; pair = fine.pair };
 }
@@ -130,7 +121,6 @@ ended_falls s o loose fine e = record {
 firm_falls : (o : Order) → Fine o → is_open o ≡ true → OrderFalls o (set_firm o)
 firm_falls o fine e = record {
   goes = firm_goes o e;
-  loose = λ s. absurd (not_aborted o.state e s);
   lines = lines_stay o.lines fine.sound.used;
   fine = record { sound = record { used = fine.sound.used; one = fine.sound.one }; pair = fine.pair };
 }
@@ -143,7 +133,11 @@ record Closes (q : ℕ) (change : Line → Line) : Type 0 where
       → ((change l).held ≡ (change m).held) × ((change l).used ≡ (change m).used)
 
 use_closes : (q : ℕ) → Closes q (raise_used q)
-use_closes q = record { same = λ l. (refl, refl); falls = λ l h. (omega arith, omega arith, h); pair = λ l m a b. (a, ap (λ n. n + q) b) }
+use_closes q = record {
+  same = λ l. (refl, refl);
+  falls = λ l h. (omega arith, omega arith, h);
+  pair = λ l m a b. (a, ap (λ n. n + q) b)
+}
 
 release_closes : (q : ℕ) → Closes q (lower_held q)
 release_closes q = record {
@@ -164,7 +158,6 @@ changed_falls : (f : Name) (q : ℕ) (change : Line → Line) (o : Order) → Cl
     → OrderFalls o (change_lines f change o)
 changed_falls f q change o closes fine u = record {
   goes = lines_go f change o closes.same u.0;
-  loose = λ s. absurd (not_aborted o.state u.0 s);
   lines = lines_fall new o.lines all;
   fine = record {
     sound = record {
@@ -206,12 +199,6 @@ numbered_fall : (A : Ledger) (n : ℕ) (change : Order → Order) (P : Order →
 numbered_fall A n change P fit falls there = changes_each StepFalls (numbered n) change A.orders
     (each-both (λ o fine x e. falls o fine (x e)) A.orders fit.orders (at_number P n A.orders fit.numbers there))
 
-expired : (b m c : Bool) → (b && not m && c) ≡ true → (b ≡ true) × (m ≡ false)
-expired b m c e = grind arith
-
-committed : Committed ≡ Aborted → ⊥
-committed e = cc
-
 pub steps_fall : (A : Ledger) (c : Command) → Fit A → FirstFailure (checks A c) None → AsksNoStock c
     → Each StepFalls (steps_of A c)
 steps_fall A c fit passed asks = by c asks (all_pass (checks A c) passed)
@@ -226,7 +213,7 @@ steps_fall A c fit passed asks = by c asks (all_pass (checks A c) passed)
         (λ o fine u. changed_falls (name_of b a) q (lower_held q) o (release_closes q) fine u)
         (usable_there (name_of b a) q (order_numbered A n) p.1.0 p.1.1.0 p.1.1.1.0 p.1.1.1.1.0)
     by (command.Commit n) asks p = numbered_fall A n (set_state Committed) (λ o. is_open o ≡ true) fit
-        (λ o fine e. ended_falls Committed o (λ s. absurd (committed s)) fine e)
+        (λ o fine e. ended_falls Committed o (λ s. absurd (commits s)) fine e)
         (open_there (order_numbered A n) p.0 p.1.0)
     by (command.Abort n) asks p = numbered_fall A n (set_state Aborted)
         (λ o. (is_open o ≡ true) × (o.firm ≡ false)) fit (λ o fine x. ended_falls Aborted o (λ s. x.1) fine x.0)
@@ -235,17 +222,12 @@ steps_fall A c fit passed asks = by c asks (all_pass (checks A c) passed)
         numbered_fall A n set_firm (λ o. is_open o ≡ true) fit firm_falls
         (open_there (order_numbered A n) p.1.0 p.1.1.0)
     by (command.Expire now) asks p = changes_each StepFalls (expires now) (set_state Aborted) A.orders
-        (each-imp (λ o fine e. let x = expired (is_open o) o.firm (nat_le o.until now) e in ended_falls Aborted o
+        (each-imp (λ o fine e. let x = expired now o e in ended_falls Aborted o
         (λ s. x.1) fine x.0) A.orders fit.orders)
     by c asks p = absurd asks
 
 pub step_goes : (s : Step) → StepFalls s → StepGoes s
-step_goes s falls = by s.before falls
-  where
-    by : (b : Option Order) → MatchOption b ⊥ (λ b. OrderFalls b s.after)
-        → MatchOption b (Unit {0}) (λ b. Goes b s.after)
-    by None falls = tt
-    by (Some b) falls = falls.goes
+step_goes s falls = grind (arith, ints, common_steps)
 
 -- ---- shares that fall
 
@@ -255,8 +237,7 @@ pub record ShareFalls (before after : Share) : Type 0 where
 
 share_falls : (s t : State) (m n : Bool) (b l : Line) → open_state s ≡ true → (m ≡ true → n ≡ true)
     → (t ≡ Aborted → n ≡ false) → LineFalls b l → ShareFalls (share_of s m b) (share_of t n l)
-share_falls Open Open true n b l unended firm loose falls =
-    rw (firm refl) (record { settled = omega arith; used = omega arith })
+share_falls Open Open true n b l unended firm loose falls = grind (arith, ints, common_steps)
 share_falls Open Open false n b l unended firm loose falls = grind arith
 share_falls Open Committed m n b l unended firm loose falls = grind arith
 share_falls Open Aborted true n b l unended firm loose falls = absurd (true≢false (sym (firm refl) ∙ loose refl))
@@ -264,54 +245,71 @@ share_falls Open Aborted false n b l unended firm loose falls = record { settled
 share_falls Committed t m n b l unended firm loose falls = absurd (true≢false (sym unended))
 share_falls Aborted t m n b l unended firm loose falls = absurd (true≢false (sym unended))
 
-step_shares : (s : Step) → StepFalls s → Each (λ x. ShareFalls x.before x.after) (shares_of_step s)
+-- the line counts so then
+abbrev pub Falls : ShareStep → Type 0
+Falls x = ShareFalls x.before x.after
+
+step_shares : (s : Step) → StepFalls s → Each Falls (shares_of_step s)
 step_shares s falls = by s.before falls
   where
     go : (b : Order) → OrderFalls b s.after → (nr : ℕ) (bs ls : List Line) → LinesFall bs ls
-        → Each (λ x. ShareFalls x.before x.after) (shares_from (Some b) s.after nr bs ls)
+        → Each Falls (shares_from (Some b) s.after nr bs ls)
     go b falls nr [] [] lines = tt
     go b falls nr [] (l ∷ ls) lines = absurd lines
     go b falls nr (m ∷ ms) [] lines = absurd lines
     go b falls nr (m ∷ ms) (l ∷ ls) lines =
-        (share_falls b.state s.after.state b.firm s.after.firm m l falls.goes.unended falls.goes.firm falls.loose lines.0, go b falls (nr + 1) ms ls lines.1)
+        (share_falls b.state s.after.state b.firm s.after.firm m l falls.goes.unended falls.goes.firm falls.goes.loose
+            lines.0, go b falls (nr + 1) ms ls lines.1)
 
     by : (b : Option Order) → MatchOption b ⊥ (λ b. OrderFalls b s.after)
-        → Each (λ x. ShareFalls x.before x.after) (shares_of_step (record { before = b; after = s.after }))
+        → Each Falls (shares_of_step (record { before = b; after = s.after }))
     by None falls = absurd falls
     by (Some b) falls = go b falls 1 b.lines s.after.lines falls.lines
 
-shares_fall : (A : Ledger) (c : Command) → Each StepFalls (steps_of A c)
-    → Each (λ x. ShareFalls x.before x.after) (share_steps A c)
+shares_fall : (A : Ledger) (c : Command) → Each StepFalls (steps_of A c) → Each Falls (share_steps A c)
 shares_fall A c falls = each-flat _ shares_of_step (steps_of A c) (each-imp step_shares (steps_of A c) falls)
 
 pub all_fall : (A : Ledger) (r : Request) → Accepts A r → AsksNoStock r.command → Each Falls (share_steps A r.command)
-all_fall A r accepts asks =
-    let falls = steps_fall A r.command (fit_from_good A accepts.before) accepts.accepted.1 asks in
-    each-both (λ x own same. record { settled = own.settled; used = own.used; same = same }) (share_steps A r.command)
-    (shares_fall A r.command falls) (alike A r.command (each-imp step_goes (steps_of A r.command) falls))
+all_fall A r accepts asks = grind (arith, ints, common_steps, shares_fall, steps_fall, fit_from_good)
 
 -- ---- the room of each field
 
--- where shares fall, the least that a field comes to does not sink, and the most does not rise
-abbrev Sinks : (settled takes adds : ℤ) → Type 0
-Sinks settled takes adds = (takes ≤ℤ settled) × ((settled +ℤ adds) ≤ℤ pos 0)
+-- where shares fall, the least that a field comes to rises, the most falls, and so does what is held
+pub record Lower (settled takes adds : ℤ) : Type 0 where
+  pub takes_fall : takes ≤ℤ pos 0
+  pub adds_fall : adds ≤ℤ pos 0
+  pub least : takes ≤ℤ settled
+  pub most : (settled +ℤ adds) ≤ℤ pos 0
 
-share_sinks : (b : Bool) (w : Way) (x y : Share) → ShareFalls x y
-    → Sinks (if b then settled_part w y -ℤ settled_part w x else pos 0)
+share_lowers : (b : Bool) (w : Way) (x y : Share) → ShareFalls x y
+    → Lower (if b then settled_part w y -ℤ settled_part w x else pos 0)
     (if b then take_part w y -ℤ take_part w x else pos 0) (if b then add_part w y -ℤ add_part w x else pos 0)
-share_sinks true Take x y falls =
-    let s = falls.settled in let u = falls.used in (omega (arith, ints), omega (arith, ints))
-share_sinks true Add x y falls =
-    let s = falls.settled in let u = falls.used in (omega (arith, ints), omega (arith, ints))
-share_sinks false w x y falls = (omega (arith, ints), omega (arith, ints))
+share_lowers true Take x y falls = grind (arith, ints, common_steps)
+share_lowers true Add x y falls = grind (arith, ints, common_steps)
+share_lowers false w x y falls = record {
+  takes_fall = omega (arith, ints);
+  adds_fall = omega (arith, ints);
+  least = omega (arith, ints);
+  most = omega (arith, ints)
+}
 
-sinks : (f : Name) (xs : List ShareStep) → Each (λ x. ShareFalls x.before x.after) xs
-    → Sinks (added_on settled_part f xs) (added_on take_part f xs) (added_on add_part f xs)
-sinks f [] falls = (omega (arith, ints), omega (arith, ints))
-sinks f (x ∷ xs) falls =
-    let one = share_sinks (same_name f x.name) x.way x.before x.after falls.0 in let more = sinks f xs falls.1 in
-    let a = one.0 in let b = one.1 in let c = more.0 in let d = more.1 in
-    (omega (arith, ints), omega (arith, ints))
+pub lowers : (f : Name) (xs : List ShareStep) → Each Falls xs
+    → Lower (added_on settled_part f xs) (added_on take_part f xs) (added_on add_part f xs)
+lowers f [] falls =
+    record {
+      takes_fall = omega (arith, ints);
+      adds_fall = omega (arith, ints);
+      least = omega (arith, ints);
+      most = omega (arith, ints)
+    }
+lowers f (x ∷ xs) falls =
+    let one = share_lowers (same_name f x.name) x.way x.before x.after falls.0 in let more = lowers f xs falls.1 in
+    record {
+      takes_fall = omega (arith, ints);
+      adds_fall = omega (arith, ints);
+      least = omega (arith, ints);
+      most = omega (arith, ints)
+    }
 
 moves_nothing : (f : Name) (c : Command) → AsksNoStock c → moved_by_command f c ≡ pos 0
 moves_nothing f c asks = grind arith
@@ -319,30 +317,11 @@ moves_nothing f c asks = grind arith
 pub fields_stay : (c : Command) (fs : List Field) → AsksNoStock c → fields_after c fs ≡ fs
 fields_stay c fs asks = grind arith
 
-pub numbers_kept : (names : Order → Bool) (change : Order → Order) (os : List Order)
-    → Each StepGoes (turns names change os)
-    → map (λ o. o.number) (after_turns names change os) ≡ map (λ o. o.number) os
-numbers_kept names change [] goes = refl
-numbers_kept names change (o ∷ os) goes = by (names o) goes (numbers_kept names change os)
-  where
-    by : (b : Bool) → Each StepGoes (step_if b o (change o) ++ turns names change os)
-        → (Each StepGoes (turns names change os) → map (λ o. o.number) (after_turns names change os) ≡ map (λ o. o.number) os)
-        → map (λ o. o.number) ((if b then change o else o) ∷ after_turns names change os)
-        ≡ map (λ o. o.number) (o ∷ os)
-    by true goes more = λ i. goes.0.number i ∷ more goes.1 i
-    by false goes more = ap (λ ns. o.number ∷ ns) (more goes)
-
-numbers_stay : (e : Effect) (os : List Order) → Each StepFalls (steps e os)
-    → map (λ o. o.number) (orders_after e os) ≡ map (λ o. o.number) os
-numbers_stay Nothing os falls = refl
-numbers_stay (Opens o) os falls = absurd falls.0
-numbers_stay (Changes names change) os falls = numbers_kept names change os (each-imp step_goes _ falls)
-
 pub fit-accept : (A : Ledger) (key : List ℕ) (c : Command) → AsksNoStock c → Fit A → FirstFailure (checks A c) None
     → Fit (accept A (record { key = key; command = c }))
 fit-accept A key c asks fit passed = record {
   orders = after_each Fine (effect c) A.orders fit.orders (each-imp fine (steps_of A c) falls);
-  numbers = subst (IsStrictlySortedBy nat_cmp) (sym (numbers_stay (effect c) A.orders falls)) fit.numbers;
+  numbers = numbers_after (effect c) A.orders (effect_goes A c fit.numbers passed) fit.numbers;
   room = subst (Each (HasRoom (next A c))) (sym (fields_stay c A.fields asks)) (each-imp room A.fields fit.room);
 }
   where
@@ -362,35 +341,11 @@ fit-accept A key c asks fit passed = record {
     room : (f : Field) → HasRoom A f → HasRoom (next A c) f
     room f r =
         let low = r.0 in let high = r.1 in
-        let sum = sinks f.name (share_steps A c) (shares_fall A c falls) in let s = sum.0 in let t = sum.1 in
+        let sum = lowers f.name (share_steps A c) (shares_fall A c falls) in
         let none = moves_nothing f.name c asks in
         let value = value_next A c goes f in let takes = takes_next A c goes f.name in
         let adds = adds_next A c goes f.name in
         (omega (arith, ints), omega (arith, ints))
-
--- ---- what was counted is held
-
-counted_held : (part : Way → Share → ℤ) → IsPart part → ((w : Way) (s : Share) → pos 0 ≤ℤ part w s)
-    → (own : Order → ℤ) (f : Name) → ((o : Order) → own o ≡ part_of part f o)
-    → (A : Ledger) (c : Command) → Each StepGoes (steps_of A c)
-    → before_on part f (share_steps A c) ≤ℤ total own A.orders
-counted_held part is least own f same A c goes =
-    let was = before_is part is f (steps_of A c) goes in
-    let part_least = λ (o : Order). total-not_negative
-    (λ l. if on f l then part l.way (share_of o.state o.firm l) else pos 0)
-    (λ l. least_if (on f l) _ (least l.way (share_of o.state o.firm l))) o.lines in
-    let there = before_least (part_of part f) part_least (effect c) A.orders in
-    let all = total-eq own (part_of part f) A.orders (each same A.orders) in
-    omega (arith, ints)
-
-pub all_held : (A : Ledger) (r : Request) → Accepts A r → AreHeld A (share_steps A r.command)
-all_held A r accepts n =
-    let goes = steps_go A r.command accepts.before.orders_in_order accepts.accepted.1 in (
-      counted_held take_part take_counts (λ w s. omega (arith, ints)) (taken_by_order n) n
-          (taken_is n) A r.command goes,
-      counted_held add_part add_counts (λ w s. omega (arith, ints)) (added_by_order n) n
-          (added_is n) A r.command goes,
-    )
 
 -- ---- the fields of the lines are there
 

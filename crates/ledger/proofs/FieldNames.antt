@@ -1,5 +1,9 @@
 -- Names of fields: which are equal, and the one line or field under a name.
-use Rattle.ledger.proofs.Prelude.{Bool, Each, Equal, Field, IsDistinct, IsSomeAnd, IsStrictlySortedBy, Ledger, Less, Line, List, Name, OpenLine, Some, [], ap, arith, bytes_decides, false, find, if◌then◌else◌, is_lt, line_name, map, name_cmp, nat_cmp, new_line, on, refl, same_name, slice_cmp, subst, sym, true, true≢false, ℕ, ◌&&◌, ◌++◌, ◌∙◌, ◌∷◌, ◌≡◌}
+use Rattle.ledger.proofs.Lists.{AtMostOne, at_one, each-unmap}
+use Rattle.ledger.proofs.Prelude.{Bool, Each, Equal, Field, IsDistinct, IsSomeAnd, IsStrictlySortedBy, Ledger, Less,
+    Line, List, Name, OpenLine, Some, [], arith, bytes_decides, common_steps, false, find, if◌then◌else◌, ints,
+    line_name, map, name_cmp, nat_cmp, new_line, on, refl, same_name, slice_cmp, subst, sym, true, true≢false, ℕ, ◌&&◌,
+    ◌++◌, ◌∙◌, ◌∷◌, ◌≡◌}
 use Rattle.ledger.proofs.Sums.{each-imp, each-of-push}
 
 pub same_parts : (a b : Bool) → (a && b) ≡ true → (a ≡ true) × (b ≡ true)
@@ -17,35 +21,34 @@ cmp_self [] = refl
 cmp_self (x ∷ xs) = let more = cmp_self xs in grind arith
 
 pub not_before_itself : (f : Name) → name_cmp f f ≡ Less → ⊥
-not_before_itself f e =
-    let d : name_cmp f f ≡ Equal = rw (cmp_self f.branch) (cmp_self f.article) in true≢false (ap is_lt (sym e ∙ d))
+not_before_itself f e = grind (arith, ints, common_steps, cmp_self)
 
 abbrev pub InOrder : Ledger → Type 0
 InOrder A = IsStrictlySortedBy name_cmp (map (λ f. f.name) A.fields)
+
+-- at most one field has the name
+pub one_named : (name : Name) (fs : List Field) → IsStrictlySortedBy name_cmp (map (λ f. f.name) fs)
+    → AtMostOne (λ f. same_name name f.name) fs
+unfolding IsStrictlySortedBy
+one_named name [] sorted = tt
+one_named name (f ∷ fs) sorted = (
+  λ e. each-imp (λ m less. off e m less (same_name name m.name) refl) fs
+      (each-unmap (λ y. name_cmp f.name y ≡ Less) (λ f. f.name) fs sorted.0),
+  one_named name fs sorted.1,
+)
+  where
+    off : same_name name f.name ≡ true → (m : Field) → name_cmp f.name m.name ≡ Less → (b : Bool)
+        → same_name name m.name ≡ b → b ≡ false
+    off e m less true d = absurd (not_before_itself f.name
+        (subst (λ g. name_cmp f.name g ≡ Less) (sym (name_is name m.name d) ∙ name_is name f.name e) less))
+    off e m less false d = refl
 
 -- what does not hold of the field under a name does not hold of any field with it, since there is one
 pub none_bad : (P : Field → Type 0) (name : Name) (fs : List Field)
     → IsStrictlySortedBy name_cmp (map (λ f. f.name) fs) → (IsSomeAnd (find (λ e. same_name name e.name) fs) P → ⊥)
     → Each (λ f. same_name name f.name ≡ true → P f → ⊥) fs
-unfolding IsStrictlySortedBy
-none_bad P name [] sorted h = tt
-none_bad P name (f ∷ fs) sorted h = step (same_name name f.name) refl h (λ k. none_bad P name fs sorted.1 k)
-  where
-    rest : same_name name f.name ≡ true → (ms : List Field)
-        → Each (λ y. name_cmp f.name y ≡ Less) (map (λ f. f.name) ms)
-        → Each (λ m. same_name name m.name ≡ true → P m → ⊥) ms
-    rest e [] k = tt
-    rest e (m ∷ ms) k = (
-      (λ d _. not_before_itself f.name
-          (subst (λ g. name_cmp f.name g ≡ Less) (sym (name_is name m.name d) ∙ name_is name f.name e) k.0)),
-      rest e ms k.1,
-    )
-
-    step : (b : Bool) → same_name name f.name ≡ b
-        → (IsSomeAnd (if b then Some f else find (λ e. same_name name e.name) fs) P → ⊥)
-        → ((IsSomeAnd (find (λ e. same_name name e.name) fs) P → ⊥) → Each (λ f. same_name name f.name ≡ true → P f → ⊥) fs)
-        → Each (λ f. same_name name f.name ≡ true → P f → ⊥) (f ∷ fs)
-    step b e k more = grind (arith, rest)
+none_bad P name fs sorted h = at_one (λ f. same_name name f.name) (λ f. P f → ⊥) fs (one_named name fs sorted)
+    (λ f e p. h (subst (λ x. IsSomeAnd x P) (sym e) p))
 
 -- the other way round
 pub other_way : (f g : Name) → same_name f g ≡ false → same_name g f ≡ false
@@ -57,8 +60,7 @@ other_way f g e = go (same_name g f) refl
 
 -- at most one line is on the field
 abbrev pub OneOn : Name → List Line → Type 0
-OneOn f [] = Unit {0}
-OneOn f (l ∷ ls) = (on f l ≡ true → Each (λ m. on f m ≡ false) ls) × OneOn f ls
+OneOn f ls = AtMostOne (on f) ls
 
 pub one_on : (f : Name) (ls : List Line) → IsDistinct same_name (map line_name ls) → OneOn f ls
 unfolding IsDistinct
@@ -88,18 +90,14 @@ one_on-map f h (l ∷ ls) s one =
 -- the line on the field has the fact, and so has each line on it, since there is one
 pub at_line : (P : Line → Type 0) (f : Name) (ls : List Line) → OneOn f ls → IsSomeAnd (find (on f) ls) P
     → Each (λ l. on f l ≡ true → P l) ls
-at_line P f [] one h = tt
-at_line P f (l ∷ ls) one h = step (λ k. at_line P f ls one.1 k) (on f l) refl h
-  where
-    step : (IsSomeAnd (find (on f) ls) P → Each (λ l. on f l ≡ true → P l) ls) → (b : Bool) → on f l ≡ b
-        → IsSomeAnd (if b then Some l else find (on f) ls) P → Each (λ l. on f l ≡ true → P l) (l ∷ ls)
-    step more b e h = grind (arith, each-imp)
+at_line P f ls one h = at_one (on f) P ls one (λ l e. subst (λ x. IsSomeAnd x P) e h)
 
 pub one_on-push : (g : Name) (ls : List Line) (l : Line) → OneOn g ls → Each (λ m. on (line_name l) m ≡ false) ls
     → OneOn g (ls ++ l ∷ [])
 one_on-push g [] l one h = ((λ _. tt), tt)
 one_on-push g (m ∷ ms) l one h =
-    ((λ e. each-of-push (λ k. on g k ≡ false) ms l (one.0 e) (apart (same_name g (line_name l)) refl e)), one_on-push g ms l one.1 h.1)
+    ((λ e. each-of-push (λ k. on g k ≡ false) ms l (one.0 e) (apart (same_name g (line_name l)) refl e)),
+        one_on-push g ms l one.1 h.1)
   where
     apart : (b : Bool) → same_name g (line_name l) ≡ b → on g m ≡ true → on g l ≡ false
     apart false d e = d

@@ -1,36 +1,18 @@
 -- From a good ledger every future keeps the bounds and the commits.
-use Rattle.ledger.proofs.Prelude.{Answers, AnswersNew, AsksNoStock, Done, Each, Field, FirstFailure, Good, IsFuture, IsHonoured, IsNone, IsTrue, IsWithin, Kept, KeyReused, Ledger, List, MatchOption, None, Option, Order, Refusal, Refused, Reply, Request, Runs, Some, [], accept, arith, checks, if◌then◌else◌, ints, is_open, kept_under, order_numbered, places, same_command, settled, subst, sym, ℕ, ◌+◌, ◌∷◌, ◌≡◌}
+use Rattle.ledger.proofs.Prelude.{Answers, AnswersNew, AsksNoStock, Done, Each, Field, Good, IsHonoured, IsNone, IsTrue,
+    IsWithin, Kept, KeyReused, Ledger, List, MatchOption, Option, Order, Refused, Reply, Request, Some, accept, arith,
+    if◌then◌else◌, ints, is_open, kept_under, order_numbered, places, same_command, settled, ℕ, ◌+◌, ◌≡◌}
 use Rattle.words.specs.declared.command.Command.TheVariants as command
 use Rattle.ledger.specs.Future.{HonoursAlways}
 use Rattle.ledger.proofs.Sums.{each-imp}
 use Rattle.ledger.proofs.Bounds.{HasRoom, held_least}
 use Rattle.ledger.proofs.Lists.{find_self}
+use Rattle.ledger.proofs.Passing.{along, answered}
 use Rattle.ledger.proofs.Falls.{Fit, fit-accept, fit_from_good}
 
 pub fit-answer : (A : Ledger) (r : Request) (reply : Reply) (B : Ledger) → AsksNoStock r.command → Fit A
     → Answers A r reply B → Fit B
-fit-answer A r reply B w fit h = by_key (kept_under A r.key) h
-  where
-    by_found : (found : Option (Refusal × ℕ)) → FirstFailure (checks A r.command) found
-        → MatchOption found ((reply ≡ Done (places A + 1)) × (B ≡ accept A r))
-        (λ e. (reply ≡ Refused e.0 e.1) × (B ≡ A))
-        → Fit B
-    by_found None f m = subst Fit (sym m.1) (fit-accept A r.key r.command w fit f)
-    by_found (Some e) f m = subst Fit (sym m.1) fit
-
-    by_key : (k : Option Kept)
-        → MatchOption k (AnswersNew A r reply B)
-        (λ k. (reply ≡ (if same_command k.command r.command then Done k.place else Refused KeyReused 0)) × (B ≡ A))
-        → Fit B
-    by_key b m = grind (arith, by_found)
-
-fit-run : (A : Ledger) (rs : List Request) (replies : List Reply) (B : Ledger) → IsFuture rs → Fit A
-    → Runs A rs replies B → Fit B
-fit-run A [] [] B w fit h = subst Fit (sym h) fit
-fit-run A [] (r ∷ rs) B w fit h = absurd h
-fit-run A (r ∷ rs) [] B w fit h = absurd h
-fit-run A (r ∷ rs) (reply ∷ replies) B w fit h =
-    fit-run h.0 rs replies B w.1 (fit-answer A r reply h.0 w.0 fit h.1) h.2
+fit-answer A r reply B w fit h = answered A r reply B Fit h fit (fit-accept A r.key r.command w fit)
 
 settled_within : (A : Ledger) (f : Field) → HasRoom A f → IsWithin f.lo f.hi (settled A f)
 settled_within A f r =
@@ -60,4 +42,5 @@ pub stands_if_fit : (A : Ledger) → Fit A → IsHonoured A
 stands_if_fit A fit = record { within = each-imp (λ f r. settled_within A f r) A.fields fit.room; commits = commits A fit }
 
 pub honours_always : (A : Ledger) → Good A → HonoursAlways A
-honours_always A g rs w replies B h = stands_if_fit B (fit-run A rs replies B w (fit_from_good A g) h)
+honours_always A g rs w replies B h = stands_if_fit B (along (λ r. AsksNoStock r.command) Fit
+    (λ A r p M w h fit. fit-answer A r p M w fit h) A rs replies B w h (fit_from_good A g))

@@ -1,11 +1,16 @@
 -- All that makes a ledger good but its kept keys and its safety, and where it stays though orders change.
-use Rattle.ledger.proofs.Prelude.{Bool, Changes, Each, Effect, Equal, Good, IsDistinct, IsGoodField, IsGoodLine, IsGoodMove, IsGoodOrder, IsMoment, IsSome, IsStrictlySortedBy, IsTotalOrder, Kept, Ledger, Line, List, MatchOption, MatchOrdering, Move, Name, None, Option, Order, Ordering, Some, Step, [], ap, arith, bytes_decides, bytes_eq, count_by, false, field_named, if◌then◌else◌, is_eq, is_eq-slice_cmp, is_lt, is_open, length, line_name, map, name_cmp, nat_cmp, nat_list_cmp_total, nat_lt, on_total, open_orders, ordering_then, places, ranks, refl, same_name, slice_cmp, steps, subst, suc, sym, then_total, true, true≢false, ℕ, ◌&&◌, ◌++◌, ◌+◌, ◌<◌, ◌==◌, ◌∙◌, ◌∷◌, ◌≡◌, ◌≤◌}
+use Rattle.ledger.proofs.Prelude.{Bool, Changes, Each, Effect, Equal, Good, IsDistinct, IsGoodField, IsGoodLine,
+    IsGoodMove, IsGoodOrder, IsMoment, IsSome, IsStrictlySortedBy, IsTotalOrder, Kept, Ledger, Line, List, MatchOption,
+    MatchOrdering, Move, Name, None, Option, Order, Ordering, Some, Step, [], ap, arith, bytes_decides, bytes_eq,
+    common_steps, count_by, false, field_named, if◌then◌else◌, ints, is_eq, is_eq-slice_cmp, is_open, length, line_name,
+    map, name_cmp, nat_cmp, nat_list_cmp_total, on_total, open_orders, ordering_then, places, ranks, refl, same_name,
+    slice_cmp, steps, subst, suc, sym, then_total, true, true≢false, ℕ, ◌&&◌, ◌+◌, ◌<◌, ◌∙◌, ◌∷◌, ◌≡◌, ◌≤◌}
 use Rattle.escrow.specs.Ranges.{IsOrderNo}
 use Rattle.ledger.proofs.Sums.{each-both, each-imp, each-map}
 use Rattle.ledger.proofs.Lists.{count-map, length-of-map}
 use Rattle.ledger.proofs.FieldNames.{OneOn, same_self}
-use Rattle.ledger.proofs.Falls.{LinesFall, OrderFalls, StepFalls, after_each, before_each, numbers_kept, step_goes}
-use Rattle.ledger.proofs.Steps.{Grows, StepGoes, after_turns, step_if, turns}
+use Rattle.ledger.proofs.Falls.{LinesFall, OrderFalls, StepFalls, after_each, before_each}
+use Rattle.ledger.proofs.Steps.{EffectGoes, Goes, Grows, after_turns, numbers_after, turns}
 
 -- orders of names, keys and numbers
 
@@ -23,22 +28,15 @@ pub both_true : (a b : Bool) → a ≡ true → b ≡ true → (a && b) ≡ true
 both_true x b e h = cc
 
 pub equal_name : (f g : Name) → name_cmp f g ≡ Equal → same_name f g ≡ true
-equal_name f g e =
-    let p = both_equal _ _ e in both_true _ _ (equal_text f.branch g.branch p.0) (equal_text f.article g.article p.1)
+equal_name f g e = grind (arith, ints, common_steps, both_equal, both_true, equal_text)
 
 pub equal_number : (a b : ℕ) → nat_cmp a b ≡ Equal → a ≡ b
 equal_number a b e = subst (λ r. MatchOrdering r (a < b) (a ≡ b) (b < a)) e (ranks a b)
-
-pub other_number : (n m : ℕ) → (m == n) ≡ false → nat_cmp n m ≡ Equal → ⊥
-other_number n m e h = grind arith
 
 pub other_key : (k key : List ℕ) → bytes_eq k key ≡ false → slice_cmp nat_cmp key k ≡ Equal → ⊥
 other_key k key e h =
     let d : key ≡ k = (bytes_decides key k).0 (equal_text key k h) in
     true≢false (sym ((bytes_decides k key).1 (sym d)) ∙ e)
-
-pub lt_is : (a b : ℕ) → nat_lt a b ≡ is_lt (nat_cmp a b)
-lt_is a b = grind arith
 
 -- what stays
 
@@ -96,13 +94,14 @@ changed h clock kept A =
     record { clock = clock; fields = A.fields; moves = A.moves; orders = map h A.orders; kept = kept }
 
 pub changing : (A : Ledger) (names : Order → Bool) (change : Order → Order) (clock : ℕ) (kept : List Kept) → Good A
-    → IsMoment clock → length kept ≡ places A + 1 → Each StepGoes (turns names change A.orders)
+    → IsMoment clock → length kept ≡ places A + 1 → EffectGoes (Changes names change) A.orders
     → Each (IsGoodOrder (changed (λ o. if names o then change o else o) clock kept A))
     (after_turns names change A.orders)
     → places A + count_by is_open (after_turns names change A.orders) + 1 ≤ 200000
     → Parts (changed (λ o. if names o then change o else o) clock kept A)
 changing A names change clock kept g moment more goes orders room =
-    grind (arith, (numbers_kept names change A.orders goes), (length-of-map (λ o. if names o then change o else o) A.orders), each-imp, move_kept)
+    grind (arith, (numbers_after (Changes names change) A.orders goes g.orders_in_order),
+        (length-of-map (λ o. if names o then change o else o) A.orders), each-imp, move_kept)
 
 -- ---- commands that ask for no stock
 
@@ -128,18 +127,7 @@ same_length (b ∷ bs) [] falls = absurd falls
 same_length (b ∷ bs) (l ∷ ls) falls = ap suc (same_length bs ls falls.1)
 
 order_good : (A B : Ledger) → StillThere A B → (b a : Order) → OrderFalls b a → IsGoodOrder A b → IsGoodOrder B a
-order_good A B still b a falls x =
-    let long = same_length b.lines a.lines falls.lines in let some = x.some in let few = x.few in
-    record {
-      number = subst IsOrderNo (sym falls.goes.number) x.number;
-      until = subst IsMoment (sym falls.goes.until) x.until;
-      some = omega arith;
-      few = omega arith;
-      lines = lines_good A B still b.lines a.lines falls.goes.lines falls.lines x.lines;
-      apart = apart_lines a.lines falls.fine.sound.one;
-      transfer = falls.fine.pair;
-      firm = λ e s. true≢false (sym e ∙ falls.loose s);
-    }
+order_good A B still b a falls x = grind (arith, ints, common_steps, same_length, lines_good, apart_lines)
 
 step_good : (A B : Ledger) → StillThere A B → (s : Step) → StepFalls s
     → MatchOption s.before (Unit {0}) (IsGoodOrder A) → IsGoodOrder B s.after
@@ -151,29 +139,19 @@ step_good A B still s falls good = by s.before falls good
     by (Some b) falls good = order_good A B still b s.after falls good
 
 pub closing : (A : Ledger) (names : Order → Bool) (change : Order → Order) (clock : ℕ) (kept : List Kept) → Good A
-    → IsMoment clock → length kept ≡ places A + 1 → Each StepFalls (turns names change A.orders)
+    → IsMoment clock → length kept ≡ places A + 1 → EffectGoes (Changes names change) A.orders
+    → Each StepFalls (turns names change A.orders)
     → places A + count_by is_open (after_turns names change A.orders) + 1 ≤ 200000
     → Parts (changed (λ o. if names o then change o else o) clock kept A)
-closing A names change clock kept g moment more falls room =
+closing A names change clock kept g moment more goes falls room =
     let B : Ledger = changed (λ o. if names o then change o else o) clock kept A in
     let e : Effect = Changes names change in
-    changing A names change clock kept g moment more (each-imp step_goes (steps e A.orders) falls)
+    changing A names change clock kept g moment more goes
     (after_each (IsGoodOrder B) e A.orders (each-imp (order_kept A B (λ f y. y)) A.orders g.orders)
-    (each-both (λ s h x. step_good A B (λ f y. y) s h x) (steps e A.orders) falls (before_each (IsGoodOrder A) e A.orders g.orders))) room
+    (each-both (λ s h x. step_good A B (λ f y. y) s h x) (steps e A.orders) falls
+        (before_each (IsGoodOrder A) e A.orders g.orders))) room
 
 -- no order is opened
 pub fewer_open : (names : Order → Bool) (change : Order → Order) (os : List Order)
-    → Each StepGoes (turns names change os) → count_by is_open (after_turns names change os) ≤ count_by is_open os
-fewer_open names change os goes = count-map is_open (λ o. if names o then change o else o) os (opens os goes)
-  where
-    opens : (os : List Order) → Each StepGoes (turns names change os)
-        → Each (λ o. is_open (if names o then change o else o) ≡ true → is_open o ≡ true) os
-    opens [] goes = tt
-    opens (o ∷ os) goes = by (names o) goes (opens os)
-      where
-        by : (b : Bool) → Each StepGoes (step_if b o (change o) ++ turns names change os)
-            → (Each StepGoes (turns names change os) → Each (λ o. is_open (if names o then change o else o) ≡ true → is_open o ≡ true) os)
-            → (is_open (if b then change o else o) ≡ true → is_open o ≡ true)
-            × Each (λ o. is_open (if names o then change o else o) ≡ true → is_open o ≡ true) os
-        by true goes more = ((λ e. goes.0.unended), more goes.1)
-        by false goes more = ((λ e. e), more goes)
+    → EffectGoes (Changes names change) os → count_by is_open (after_turns names change os) ≤ count_by is_open os
+fewer_open names change os goes = grind (arith, ints, common_steps, count-map, each-imp)

@@ -1,19 +1,32 @@
 -- From a good ledger every accepted command leaves a good one.
-use Rattle.ledger.proofs.Prelude.{Aborted, Answers, AsksNoStock, Bool, Changes, Command, Committed, Each, Field, FirstFailure, Good, IsGoodField, IsGoodKept, IsGoodLine, IsGoodOrder, IsInRange, IsKey, IsLevel, IsMoment, IsNone, IsOpenLine, IsQty, IsSafe, IsSome, IsSomeAnd, IsStrictlySortedBy, IsTransferPair, IsTrue, Kept, Kind, Ledger, Line, List, MayHoldMore, Name, None, OpenLine, Order, Plain, Reply, Request, Share, Some, State, Transfer, Way, [], accept, add_hold, add_part, added_by_order, ap, arith, bytes_eq, change_lines, checks, expires, false, field_named, find, full, held_to_add, held_to_take, hold_more, if_add, if_take, if◌then◌else◌, insert_in_order, ints, is_lt, is_open, is_some, is_transfer, kept_under, length, line_checks, line_name, line_on, lower_held, map, name_cmp, name_of, nat_abs, nat_cmp, nat_cmp_total, nat_list_cmp_total, nat_lt, neg_ℤ, new_line, new_order, numbered, on, open_orders, open_state, order_numbered, places, pos, raise_held, raise_used, recursion_from_All, refl, same_name, set_firm, set_state, settled, share_of, slice_cmp, steps, steps_of, subst, sym, take_part, taken_by_order, total, transfer_lines, true, true≢false, with_order, ℕ, ℤ, ◌++◌, ◌+ℤ◌, ◌+◌, ◌-ℤ◌, ◌<◌, ◌==◌, ◌∙◌, ◌∷◌, ◌≡◌, ◌≤ℤ◌, ◌≤◌}
+use Rattle.ledger.proofs.Prelude.{Aborted, Answers, AsksNoStock, Bool, Changes, Command, Committed, Each, Field,
+    FirstFailure, Good, IsGoodField, IsGoodKept, IsGoodLine, IsGoodOrder, IsInRange, IsKey, IsLevel, IsMoment, IsNone,
+    IsOpenLine, IsQty, IsSafe, IsSome, IsSomeAnd, IsStrictlySortedBy, IsTransferPair, IsTrue, Kept, Kind, Ledger, Line,
+    List, MayHoldMore, Name, None, OpenLine, Opens, Order, Part, Plain, Reply, Request, Share, Some, State, Transfer,
+    Way, [], accept, add_hold, add_part, ap, arith, bytes_eq, change_lines, checks, effect, expires, false, field_named,
+    find, full, held_to_add, held_to_take, hold_more, if_add, if_take, if◌then◌else◌, insert_in_order, ints, is_lt,
+    is_open, is_some, is_transfer, kept_under, length, line_checks, line_name, line_on, lower_held, map, name_cmp,
+    name_of, nat_abs, nat_cmp, nat_list_cmp_total, nat_lt, neg_ℤ, new_line, new_order, numbered, on, open_orders,
+    open_state, order_numbered, part_of, places, pos, raise_held, raise_used, recursion_from_All, refl, same_name,
+    set_firm, set_state, settled, share_of, slice_cmp, steps, steps_of, subst, sym, take_part, total, transfer_lines,
+    true, true≢false, with_order, ℕ, ℤ, ◌++◌, ◌+ℤ◌, ◌+◌, ◌-ℤ◌, ◌<◌, ◌==◌, ◌∙◌, ◌∷◌, ◌≡◌, ◌≤ℤ◌, ◌≤◌}
 use Rattle.words.specs.declared.command.Command.TheVariants as command
 use Rattle.escrow.specs.Ranges.{IsOrderNo}
 use Rattle.words.specs.OpenLines.{AreOpenLines}
-use Rattle.ledger.proofs.Sums.{change_order, each, each-both, each-imp, each-insert, each-map, each-of-push, least_if, none_found, total-eq, total-not_negative, with_move}
-use Rattle.ledger.proofs.GoodParts.{Parts, StillThere, apart_lines, changed, changing, closing, equal_name, fewer_open, line_kept, lt_is, move_kept, name_cmp_total, not_many, order_kept, other_key, other_number}
+use Rattle.ledger.proofs.Sums.{change_order, each, each-both, each-imp, each-insert, each-map, each-of-push, least_if,
+    none_found, total-eq, total-not_negative, with_move}
+use Rattle.ledger.proofs.GoodParts.{Parts, StillThere, apart_lines, changed, changing, closing, equal_name, fewer_open,
+    line_kept, move_kept, name_cmp_total, not_many, order_kept, other_key}
 use Rattle.ledger.proofs.Bounds.{HasRoom, Sound, room_from_safe}
 use Rattle.ledger.proofs.Safety.{bounding, bounding_names, not_false, safe_after, still_bounded}
 use Rattle.ledger.specs.Next.{with_bounds}
-use Rattle.ledger.proofs.Lists.{at_number, count-fewer, count-insert, distinct-insert, each-all, each-two, each-unmap, find-insert, length-insert, length-of-map, length-of-push, sorted-insert, sorted-push, total-has}
+use Rattle.ledger.proofs.Lists.{at_number, count-fewer, count-insert, distinct-insert, each-all, each-two, each-unmap,
+    find-insert, length-insert, length-of-map, length-of-push, sorted-insert, sorted-push, total-has}
 use Rattle.ledger.proofs.FieldNames.{OneOn, name_is, same_self}
 use Rattle.ledger.proofs.Passing.{AllPass, all_pass, none_if_not_some, open_there, takes_more}
-use Rattle.ledger.proofs.Falls.{StepFalls, fit_from_good, sounds_from_good, step_goes, steps_fall}
+use Rattle.ledger.proofs.Falls.{StepFalls, fit_from_good, sounds_from_good, steps_fall}
 use Rattle.ledger.proofs.Asks.{Room, loose_share, only_held, room_order, sound_more}
-use Rattle.ledger.proofs.Steps.{StepGoes, added_is, part_of, steps_go, taken_is}
+use Rattle.ledger.proofs.Steps.{EffectGoes, effect_goes, numbers_after}
 
 -- what is held on a field that is there is a level
 
@@ -34,7 +47,7 @@ find_named P name (f ∷ fs) h e = step (same_name name f.name) refl e (λ k. fi
     step false t e more = more e
 
 -- what a line of an order counts for is part of what all orders count for on its field
-in_all : (part : Way → Share → ℤ) → ((w : Way) (s : Share) → pos 0 ≤ℤ part w s) → (os : List Order)
+in_all : (part : Part) → ((w : Way) (s : Share) → pos 0 ≤ℤ part w s) → (os : List Order)
     → Each (λ o. Each (λ l. part l.way (share_of o.state o.firm l) ≤ℤ total (part_of part (line_name l)) os) o.lines) os
 in_all part least os = each-imp
     (λ o h. each-imp (λ l k. own o l (total (part_of part (line_name l)) os) (h (line_name l))
@@ -56,10 +69,14 @@ in_all part least os = each-imp
         (same_self (line_name l)) in
         omega (arith, ints)
 
-pub held_levels : (B : Ledger) → Each IsGoodField B.fields → Room B
-    → Each (λ o. is_open o ≡ true → o.firm ≡ false → Each (λ l. IsSome (field_named B (line_name l)) → IsLevel l.held) o.lines) B.orders
+-- where it is open and not firm, its lines on fields that are there hold levels
+abbrev HasLevels : Ledger → Order → Type 0
+HasLevels B o = is_open o ≡ true → o.firm ≡ false → Each (λ l. IsSome (field_named B (line_name l)) → IsLevel l.held) o.lines
+
+held_levels : (B : Ledger) → Each IsGoodField B.fields → Room B → Each (HasLevels B) B.orders
 held_levels B good room =
-    each-both (λ o t a e d. each-both (λ l u v some. of_line o l (loose_share o.state o.firm l e d) u v some) o.lines t a) B.orders
+    each-both (λ o t a e d.
+        each-both (λ l u v some. of_line o l (loose_share o.state o.firm l e d) u v some) o.lines t a) B.orders
     (in_all take_part (λ w s. omega (arith, ints)) B.orders) (in_all add_part (λ w s. omega (arith, ints)) B.orders)
   where
     of_line : (o : Order) (l : Line) → share_of o.state o.firm l ≡ only_held l.held
@@ -71,16 +88,13 @@ held_levels B good room =
         (each-two IsGoodField (HasRoom B) B.fields good room) some in
         let name : f.0.name ≡ line_name l = f.1 in
         level l.way l.held f.0.lo f.0.hi (settled B f.0) (held_to_take B f.0.name) (held_to_add B f.0.name)
-        (here take_part (taken_by_order f.0.name) (taken_is f.0.name) (line_name l) (sym name) u)
-        (here add_part (added_by_order f.0.name) (added_is f.0.name) (line_name l) (sym name) v) f.2.1.0 f.2.1.1 f.2.0.hi
+        (here take_part f.0.name (sym name) u) (here add_part f.0.name (sym name) v) f.2.1.0 f.2.1.1 f.2.0.hi
       where
-        here : (part : Way → Share → ℤ) (own : Order → ℤ) {n : Name} → ((o : Order) → own o ≡ part_of part n o)
-            → (m : Name) → m ≡ n → part l.way (share_of o.state o.firm l) ≤ℤ total (part_of part m) B.orders
-            → part l.way (only_held l.held) ≤ℤ total own B.orders
-        here part own {n} same m e h = subst (λ z. part l.way (only_held l.held) ≤ℤ z)
-            (sym (total-eq own (part_of part n) B.orders (each same B.orders)))
-            (subst (λ k. part l.way (only_held l.held) ≤ℤ total (part_of part k) B.orders) e
-            (subst (λ s. part l.way s ≤ℤ total (part_of part m) B.orders) share h))
+        here : (part : Part) (n : Name) → line_name l ≡ n
+            → part l.way (share_of o.state o.firm l) ≤ℤ total (part_of part (line_name l)) B.orders
+            → part l.way (only_held l.held) ≤ℤ total (part_of part n) B.orders
+        here part n e h = subst (λ k. part l.way (only_held l.held) ≤ℤ total (part_of part k) B.orders) e
+            (subst (λ s. part l.way s ≤ℤ total (part_of part (line_name l)) B.orders) share h)
 
 -- a delivery and a write-off
 moving : (A : Ledger) (f : Name) (z : ℤ) (kept : List Kept) → Good A → length kept ≡ places A + 1
@@ -154,7 +168,7 @@ opening : (A : Ledger) (n : ℕ) (k : Kind) (u : ℕ) (ls : List OpenLine) (kept
     → Each (λ l. IsQty l.qty) ls
     → (IsTrue (is_transfer (new_order n k u ls)) → IsTransferPair (map new_line ls))
     → AllPass (line_checks A (new_order n k u) [] ls)
-    → (IsSome (order_numbered A n) → ⊥) → (100000 ≤ length A.orders → ⊥) → places A + open_orders A + 2 ≤ 200000
+    → EffectGoes (Opens (new_order n k u ls)) A.orders → (100000 ≤ length A.orders → ⊥) → places A + open_orders A + 2 ≤ 200000
     → ((g : Name) → OneOn g (map new_line ls)) → Parts (record (with_order (new_order n k u ls) A) { kept = kept })
 opening A n k u ls kept g more number until some few quantities pair pass new many room one =
     let o : Order = new_order n k u ls in
@@ -181,16 +195,13 @@ opening A n k u ls kept g more number until some few quantities pair pass new ma
             firm = λ e. absurd (true≢false (sym e));
           })
           (each-imp (order_kept A B (λ f x. x)) A.orders g.orders);
-      orders_in_order = sorted-insert nat_cmp nat_cmp_total (λ o. o.number) precedes
-          (λ a b. lt_is a.number b.number) o A.orders
-          (each-imp (λ e x y. other_number n e.number x y) A.orders
-          (none_found (λ o. o.number == n) A.orders (none_if_not_some (find (λ o. o.number == n) A.orders) new))) g.orders_in_order;
+      orders_in_order = numbers_after (Opens o) A.orders new g.orders_in_order;
       few_orders = (let d = length-insert precedes o A.orders in let c = not_many 100000 (length A.orders) many in omega arith);
       room = (let c = count-insert is_open precedes o A.orders in omega arith);
     }
 
 adding : (A : Ledger) (n : ℕ) (l : OpenLine) (kept : List Kept) → Good A
-    → Each StepGoes (steps (Changes (numbered n) (add_hold l)) A.orders) → length kept ≡ places A + 1
+    → EffectGoes (Changes (numbered n) (add_hold l)) A.orders → length kept ≡ places A + 1
     → places A + open_orders A + 1 ≤ 200000 → IsSome (field_named A (line_name (new_line l))) → IsQty l.qty
     → Each (λ o. (o.number == n) ≡ true → MayHoldMore (line_name (new_line l)) l.way o) A.orders
     → Each (λ o. (o.number == n) ≡ true → IsNone (line_on o (line_name (new_line l))) → length o.lines ≤ 63) A.orders
@@ -198,69 +209,62 @@ adding : (A : Ledger) (n : ℕ) (l : OpenLine) (kept : List Kept) → Good A
     → Room (record (change_order n (add_hold l) A) { kept = kept })
     → Parts (record (change_order n (add_hold l) A) { kept = kept })
 adding A n l kept g goes more full there qty takes_it fits sound room =
-    let h : Order → Order = λ o. if o.number == n then add_hold l o else o in
-    let B : Ledger = changed h A.clock kept A in
-    let levels = each-unmap (λ o. is_open o ≡ true → o.firm ≡ false
-    → Each (λ m. IsSome (field_named B (line_name m)) → IsLevel m.held) o.lines) h A.orders
-    (held_levels B g.fields room) in
     changing A (numbered n) (add_hold l) A.clock kept g g.clock more goes
     (each-map (IsGoodOrder B) h A.orders
-    (each-both (λ o x y. by B o (o.number == n) (λ f z. z) x y.0.0 y.0.1 y.1.0 y.1.1) A.orders g.orders
-    (each-two _ _ A.orders (each-two _ _ A.orders takes_it fits) (each-two _ _ A.orders (each-unmap Sound h A.orders sound) levels))))
+    (each-both (λ o x y. by o (o.number == n) x y.0.0 y.0.1 y.1.0 y.1.1) A.orders g.orders
+    (each-two _ _ A.orders (each-two _ _ A.orders takes_it fits) (each-two _ _ A.orders (each-unmap Sound h A.orders sound)
+    (each-unmap (HasLevels B) h A.orders (held_levels B g.fields room))))))
     (let c = fewer_open (numbered n) (add_hold l) A.orders goes in omega arith)
   where
+    h : Order → Order
+    h o = if o.number == n then add_hold l o else o
+
+    B : Ledger
+    B = changed h A.clock kept A
+
     name : Name
     name = line_name (new_line l)
 
-    raised_good : (B : Ledger) → StillThere A B → (t : Bool) (m : Line) → IsGoodLine A m
-        → (if t then raise_held l.qty m else m).used ≤ (if t then raise_held l.qty m else m).held
-        → (IsSome (field_named B (line_name (if t then raise_held l.qty m else m))) → IsLevel (if t then raise_held l.qty m else m).held)
-        → IsGoodLine B (if t then raise_held l.qty m else m)
-    raised_good b still y m x u v = grind arith
+    held : Bool → Order → Order
+    held c o = if c then hold_more name l.qty o else record o { lines = o.lines ++ new_line l ∷ [] }
 
-    held_more : (B : Ledger) (o : Order) → StillThere A B → IsGoodOrder A o → MayHoldMore name l.way o → (c : Bool)
-        → ((c ≡ false) → length o.lines ≤ 63)
-        → Sound (if c then hold_more name l.qty o else record o { lines = o.lines ++ new_line l ∷ [] })
-        → (is_open (if c then hold_more name l.qty o else record o { lines = o.lines ++ new_line l ∷ [] }) ≡ true
-        → (if c then hold_more name l.qty o else record o { lines = o.lines ++ new_line l ∷ [] }).firm ≡ false
-        → Each (λ m. IsSome (field_named B (line_name m)) → IsLevel m.held)
-        (if c then hold_more name l.qty o else record o { lines = o.lines ++ new_line l ∷ [] }).lines)
-        → IsGoodOrder B (if c then hold_more name l.qty o else record o { lines = o.lines ++ new_line l ∷ [] })
-    held_more B o still x t true fit s v =
-        let c : Line → Line = λ m. if on name m then raise_held l.qty m else m in
-        let e = length-of-map c o.lines in let some = x.some in let few = x.few in
+    raised : Line → Line
+    raised m = if on name m then raise_held l.qty m else m
+
+    raised_good : (t : Bool) (m : Line) → IsGoodLine A m
+        → (if t then raise_held l.qty m else m).used ≤ (if t then raise_held l.qty m else m).held
+        → (IsSome (field_named B (line_name (if t then raise_held l.qty m else m)))
+            → IsLevel (if t then raise_held l.qty m else m).held)
+        → IsGoodLine B (if t then raise_held l.qty m else m)
+    raised_good t m x u v = grind arith
+
+    held_more : (o : Order) → IsGoodOrder A o → MayHoldMore name l.way o → (c : Bool)
+        → (c ≡ false → length o.lines ≤ 63) → Sound (held c o) → HasLevels B (held c o) → IsGoodOrder B (held c o)
+    held_more o x t true fit s v =
+        let e = length-of-map raised o.lines in let some = x.some in let few = x.few in
         record {
           number = x.number;
           until = x.until;
           some = omega arith;
           few = omega arith;
-          lines = each-map (IsGoodLine B) c o.lines
-              (each-both (λ m p u. raised_good B still (on name m) m p u.0 u.1) o.lines x.lines
-              (each-two _ _ o.lines (each-unmap (λ m. m.used ≤ m.held) c o.lines s.used)
-              (each-unmap (λ m. IsSome (field_named B (line_name m)) → IsLevel m.held) c o.lines (v t.0 t.1))));
-          apart = apart_lines (map c o.lines) s.one;
+          lines = each-map (IsGoodLine B) raised o.lines
+              (each-both (λ m p u. raised_good (on name m) m p u.0 u.1) o.lines x.lines
+              (each-two _ _ o.lines (each-unmap (λ m. m.used ≤ m.held) raised o.lines s.used)
+              (each-unmap (λ m. IsSome (field_named B (line_name m)) → IsLevel m.held) raised o.lines (v t.0 t.1))));
+          apart = apart_lines (map raised o.lines) s.one;
           transfer = λ e. absurd (true≢false (sym e ∙ t.2));
           firm = λ e. absurd (true≢false (sym e ∙ t.1));
         }
-    held_more B o still x t false fit s v =
-        grind (
-          arith,
-          (each-imp (line_kept A B still) o.lines x.lines),
-          (length-of-push o.lines (new_line l)),
-          apart_lines,
-          each-of-push,
-          line_kept,
-          name,
-        )
+    held_more o x t false fit s v =
+        grind (arith, (each-imp (line_kept A B (λ f z. z)) o.lines x.lines), (length-of-push o.lines (new_line l)),
+            apart_lines, each-of-push, line_kept, name)
 
-    by : (B : Ledger) (o : Order) (b : Bool) → StillThere A B → IsGoodOrder A o
+    by : (o : Order) (b : Bool) → IsGoodOrder A o
         → (b ≡ true → MayHoldMore name l.way o) → (b ≡ true → IsNone (line_on o name) → length o.lines ≤ 63)
-        → Sound (if b then add_hold l o else o)
-        → (is_open (if b then add_hold l o else o) ≡ true → (if b then add_hold l o else o).firm ≡ false
-        → Each (λ m. IsSome (field_named B (line_name m)) → IsLevel m.held) (if b then add_hold l o else o).lines)
+        → Sound (if b then add_hold l o else o) → HasLevels B (if b then add_hold l o else o)
         → IsGoodOrder B (if b then add_hold l o else o)
-    by B o true still x t fit s v = held_more B o still x (t refl) (is_some (line_on o name)) (fit refl) s v
-    by B o false still x t fit s v = order_kept A B still o x
+    by o true x t fit s v = held_more o x (t refl) (is_some (line_on o name)) (fit refl) s v
+    by o false x t fit s v = order_kept A B (λ f z. z) o x
 
 kept_more : (A : Ledger) (k : Kept)
     → length (insert_in_order (λ a b. is_lt (slice_cmp nat_cmp a.key b.key)) k A.kept) ≡ places A + 1
@@ -270,84 +274,85 @@ kept_more A k = length-insert (λ a b. is_lt (slice_cmp nat_cmp a.key b.key)) k 
 pub quantities : (ls : List OpenLine) → AreOpenLines ls → Each (λ l. IsQty l.qty) ls
 quantities ls h = each-imp (λ (l : OpenLine) (x : IsOpenLine l). x.qty) ls (recursion_from_All IsOpenLine ls h.each)
 
-falls : (A : Ledger) (c : Command) → Good A → FirstFailure (checks A c) None → AsksNoStock c
-    → Each StepFalls (steps_of A c)
-falls A c g passed asks = steps_fall A c (fit_from_good A g) passed asks
-
 -- where there is room for a place more
 closed : (A : Ledger) (names : Order → Bool) (change : Order → Order) (clock : ℕ) (kept : List Kept) → Good A
-    → IsMoment clock → length kept ≡ places A + 1 → Each StepFalls (steps (Changes names change) A.orders)
+    → IsMoment clock → length kept ≡ places A + 1 → EffectGoes (Changes names change) A.orders
+    → Each StepFalls (steps (Changes names change) A.orders)
     → places A + open_orders A + 1 ≤ 200000 → Parts (changed (λ o. if names o then change o else o) clock kept A)
-closed A names change clock kept g moment more falls room =
-    closing A names change clock kept g moment more falls
-    (let fewer = fewer_open names change A.orders (each-imp step_goes _ falls) in omega arith)
+closed A names change clock kept g moment more goes falls room =
+    closing A names change clock kept g moment more goes falls
+    (let fewer = fewer_open names change A.orders goes in omega arith)
 
 -- the end of an order takes the place set aside for it
 ended : (A : Ledger) (n : ℕ) (s : State) (kept : List Kept) → open_state s ≡ false → Good A
-    → length kept ≡ places A + 1 → Each StepFalls (steps (Changes (numbered n) (set_state s)) A.orders)
+    → length kept ≡ places A + 1 → EffectGoes (Changes (numbered n) (set_state s)) A.orders
+    → Each StepFalls (steps (Changes (numbered n) (set_state s)) A.orders)
     → IsSomeAnd (order_numbered A n) (λ o. is_open o ≡ true)
     → Parts (changed (λ o. if o.number == n then set_state s o else o) A.clock kept A)
-ended A n s kept closed g more falls there =
-    closing A (numbered n) (set_state s) A.clock kept g g.clock more falls
-    (let fewer = count-fewer is_open (numbered n) (set_state s) A.orders (λ _. closed) there in let room = g.places_fit in omega arith)
+ended A n s kept closed g more goes falls there =
+    closing A (numbered n) (set_state s) A.clock kept g g.clock more goes falls
+    (let fewer = count-fewer is_open (numbered n) (set_state s) A.orders (λ _. closed) there in
+        let room = g.places_fit in
+        omega arith)
 
 parts_accept : (A : Ledger) (key : List ℕ) (c : Command) → Good A → IsInRange c → FirstFailure (checks A c) None
     → Parts (accept A (record { key = key; command = c }))
-parts_accept A key (command.Field b a lo hi start) g i h =
-    let p = all_pass (checks A (command.Field b a lo hi start)) h in
-    fielding A (record { name = record { branch = b; article = a }; lo = lo; hi = hi; start = start }) _ g
-    (record { branch = i.0; article = i.1; lo = i.2; hi = i.3; start = i.4 }) (kept_more A _) p.1.1.0 p.1.0
-    (omega arith)
-parts_accept A key (command.Deliver b a q) g i h = let p = all_pass (checks A (command.Deliver b a q)) h in
-    moving A (record { branch = b; article = a }) (pos q) _ g (kept_more A _) (not_false _ p.1.0) i.2 (omega arith)
-parts_accept A key (command.Writeoff b a q) g i h = let p = all_pass (checks A (command.Writeoff b a q)) h in
-    moving A (record { branch = b; article = a }) (neg_ℤ (pos q)) _ g (kept_more A _) (not_false _ p.1.0)
-    (subst IsQty (sym (grind arith)) i.2) (omega arith)
-parts_accept A key (command.Rebound b a lo hi) g i h =
-    let p = all_pass (checks A (command.Rebound b a lo hi)) h in
-    rebounding A (record { branch = b; article = a }) lo hi _ g i.2 i.3 (kept_more A _) (omega arith)
-parts_accept A key (command.Open n until lines) g i h = let p = all_pass (checks A (command.Open n until lines)) h in
-    let r = room_order A n Plain until (sounds_from_good A g) g.fields_in_order lines
-    (fit_from_good A g).room p.1.1.1.1 in
-    opening A n Plain until lines _ g (kept_more A _) i.0 i.1 i.2.some i.2.fits (quantities lines i.2)
-    (λ e. absurd (true≢false (sym e))) p.1.1.1.1 p.1.1.0 p.1.0 (omega arith) r.1
-parts_accept A key (command.Transfer n until a from to q) g i h =
-    let p = all_pass (checks A (command.Transfer n until a from to q)) h in
-    let ls : List OpenLine = transfer_lines a from to q in
-    let r = room_order A n Transfer until (sounds_from_good A g) g.fields_in_order ls
-    (fit_from_good A g).room p.1.1.1.1 in
-    opening A n Transfer until ls _ g (kept_more A _) i.0 i.1 (omega arith) (omega arith) (i.5, (i.5, tt))
-    (λ _. (refl, refl, refl, refl, refl)) p.1.1.1.1 p.1.1.0 p.1.0 (omega arith) r.1
-parts_accept A key (command.More n way b a q) g i h = let p = all_pass (checks A (command.More n way b a q)) h in
-    let f : Name = record { branch = b; article = a } in
-    let l : OpenLine = record { way = way; branch = b; article = a; qty = q } in
-    let may = takes_more f way (order_numbered A n) p.1.0 p.1.1.0 p.1.1.1.0 p.1.1.1.1.0 p.1.1.1.1.1.1.0 in
-    let t = at_number (MayHoldMore f way) n A.orders g.orders_in_order may in
-    let few = at_number (λ o. IsNone (line_on o f) → length o.lines ≤ 63) n A.orders g.orders_in_order
-    (grind arith) in
-    let sound = sound_more A n l (sounds_from_good A g) g.orders_in_order may in
-    adding A n l _ g (steps_go A (command.More n way b a q) g.orders_in_order h) (kept_more A _) (omega arith)
-    (not_false _ p.1.1.1.1.1.0) i.3 t few sound
-    (room_from_safe (accept A (record { key = key; command = command.More n way b a q })) sound
-    (safe_after A (record { key = key; command = command.More n way b a q }) g h))
-parts_accept A key (command.Use n b a q) g i h = closed A (numbered n)
-    (change_lines (name_of b a) (raise_used q)) A.clock _ g g.clock (kept_more A _)
-    (falls A (command.Use n b a q) g h tt) (omega (arith, (all_pass (checks A (command.Use n b a q)) h).0))
-parts_accept A key (command.Release n b a q) g i h = closed A (numbered n)
-    (change_lines (name_of b a) (lower_held q)) A.clock _ g g.clock (kept_more A _)
-    (falls A (command.Release n b a q) g h tt) (omega (arith, (all_pass (checks A (command.Release n b a q)) h).0))
-parts_accept A key (command.Commit n) g i h =
-    let p = all_pass (checks A (command.Commit n)) h in
-    ended A n Committed _ refl g (kept_more A _) (falls A (command.Commit n) g h tt)
-    (open_there (order_numbered A n) p.0 p.1.0)
-parts_accept A key (command.Abort n) g i h =
-    let p = all_pass (checks A (command.Abort n)) h in
-    ended A n Aborted _ refl g (kept_more A _) (falls A (command.Abort n) g h tt)
-    (open_there (order_numbered A n) p.0 p.1.0)
-parts_accept A key (command.Firm n) g i h = closed A (numbered n) set_firm A.clock _ g g.clock (kept_more A _)
-    (falls A (command.Firm n) g h tt) (omega (arith, (all_pass (checks A (command.Firm n)) h).0))
-parts_accept A key (command.Expire now) g i h = closed A (expires now) (set_state Aborted) now _ g i (kept_more A _)
-    (falls A (command.Expire now) g h tt) (omega (arith, (all_pass (checks A (command.Expire now)) h).0))
+parts_accept A key c g i h = by c i h (all_pass (checks A c) h) (effect_goes A c g.orders_in_order h)
+    (steps_fall A c (fit_from_good A g) h)
+  where
+    by : (c : Command) → IsInRange c → FirstFailure (checks A c) None → AllPass (checks A c)
+        → EffectGoes (effect c) A.orders → (AsksNoStock c → Each StepFalls (steps_of A c))
+        → Parts (accept A (record { key = key; command = c }))
+    by (command.Field b a lo hi start) i h p goes falls =
+        fielding A (record { name = record { branch = b; article = a }; lo = lo; hi = hi; start = start }) _ g
+        (record { branch = i.0; article = i.1; lo = i.2; hi = i.3; start = i.4 }) (kept_more A _) p.1.1.0 p.1.0
+        (omega arith)
+    by (command.Deliver b a q) i h p goes falls =
+        moving A (record { branch = b; article = a }) (pos q) _ g (kept_more A _) (not_false _ p.1.0) i.2 (omega arith)
+    by (command.Writeoff b a q) i h p goes falls =
+        moving A (record { branch = b; article = a }) (neg_ℤ (pos q)) _ g (kept_more A _) (not_false _ p.1.0)
+        (subst IsQty (sym (grind arith)) i.2) (omega arith)
+    by (command.Rebound b a lo hi) i h p goes falls =
+        rebounding A (record { branch = b; article = a }) lo hi _ g i.2 i.3 (kept_more A _) (omega arith)
+    by (command.Open n until lines) i h p goes falls =
+        let r = room_order A n Plain until (sounds_from_good A g) g.fields_in_order lines
+        (fit_from_good A g).room p.1.1.1.1 in
+        opening A n Plain until lines _ g (kept_more A _) i.0 i.1 i.2.some i.2.fits (quantities lines i.2)
+        (λ e. absurd (true≢false (sym e))) p.1.1.1.1 goes p.1.0 (omega arith) r.1
+    by (command.Transfer n until a from to q) i h p goes falls =
+        let ls : List OpenLine = transfer_lines a from to q in
+        let r = room_order A n Transfer until (sounds_from_good A g) g.fields_in_order ls
+        (fit_from_good A g).room p.1.1.1.1 in
+        opening A n Transfer until ls _ g (kept_more A _) i.0 i.1 (omega arith) (omega arith) (i.5, (i.5, tt))
+        (λ _. (refl, refl, refl, refl, refl)) p.1.1.1.1 goes p.1.0 (omega arith) r.1
+    by (command.More n way b a q) i h p goes falls =
+        let f : Name = record { branch = b; article = a } in
+        let l : OpenLine = record { way = way; branch = b; article = a; qty = q } in
+        let may = takes_more f way (order_numbered A n) p.1.0 p.1.1.0 p.1.1.1.0 p.1.1.1.1.0 p.1.1.1.1.1.1.0 in
+        let t = at_number (MayHoldMore f way) n A.orders g.orders_in_order may in
+        let few = at_number (λ o. IsNone (line_on o f) → length o.lines ≤ 63) n A.orders g.orders_in_order
+        (grind arith) in
+        let sound = sound_more A n l (sounds_from_good A g) g.orders_in_order may in
+        adding A n l _ g goes (kept_more A _) (omega arith)
+        (not_false _ p.1.1.1.1.1.0) i.3 t few sound
+        (room_from_safe (accept A (record { key = key; command = command.More n way b a q })) sound
+        (safe_after A (record { key = key; command = command.More n way b a q }) g h))
+    by (command.Use n b a q) i h p goes falls = closed A (numbered n)
+        (change_lines (name_of b a) (raise_used q)) A.clock _ g g.clock (kept_more A _)
+        goes (falls tt) (omega arith)
+    by (command.Release n b a q) i h p goes falls = closed A (numbered n)
+        (change_lines (name_of b a) (lower_held q)) A.clock _ g g.clock (kept_more A _)
+        goes (falls tt) (omega arith)
+    by (command.Commit n) i h p goes falls =
+        ended A n Committed _ refl g (kept_more A _) goes (falls tt)
+        (open_there _ p.0 p.1.0)
+    by (command.Abort n) i h p goes falls =
+        ended A n Aborted _ refl g (kept_more A _) goes (falls tt)
+        (open_there _ p.0 p.1.0)
+    by (command.Firm n) i h p goes falls = closed A (numbered n) set_firm A.clock _ g g.clock (kept_more A _)
+        goes (falls tt) (omega arith)
+    by (command.Expire now) i h p goes falls = closed A (expires now) (set_state Aborted) now _ g i (kept_more A _)
+        goes (falls tt) (omega arith)
 
 keeping : (A : Ledger) (r : Request) → Good A → IsKey r.key → IsInRange r.command → kept_under A r.key ≡ None
     → Parts (accept A r) → IsSafe (accept A r) → Good (accept A r)

@@ -18,5 +18,3 @@ pub mod InRow
 pub mod EqualRows
 pub mod Puts
 pub mod NextContent
-pub mod OrderApart
-pub mod MoreSteps

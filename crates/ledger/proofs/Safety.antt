@@ -1,5 +1,10 @@
 -- Every accepted command leaves a good ledger safe.
-use Rattle.ledger.proofs.Prelude.{Add, Bool, Command, Each, FallsBelow, Field, FirstFailure, Good, IsSafe, IsSome, IsSomeAnd, IsStrictlySortedBy, Ledger, List, Name, None, Option, Order, Plain, Request, RisesAbove, Share, Take, Transfer, Way, [], accept, add_part, arith, bound, checks, false, field_named, find, held_to_add, held_to_take, if◌then◌else◌, ints, is_lt, line_name, map, name_cmp, name_of, next, option_map, order_numbered, pos, refl, same_name, settled, settled_part, subst, sym, take_part, total, transfer_lines, true, true≢false, ℕ, ℤ, ◌+ℤ◌, ◌-ℤ◌, ◌<ℤ◌, ◌↔◌, ◌∙◌, ◌∷◌, ◌≡◌, ◌≤◌}
+use Rattle.ledger.proofs.Prelude.{Add, Bool, Command, Each, FallsBelow, Field, FirstFailure, Good, IsSafe, IsSome,
+    IsSomeAnd, IsStrictlySortedBy, Ledger, List, Name, None, Option, Part, Plain, Request, RisesAbove, Take, Transfer,
+    Way, [], accept, add_part, arith, bound, checks, common_steps, false, field_named, find, held_to_add, held_to_take,
+    if◌then◌else◌, ints, is_lt, line_name, map, name_cmp, name_of, next, option_map, order_numbered, part_of, pos, refl,
+    same_name, settled, settled_part, subst, sym, take_part, total, transfer_lines, true, true≢false, ℕ, ℤ, ◌+ℤ◌, ◌-ℤ◌,
+    ◌<ℤ◌, ◌↔◌, ◌∙◌, ◌∷◌, ◌≡◌, ◌≤◌}
 use Rattle.words.specs.declared.command.Command.TheVariants as command
 use Rattle.ledger.proofs.Sums.{each-both, each-imp, each-insert, each-map, total-zero}
 use Rattle.ledger.proofs.Bounds.{HasRoom, Sound, safe_from_room}
@@ -10,7 +15,6 @@ use Rattle.ledger.proofs.FieldNames.{InOrder, name_is}
 use Rattle.ledger.proofs.Passing.{AllPass, all_pass, takes_more}
 use Rattle.ledger.proofs.Falls.{Fit, fit-accept, fit_from_good, sounds_from_good}
 use Rattle.ledger.proofs.Asks.{Beyond, Room, Within, bound_iff, room_moved, room_order, room_raised, room_side, within_tested}
-use Rattle.ledger.proofs.Steps.{added_is, moved_is, part_of, taken_is}
 
 -- ---- a field with other bounds: what stays, and its checks as comparisons with the ledger before
 
@@ -34,8 +38,7 @@ pub found_bounded : (m n : Name) (lo hi : ℕ) (fs : List Field)
     → find (λ e. same_name m e.name) (map (bounding n lo hi) fs)
     ≡ option_map (bounding n lo hi) (find (λ e. same_name m e.name) fs)
 found_bounded m n lo hi [] = refl
-found_bounded m n lo hi (f ∷ fs) =
-    let more = found_bounded m n lo hi fs in let name = bounding_name n lo hi f in grind arith
+found_bounded m n lo hi (f ∷ fs) = grind (arith, ints, common_steps, (found_bounded m n lo hi fs), bounding_name)
 
 some_mapped : {X : Type 0} (h : X → X) (o : Option X) → IsSome o → IsSome (option_map h o)
 some_mapped h o some = grind arith
@@ -43,8 +46,7 @@ some_mapped h o some = grind arith
 -- each field that is there is there still
 pub still_bounded : (A B : Ledger) (n : Name) (lo hi : ℕ) → B.fields ≡ map (bounding n lo hi) A.fields
     → StillThere A B
-still_bounded A B n lo hi is m some =
-    rw (is, found_bounded m n lo hi A.fields) (some_mapped (bounding n lo hi) (field_named A m) some)
+still_bounded A B n lo hi is m some = grind (arith, ints, common_steps, found_bounded, some_mapped)
 
 -- what holds of the field of that name with other bounds
 pub some_bounded : (n : Name) (lo hi : ℕ) (P : Field → Type 0) (fs : List Field)
@@ -115,12 +117,8 @@ not_there A name other none some =
 -- its value is its start, and nothing is held on it
 pub nothing_on : (A : Ledger) (f : Field) → Good A → (IsSome (field_named A f.name) → ⊥)
     → (settled A f ≡ pos f.start) × (held_to_take A f.name ≡ pos 0) × (held_to_add A f.name ≡ pos 0)
-nothing_on A f good none = (
-  let used = no_orders settled_part _ (moved_is f.name) in omega (arith, ints, moves),
-  no_orders take_part _
-      (taken_is f.name),
-  no_orders add_part _ (added_is f.name),
-)
+nothing_on A f good none =
+    let used = no_orders settled_part in (omega (arith, ints, moves), no_orders take_part, no_orders add_part)
   where
     off : (b : Bool) (z : ℤ) → b ≡ false → (if b then z else pos 0) ≡ pos 0
     off b z e = cc
@@ -129,23 +127,14 @@ nothing_on A f good none = (
     moves = total-zero _ A.moves
         (each-imp (λ m x. off _ m.amount (not_there A f.name m.field none x.field)) A.moves good.moves)
 
-    no_orders : (part : Way → Share → ℤ) (own : Order → ℤ) → ((o : Order) → own o ≡ part_of part f.name o)
-        → total own A.orders ≡ pos 0
-    no_orders part own same = total-zero own A.orders
-        (each-imp (λ o x. same o ∙ total-zero _ o.lines
+    no_orders : (part : Part) → total (part_of part f.name) A.orders ≡ pos 0
+    no_orders part = total-zero _ A.orders
+        (each-imp (λ o x. total-zero _ o.lines
         (each-imp (λ l y. off _ _ (not_there A f.name (line_name l) none y.field)) o.lines x.lines)) A.orders good.orders)
 
 room_field : (A : Ledger) (f : Field) → Good A → (IsSome (field_named A f.name) → ⊥)
     → (((f.lo ≤ f.start) × (f.start ≤ f.hi) → ⊥) → ⊥) → HasRoom A f
-room_field A f good none between =
-    let numbers = nothing_on A f good none in let value = numbers.0 in let takes = numbers.1 in
-    let adds = numbers.2 in
-    let there : (f.lo ≤ f.start) × (f.start ≤ f.hi) = within f.lo f.start f.hi between in let low = there.0 in
-    let high = there.1 in
-    (omega (arith, ints), omega (arith, ints))
-  where
-    within : (lo start hi : ℕ) → (((lo ≤ start) × (start ≤ hi) → ⊥) → ⊥) → (lo ≤ start) × (start ≤ hi)
-    within lo start hi k = grind arith
+room_field A f good none between = grind (arith, ints, common_steps, nothing_on)
 
 room_accept : (A : Ledger) (key : List ℕ) (c : Command) → Good A → FirstFailure (checks A c) None
     → Room (accept A (record { key = key; command = c }))
@@ -174,7 +163,8 @@ room_accept A key c good passed = by c passed (all_pass (checks A c) passed)
     by (command.More n way b a q) h p =
         room_raised A n (record { way = way; branch = b; article = a; qty = q }) sound good.orders_in_order
         (takes_more (name_of b a) way
-        (order_numbered A n) p.1.0 p.1.1.0 p.1.1.1.0 p.1.1.1.1.0 p.1.1.1.1.1.1.0) 0 good.fields_in_order fit.room p.1.1.1.1.1.1.1.1.0
+        (order_numbered A n) p.1.0 p.1.1.0 p.1.1.1.0 p.1.1.1.1.0 p.1.1.1.1.1.1.0) 0 good.fields_in_order fit.room
+        p.1.1.1.1.1.1.1.1.0
     by c h p = (fit-accept A key c tt fit h).room
 
 -- whatever is accepted, the ledger stays safe

@@ -1,14 +1,25 @@
 -- The steps of an accepted command: what stays of an order, and what the lines add up to.
-use Rattle.ledger.proofs.Prelude.{Aborted, Bool, Changes, Command, Committed, Each, Effect, Field, FirstFailure, Good, IsFalse, IsNone, IsSomeAnd, IsStrictlySortedBy, Ledger, Line, LineStep, List, MatchOption, Name, None, Nothing, Open, OpenLine, Opens, Option, Order, Share, ShareStep, Some, State, Step, Way, [], add_hold, add_part, added_by_order, added_on, ap, arith, before_on, change_lines, changes_field, changes_stock, checks, effect, expires, false, find, flat_map, hold_more, if_add, if_take, if◌then◌else◌, ints, is_open, is_settled, is_some, line_name, line_on, line_steps, lines_of, list_any, list_any-append, lower_held, map, moved_at_once, moved_by_command, moved_by_order, moves_after, name_of, nat_cmp, nat_lt, new_line, next, no_share, not, numbered, on, open_state, option_map, option_map_or, order_numbered, orders_after, own_field, places, pos, raise_held, raise_used, refl, same_name, set_firm, set_state, settled, settled_part, share_before, share_of, share_step, share_steps, shares_of_step, signed, steps, steps_of, sym, take_part, taken_by_order, total, true, true≢false, unsettled, ℕ, ℤ, ◌&&◌, ◌++◌, ◌+ℤ◌, ◌+◌, ◌-ℤ◌, ◌==◌, ◌||◌, ◌∙◌, ◌∷◌, ◌≡◌, ◌≤ℤ◌}
-use Rattle.words.specs.declared.command.Command.TheVariants as command
+use Rattle.ledger.proofs.Prelude.{Aborted, Bool, Changes, Command, Committed, Each, Effect, Field, FirstFailure, Good,
+    IsNone, IsSome, IsSomeAnd, IsStrictlySortedBy, Ledger, Line, LineStep, List, MatchOption, Name, None, Nothing, Open,
+    OpenLine, Opens, Option, Order, Part, ShareStep, Some, State, Step, Way, [], add_hold, add_part, added_on, ap,
+    arith, change_lines, changes_field, changes_stock, checks, common_steps, effect, expires, false, find, flat_map,
+    if_add, if_take, if◌then◌else◌, ints, is_open, is_settled, line_name, line_steps, lines_of, list_any, lower_held,
+    map, moved_at_once, moved_by_command, name_of, nat_cmp, nat_cmp_total, nat_lt, next, no_share, not, numbered, on,
+    open_state, option_map, option_map_or, order_numbered, orders_after, own_field, part_of, pos, raise_used, refl,
+    same_name, set_firm, set_state, settled, settled_part, share_of, share_step, share_steps, shares_of_step, signed,
+    steps, steps_of, subst, sym, take_part, total, true, true≢false, turn, ℕ, ℤ, ◌&&◌, ◌++◌, ◌+ℤ◌, ◌+◌, ◌-ℤ◌, ◌==◌,
+    ◌||◌, ◌∙◌, ◌∷◌, ◌≡◌, ◌≢◌}
 use Rattle.std.specs.Prelude.{cond, option_to_list}
 use Rattle.std.specs.List.{filter}
 use Rattle.ledger.specs.Changes.{stock_lines}
 use Rattle.ledger.specs.Held.{held_to_add, held_to_take}
-use Rattle.ledger.proofs.Lists.{NumbersInOrder, any-map, any_none, any_same, at_number, none_after, number_is, or_false}
-use Rattle.ledger.proofs.Sums.{each, each-both, each-flat, each-imp, total-eq, total-flat, total-insert, total-not_negative, total-push, total-zero}
+use Rattle.ledger.proofs.Lists.{NumbersInOrder, any-map, any_none, any_same, at_number, each-found, lt_is, none_after,
+    not_equal, number_is, or_false, sorted-insert}
+use Rattle.ledger.proofs.Sums.{each, each-both, each-flat, each-imp, none_found, total-eq, total-flat, total-insert,
+    total-push, total-zero}
 use Rattle.ledger.specs.Next.{fields_after}
-use Rattle.ledger.proofs.Passing.{AllPass, all_pass}
+use Rattle.ledger.proofs.Passing.{AllPass, all_pass, loose_there, none_if_not_some, open_there}
+use Rattle.words.specs.declared.command.Command.TheVariants as command
 
 -- ---- what stays of an order
 
@@ -25,11 +36,13 @@ pub record Goes (b a : Order) : Type 0 where
   pub until : a.until ≡ b.until
   pub unended : is_open b ≡ true
   pub firm : b.firm ≡ true → a.firm ≡ true
+  pub loose : a.state ≡ Aborted → a.firm ≡ false
   pub lines : Grows b.lines a.lines
 
+-- a new order has a number of its own
 abbrev pub EffectGoes : Effect → List Order → Type 0
 EffectGoes Nothing os = Unit {0}
-EffectGoes (Opens o) os = Unit {0}
+EffectGoes (Opens o) os = IsNone (find (numbered o.number) os)
 EffectGoes (Changes names change) os = Each (λ o. names o ≡ true → Goes o (change o)) os
 
 grows-same : (ls : List Line) → Grows ls ls
@@ -50,72 +63,154 @@ same_if : (b : Bool) (g : Line → Line) (l : Line) → ((g l).way ≡ l.way) ×
 same_if true g l same = same
 same_if false g l same = (refl, refl)
 
+pub not_aborted : (s : State) → open_state s ≡ true → s ≢ Aborted
+not_aborted s e d = true≢false (sym e ∙ ap open_state d)
+
+-- other lines
+lined_goes : (o : Order) (ls : List Line) → Grows o.lines ls → is_open o ≡ true → Goes o (record o { lines = ls })
+lined_goes o ls lines unended = record {
+  number = refl;
+  kind = refl;
+  until = refl;
+  unended = unended;
+  firm = λ e. e;
+  loose = λ s. absurd (not_aborted o.state unended s);
+  lines = lines;
+}
+
 hold_goes : (l : OpenLine) (o : Order) → is_open o ≡ true → Goes o (add_hold l o)
-hold_goes l o unended = by (is_some (line_on o (name_of l.branch l.article)))
-  where
-    by : (b : Bool)
-        → Goes o (if b then hold_more (name_of l.branch l.article) l.qty o else record o { lines = o.lines ++ new_line l ∷ [] })
-    by true = record {
-      number = refl;
-      kind = refl;
-      until = refl;
-      unended = unended;
-      firm = λ e. e;
-      lines = grows-map (λ m. if on (name_of l.branch l.article) m then raise_held l.qty m else m)
-          (λ m. same_if (on (name_of l.branch l.article) m) (raise_held l.qty) m (refl, refl)) o.lines;
-    }
-    by false = record { number = refl; kind = refl; until = refl; unended = unended; firm = λ e. e; lines = grows-push (new_line l) o.lines }
+hold_goes l o unended = grind (arith, ints, common_steps, grows-map, same_if, grows-push)
 
 pub lines_go : (f : Name) (g : Line → Line) (o : Order)
     → ((l : Line) → ((g l).way ≡ l.way) × (line_name (g l) ≡ line_name l)) → is_open o ≡ true
     → Goes o (change_lines f g o)
-lines_go f g o same unended =
-    record { number = refl; kind = refl; until = refl; unended = unended; firm = λ e. e; lines = grows-map _ (λ l. same_if _ g l (same l)) o.lines }
+lines_go f g o same unended = lined_goes o _ (grows-map _ (λ l. same_if _ g l (same l)) o.lines) unended
 
-pub state_goes : (s : State) (o : Order) → is_open o ≡ true → Goes o (set_state s o)
-state_goes s o unended =
-    record { number = refl; kind = refl; until = refl; unended = unended; firm = λ e. e; lines = grows-same o.lines }
+pub state_goes : (s : State) (o : Order) → (s ≡ Aborted → o.firm ≡ false) → is_open o ≡ true → Goes o (set_state s o)
+state_goes s o loose unended = record {
+  number = refl;
+  kind = refl;
+  until = refl;
+  unended = unended;
+  firm = λ e. e;
+  loose = loose;
+  lines = grows-same o.lines;
+}
 
 pub firm_goes : (o : Order) → is_open o ≡ true → Goes o (set_firm o)
-firm_goes o unended = record { number = refl; kind = refl; until = refl; unended = unended; firm = λ e. refl; lines = grows-same o.lines }
+firm_goes o unended = record {
+  number = refl;
+  kind = refl;
+  until = refl;
+  unended = unended;
+  firm = λ e. refl;
+  loose = λ s. absurd (not_aborted o.state unended s);
+  lines = grows-same o.lines;
+}
 
-expired_open : (now : ℕ) (o : Order) → expires now o ≡ true → is_open o ≡ true
-expired_open now o e = grind arith
+pub expired : (now : ℕ) (o : Order) → expires now o ≡ true → (is_open o ≡ true) × (o.firm ≡ false)
+expired now o e = grind arith
 
--- an order that is there under the number and has not ended
-pub opened : (A : Ledger) (n : ℕ) → NumbersInOrder A → (IsNone (order_numbered A n) → ⊥)
-    → (IsSomeAnd (order_numbered A n) (λ o. IsFalse (is_open o)) → ⊥)
-    → Each (λ o. (o.number == n) ≡ true → is_open o ≡ true) A.orders
-opened A n sorted p q = at_number (λ o. is_open o ≡ true) n A.orders sorted (grind arith)
+pub commits : Committed ≢ Aborted
+commits e = cc
 
-one_goes : (A : Ledger) (n : ℕ) (change : Order → Order) → NumbersInOrder A → (IsNone (order_numbered A n) → ⊥)
-    → (IsSomeAnd (order_numbered A n) (λ o. IsFalse (is_open o)) → ⊥)
-    → ((o : Order) → is_open o ≡ true → Goes o (change o))
+none_there : (x : Option Order) → (IsSome x → ⊥) → IsNone x
+none_there x h = grind arith
+
+-- the order under a number changes, of which its checks know this
+one_goes : (A : Ledger) (n : ℕ) (change : Order → Order) (P : Order → Type 0) → NumbersInOrder A
+    → ((o : Order) → P o → Goes o (change o)) → IsSomeAnd (order_numbered A n) P
     → Each (λ o. (o.number == n) ≡ true → Goes o (change o)) A.orders
-one_goes A n change sorted p q go = each-imp (λ o unended e. go o (unended e)) A.orders (opened A n sorted p q)
+one_goes A n change P sorted go there = each-imp (λ o is e. go o (is e)) A.orders (at_number P n A.orders sorted there)
 
 pub effect_goes : (A : Ledger) (c : Command) → NumbersInOrder A → FirstFailure (checks A c) None
     → EffectGoes (effect c) A.orders
 effect_goes A c sorted h = by c (all_pass (checks A c) h)
   where
     by : (c : Command) → AllPass (checks A c) → EffectGoes (effect c) A.orders
-    by (command.Open n until lines) p = tt
-    by (command.Transfer n until a from to q) p = tt
+    by (command.Open n until lines) p = none_there _ p.1.1.0
+    by (command.Transfer n until a from to q) p = none_there _ p.1.1.0
     by (command.More n way b a q) p =
-        one_goes A n _ sorted p.1.0 p.1.1.0 (hold_goes (record { way = way; branch = b; article = a; qty = q }))
-    by (command.Use n b a q) p =
-        one_goes A n _ sorted p.1.0 p.1.1.0 (λ o e. lines_go (name_of b a) (raise_used q) o (λ l. (refl, refl)) e)
-    by (command.Release n b a q) p =
-        one_goes A n _ sorted p.1.0 p.1.1.0 (λ o e. lines_go (name_of b a) (lower_held q) o (λ l. (refl, refl)) e)
-    by (command.Commit n) p = one_goes A n _ sorted p.0 p.1.0 (state_goes Committed)
-    by (command.Abort n) p = one_goes A n _ sorted p.0 p.1.0 (state_goes Aborted)
-    by (command.Firm n) p = one_goes A n _ sorted p.1.0 p.1.1.0 firm_goes
-    by (command.Expire now) p = each (λ o e. state_goes Aborted o (expired_open now o e)) A.orders
+        one_goes A n _ _ sorted (hold_goes (record { way = way; branch = b; article = a; qty = q }))
+        (open_there _ p.1.0 p.1.1.0)
+    by (command.Use n b a q) p = one_goes A n _ _ sorted
+        (λ o e. lines_go (name_of b a) (raise_used q) o (λ l. (refl, refl)) e) (open_there _ p.1.0 p.1.1.0)
+    by (command.Release n b a q) p = one_goes A n _ _ sorted
+        (λ o e. lines_go (name_of b a) (lower_held q) o (λ l. (refl, refl)) e) (open_there _ p.1.0 p.1.1.0)
+    by (command.Commit n) p =
+        one_goes A n _ _ sorted (λ o. state_goes Committed o (λ s. absurd (commits s))) (open_there _ p.0 p.1.0)
+    by (command.Abort n) p =
+        one_goes A n _ _ sorted (λ o x. state_goes Aborted o (λ s. x.1) x.0) (loose_there _ p.0 p.1.0 p.1.1.0)
+    by (command.Firm n) p = one_goes A n _ _ sorted firm_goes (open_there _ p.1.0 p.1.1.0)
+    by (command.Expire now) p =
+        each (λ o e. let x = expired now o e in state_goes Aborted o (λ s. x.1) x.0) A.orders
     by c p = tt
 
--- the order turned into another
-abbrev pub turned : Order → Order → Step
-turned o new = record { before = Some o; after = new }
+-- ---- the order under a number, and the numbers
+
+-- where orders change that keep their numbers
+pub found_changed : (n : ℕ) (names : Order → Bool) (change : Order → Order) (os : List Order)
+    → Each (λ o. names o ≡ true → (change o).number ≡ o.number) os
+    → find (numbered n) (orders_after (Changes names change) os)
+    ≡ option_map (λ o. if names o then change o else o) (find (numbered n) os)
+found_changed n names change [] same = refl
+found_changed n names change (o ∷ os) same = let more = found_changed n names change os same.1 in grind arith
+
+-- where one is put in
+pub found_opened : (n : ℕ) (o : Order) (os : List Order) → IsNone (find (numbered o.number) os)
+    → find (numbered n) (orders_after (Opens o) os) ≡ (if o.number == n then Some o else find (numbered n) os)
+found_opened n o [] none = refl
+found_opened n o (m ∷ os) none = let more = found_opened n o os in grind arith
+
+pub keeps_numbers : (names : Order → Bool) (change : Order → Order) (os : List Order)
+    → Each (λ o. names o ≡ true → Goes o (change o)) os → Each (λ o. names o ≡ true → (change o).number ≡ o.number) os
+keeps_numbers names change os goes = each-imp (λ o go e. (go e).number) os goes
+
+-- what the order under a number keeps where it goes on, it keeps
+pub kept_under_number : (P : Order → Type 0) (n : ℕ) (e : Effect) (os : List Order) → EffectGoes e os
+    → ((b a : Order) → Goes b a → P b → P a) → IsSomeAnd (find (numbered n) os) P
+    → IsSomeAnd (find (numbered n) (orders_after e os)) P
+kept_under_number P n Nothing os goes keeps there = there
+kept_under_number P n (Opens o) os goes keeps there =
+    subst (λ x. IsSomeAnd x P) (sym (found_opened n o os goes)) (by (o.number == n) refl)
+  where
+    by : (b : Bool) → (o.number == n) ≡ b → IsSomeAnd (if b then Some o else find (numbered n) os) P
+    by true e = absurd (none (find (numbered n) os) there
+        (subst (λ k. IsNone (find (numbered k) os)) (number_is o.number n e) goes))
+      where
+        none : (x : Option Order) → IsSomeAnd x P → IsNone x → ⊥
+        none x is e = grind arith
+    by false e = there
+kept_under_number P n (Changes names change) os goes keeps there =
+    subst (λ x. IsSomeAnd x P) (sym (found_changed n names change os (keeps_numbers names change os goes)))
+    (by (find (numbered n) os) refl there)
+  where
+    one : (o : Order) (b : Bool) → names o ≡ b → (names o ≡ true → Goes o (change o)) → P o
+        → P (if b then change o else o)
+    one o true e go p = keeps o (change o) (go e) p
+    one o false e go p = p
+
+    by : (x : Option Order) → find (numbered n) os ≡ x → IsSomeAnd x P
+        → IsSomeAnd (option_map (λ o. if names o then change o else o) x) P
+    by None e there = there
+    by (Some o) e there = one o (names o) refl (each-found _ (numbered n) o os goes e) there
+
+numbers_kept : (names : Order → Bool) (change : Order → Order) (os : List Order)
+    → Each (λ o. names o ≡ true → (change o).number ≡ o.number) os
+    → map (λ o. o.number) (orders_after (Changes names change) os) ≡ map (λ o. o.number) os
+numbers_kept names change [] same = refl
+numbers_kept names change (o ∷ os) same = let more = numbers_kept names change os same.1 in grind arith
+
+pub numbers_after : (e : Effect) (os : List Order) → EffectGoes e os
+    → IsStrictlySortedBy nat_cmp (map (λ o. o.number) os)
+    → IsStrictlySortedBy nat_cmp (map (λ o. o.number) (orders_after e os))
+numbers_after Nothing os goes sorted = sorted
+numbers_after (Opens o) os goes sorted =
+    sorted-insert nat_cmp nat_cmp_total (λ o. o.number) (λ a b. nat_lt a.number b.number) (λ a b. lt_is a.number b.number) o os
+    (each-imp (λ m x. not_equal o.number m.number x) os
+        (none_found (numbered o.number) os (none_if_not_some _ (λ some. true≢false (sym some ∙ goes))))) sorted
+numbers_after (Changes names change) os goes sorted =
+    subst (IsStrictlySortedBy nat_cmp) (sym (numbers_kept names change os (keeps_numbers names change os goes))) sorted
 
 -- the steps of a change, and the orders after it
 abbrev pub turns : (Order → Bool) → (Order → Order) → List Order → List Step
@@ -130,36 +225,26 @@ shares_from b a nr bs ls = map (share_step (record { before = b; after = a })) (
 
 -- a step of an order that the change names
 abbrev pub step_if : Bool → Order → Order → List Step
-step_if b o new = if b then turned o new ∷ [] else []
+step_if b o new = if b then turn o new ∷ [] else []
 
 pub changes_each : (P : Step → Type 0) (names : Order → Bool) (change : Order → Order) (os : List Order)
-    → Each (λ o. names o ≡ true → P (turned o (change o))) os → Each P (turns names change os)
+    → Each (λ o. names o ≡ true → P (turn o (change o))) os → Each P (turns names change os)
 changes_each P names change [] h = tt
-changes_each P names change (o ∷ os) h = by (names o) h.0 (changes_each P names change os h.1)
-  where
-    by : (b : Bool) → (b ≡ true → P (turned o (change o))) → Each P (turns names change os)
-        → Each P (step_if b o (change o) ++ turns names change os)
-    by true own more = (own refl, more)
-    by false own more = more
+changes_each P names change (o ∷ os) h = grind (arith, ints, common_steps, (changes_each P names change os h.1))
 
 abbrev pub StepGoes : Step → Type 0
 StepGoes s = MatchOption s.before (Unit {0}) (λ b. Goes b s.after)
 
 pub steps_go : (A : Ledger) (c : Command) → NumbersInOrder A → FirstFailure (checks A c) None
     → Each StepGoes (steps_of A c)
-steps_go A c sorted h = by (effect c) (effect_goes A c sorted h)
-  where
-    by : (e : Effect) → EffectGoes e A.orders → Each StepGoes (steps e A.orders)
-    by Nothing goes = tt
-    by (Opens o) goes = (tt, tt)
-    by (Changes names change) goes = changes_each StepGoes names change A.orders goes
+steps_go A c sorted h = grind (arith, ints, common_steps, effect_goes, steps, changes_each)
 
 -- ---- one order
 
 -- the steps of a command that changes the order under a number
 pub one_step : (n : ℕ) (change : Order → Order) (os : List Order)
     → IsStrictlySortedBy nat_cmp (map (λ o. o.number) os)
-    → steps (Changes (numbered n) change) os ≡ option_map_or (λ o. turned o (change o) ∷ []) (find (numbered n) os) []
+    → steps (Changes (numbered n) change) os ≡ option_map_or (λ o. turn o (change o) ∷ []) (find (numbered n) os) []
 unfolding IsStrictlySortedBy
 one_step n change [] sorted = refl
 one_step n change (o ∷ os) sorted = by (o.number == n) refl (one_step n change os sorted.1)
@@ -170,20 +255,16 @@ one_step n change (o ∷ os) sorted = by (o.number == n) refl (one_step n change
 
     by : (b : Bool) → (o.number == n) ≡ b
         → steps (Changes (numbered n) change) os
-        ≡ option_map_or (λ o. turned o (change o) ∷ []) (find (numbered n) os) []
+        ≡ option_map_or (λ o. turn o (change o) ∷ []) (find (numbered n) os) []
         → step_if b o (change o) ++ steps (Changes (numbered n) change) os
-        ≡ option_map_or (λ o. turned o (change o) ∷ []) (if b then Some o else find (numbered n) os) []
-    by true e more = ap (λ (ss : List Step). turned o (change o) ∷ ss) (none os (none_after n o os e sorted.0))
+        ≡ option_map_or (λ o. turn o (change o) ∷ []) (if b then Some o else find (numbered n) os) []
+    by true e more = ap (λ (ss : List Step). turn o (change o) ∷ ss) (none os (none_after n o os e sorted.0))
     by false e more = more
 
 -- ---- sums over lines
 
--- what an order counts for in a part of the field's stock
-abbrev pub part_of : (Way → Share → ℤ) → Name → Order → ℤ
-part_of part f o = total (λ l. if on f l then part l.way (share_of o.state o.firm l) else pos 0) o.lines
-
 -- a part that counts nothing for no share, and what is held by its amount
-pub record IsPart (part : Way → Share → ℤ) : Type 0 where
+pub record IsPart (part : Part) : Type 0 where
   pub nothing : (w : Way) → part w no_share ≡ pos 0
   pub more : (w : Way) (m n : ℕ)
       → part w (record { settled = 0; held = m + n })
@@ -216,24 +297,10 @@ add_counts = record { nothing = no_add; more = more }
 if_zero : (b : Bool) (z : ℤ) → z ≡ pos 0 → (if b then z else pos 0) ≡ pos 0
 if_zero b z e = grind arith
 
--- of an order that is not open or not settled, each line counts for nothing
-all_or_none : (b : Bool) (f : Name) (part : Line → ℕ → ℤ) → ((l : Line) → part l 0 ≡ pos 0)
-    → (amount : Line → ℕ) (ls : List Line)
-    → (if b then total (λ l. if on f l then part l (amount l) else pos 0) ls else pos 0)
-    ≡ total (λ l. if on f l then part l (if b then amount l else 0) else pos 0) ls
-all_or_none true f part none amount ls = refl
-all_or_none false f part none amount ls = sym (total-zero _ ls (each (λ l. if_zero (on f l) (part l 0) (none l)) ls))
-
-pub moved_is : (f : Name) (o : Order) → moved_by_order f o ≡ part_of settled_part f o
-moved_is f o = all_or_none (is_settled o) f (λ l. signed l.way) (λ l. no_settled l.way) (λ l. l.used) o.lines
-
-pub taken_is : (f : Name) (o : Order) → taken_by_order f o ≡ part_of take_part f o
-taken_is f o = all_or_none (is_open o) f (λ l n. pos (if_take l.way n)) (λ l. no_take l.way)
-    (λ l. unsettled o.firm l l.held) o.lines
-
-pub added_is : (f : Name) (o : Order) → added_by_order f o ≡ part_of add_part f o
-added_is f o = all_or_none (is_open o) f (λ l n. pos (if_add l.way n)) (λ l. no_add l.way)
-    (λ l. unsettled o.firm l l.held) o.lines
+-- an order that is not settled has moved nothing by whatever lines
+pub unsettled_none : (test : Line → Bool) (o : Order) → is_settled o ≡ false
+    → total (λ l. if test l then settled_part l.way (share_of o.state o.firm l) else pos 0) o.lines ≡ pos 0
+unsettled_none test o e = grind (arith, ints, common_steps, total-zero, each, if_zero, no_settled)
 
 -- ---- sums over steps
 
@@ -263,36 +330,44 @@ steps_add g (Changes names change) os = go os
         by true more = omega (arith, ints)
         by false more = omega (arith, ints)
 
--- what was there of them was there
-pub before_least : (g : Order → ℤ) → ((o : Order) → pos 0 ≤ℤ g o) → (e : Effect) (os : List Order)
-    → total (before g) (steps e os) ≤ℤ total g os
-before_least g least Nothing os = total-not_negative g least os
-before_least g least (Opens o) os = let more = total-not_negative g least os in omega (arith, ints)
-before_least g least (Changes names change) os = go os
-  where
-    go : (os : List Order) → total (before g) (turns names change os) ≤ℤ total g os
-    go [] = omega (arith, ints)
-    go (o ∷ os) = by (names o) (least o) (go os)
-      where
-        by : (b : Bool) → pos 0 ≤ℤ g o → total (before g) (turns names change os) ≤ℤ total g os
-            → total (before g) (step_if b o (change o) ++ turns names change os) ≤ℤ (g o +ℤ total g os)
-        by true own more = omega (arith, ints)
-        by false own more = omega (arith, ints)
+-- ..where no order has the number
+pub none_changes : (g : Order → ℤ) (change : Order → Order) (n : ℕ) (os : List Order)
+    → IsStrictlySortedBy nat_cmp (map (λ o. o.number) os) → find (numbered n) os ≡ None
+    → total g (orders_after (Changes (numbered n) change) os) ≡ total g os
+none_changes g change n os sorted none =
+    let add = steps_add g (Changes (numbered n) change) os in
+    let is = one_step n change os sorted ∙ ap (λ x. option_map_or (λ o. turn o (change o) ∷ []) x []) none in
+    let was = ap (total (before g)) is in let now = ap (total (λ s. g s.after)) is in
+    omega (arith, ints)
+
+-- ..and where the one that has it changes
+pub one_changes : (g : Order → ℤ) (change : Order → Order) (n : ℕ) (o : Order) (os : List Order)
+    → IsStrictlySortedBy nat_cmp (map (λ o. o.number) os) → find (numbered n) os ≡ Some o
+    → total g (orders_after (Changes (numbered n) change) os) +ℤ g o ≡ total g os +ℤ g (change o)
+one_changes g change n o os sorted found =
+    let add = steps_add g (Changes (numbered n) change) os in
+    let is = one_step n change os sorted ∙ ap (λ x. option_map_or (λ o. turn o (change o) ∷ []) x []) found in
+    let was = ap (total (before g)) is in let now = ap (total (λ s. g s.after)) is in
+    omega (arith, ints)
 
 -- ---- what the lines of a step add up to
 
-module _ (part : Way → Share → ℤ) (is : IsPart part) (f : Name) where
-  -- what the lines of steps count for then, as `before_on` says what they counted for before
+module _ (part : Part) (is : IsPart part) (f : Name) where
+  -- what the lines of steps counted for before
+  abbrev before_on : List ShareStep → ℤ
+  before_on xs = total (λ x. if same_name f x.name then part x.way x.before else pos 0) xs
+
+  -- what they count for then
   abbrev pub after_on : List ShareStep → ℤ
   after_on xs = total (λ x. if same_name f x.name then part x.way x.after else pos 0) xs
 
-  difference : (xs : List ShareStep) → added_on part f xs +ℤ before_on part f xs ≡ after_on xs
+  difference : (xs : List ShareStep) → added_on part f xs +ℤ before_on xs ≡ after_on xs
   difference [] = refl
   difference (x ∷ xs) = by (same_name f x.name) (difference xs)
     where
-      by : (b : Bool) → added_on part f xs +ℤ before_on part f xs ≡ after_on xs
+      by : (b : Bool) → added_on part f xs +ℤ before_on xs ≡ after_on xs
           → ((if b then part x.way x.after -ℤ part x.way x.before else pos 0) +ℤ added_on part f xs)
-          +ℤ ((if b then part x.way x.before else pos 0) +ℤ before_on part f xs)
+          +ℤ ((if b then part x.way x.before else pos 0) +ℤ before_on xs)
           ≡ (if b then part x.way x.after else pos 0) +ℤ after_on xs
       by true more = omega (arith, ints)
       by false more = omega (arith, ints)
@@ -301,28 +376,17 @@ module _ (part : Way → Share → ℤ) (is : IsPart part) (f : Name) where
       → after_on (shares_from b a nr bs ls)
       ≡ total (λ l. if on f l then part l.way (share_of a.state a.firm l) else pos 0) ls
   lines_after b a nr bs [] = refl
-  lines_after b a nr [] (l ∷ ls) =
-      ap (λ z. (if on f l then part l.way (share_of a.state a.firm l) else pos 0) +ℤ z)
-      (lines_after b a (nr + 1) [] ls)
-  lines_after b a nr (m ∷ bs) (l ∷ ls) =
-      ap (λ z. (if on f l then part l.way (share_of a.state a.firm l) else pos 0) +ℤ z)
-      (lines_after b a (nr + 1) bs ls)
+  lines_after b a nr [] (l ∷ ls) = grind (arith, ints, common_steps, (lines_after b a (nr + 1) [] ls))
+  lines_after b a nr (m ∷ bs) (l ∷ ls) = grind (arith, ints, common_steps, (lines_after b a (nr + 1) bs ls))
 
   -- a new line counted for nothing
   new_before : (b : Option Order) (a : Order) (nr : ℕ) (ls : List Line)
-      → before_on part f (shares_from b a nr [] ls) ≡ pos 0
+      → before_on (shares_from b a nr [] ls) ≡ pos 0
   new_before b a nr [] = refl
-  new_before b a nr (l ∷ ls) =
-      let more = new_before b a (nr + 1) ls in
-      let none = if_zero (on f l) (part l.way (share_before b None)) (nothing_new b ∙ is.nothing l.way) in
-      omega (arith, ints)
-    where
-      nothing_new : (b : Option Order) → part l.way (share_before b None) ≡ part l.way no_share
-      nothing_new None = refl
-      nothing_new (Some o) = refl
+  new_before b a nr (l ∷ ls) = grind (arith, ints, common_steps, (new_before b a (nr + 1) ls), if_zero)
 
   lines_before : (o a : Order) (nr : ℕ) (bs ls : List Line) → Grows bs ls
-      → before_on part f (shares_from (Some o) a nr bs ls)
+      → before_on (shares_from (Some o) a nr bs ls)
       ≡ total (λ m. if on f m then part m.way (share_of o.state o.firm m) else pos 0) bs
   lines_before o a nr [] ls grows = new_before (Some o) a nr ls
   lines_before o a nr (m ∷ ms) [] grows = absurd grows
@@ -330,18 +394,18 @@ module _ (part : Way → Share → ℤ) (is : IsPart part) (f : Name) where
       λ i. (if same_name f (grows.0.1 i) then part (grows.0.0 i) (share_of o.state o.firm m) else pos 0)
       +ℤ lines_before o a (nr + 1) ms ls grows.1 i
 
-  step_before : (s : Step) → StepGoes s → before_on part f (shares_of_step s) ≡ before (part_of part f) s
+  step_before : (s : Step) → StepGoes s → before_on (shares_of_step s) ≡ before (part_of part f) s
   step_before s goes = by s.before goes
     where
       by : (b : Option Order) → MatchOption b (Unit {0}) (λ b. Goes b s.after)
-          → before_on part f (shares_from b s.after 1 (option_map_or (λ o. o.lines) b []) s.after.lines)
+          → before_on (shares_from b s.after 1 (option_map_or (λ o. o.lines) b []) s.after.lines)
           ≡ option_map_or (part_of part f) b (pos 0)
       by None goes = new_before None s.after 1 s.after.lines
       by (Some b) goes = lines_before b s.after 1 b.lines s.after.lines goes.lines
 
   -- what steps count for before them, and what they add
   pub before_is : (ss : List Step) → Each StepGoes ss
-      → before_on part f (flat_map shares_of_step ss) ≡ total (before (part_of part f)) ss
+      → before_on (flat_map shares_of_step ss) ≡ total (before (part_of part f)) ss
   before_is ss goes = total-flat _ shares_of_step ss ∙ total-eq _ _ ss (each-imp step_before ss goes)
 
   after_is : (ss : List Step) → after_on (flat_map shares_of_step ss) ≡ total (λ s. part_of part f s.after) ss
@@ -371,42 +435,29 @@ moves_alone c m e = record { own = grind arith; unordered = grind arith; fields 
 
 -- ---- the numbers of the next ledger
 
-module _ (A : Ledger) (c : Command) (goes : Each StepGoes (steps_of A c)) where
-  parts_next : (part : Way → Share → ℤ) (own : Order → ℤ) (f : Name) → IsPart part
-      → ((o : Order) → own o ≡ part_of part f o)
-      → total own (next A c).orders ≡ total own A.orders +ℤ added_on part f (share_steps A c)
-  parts_next part own f is same =
-      let was = total-eq own (part_of part f) A.orders (each same A.orders) in
-      let is_then = total-eq own (part_of part f) (next A c).orders (each same (next A c).orders) in
-      let add = orders_add part is f (effect c) A.orders goes in
-      omega (arith, ints)
+pub moves_next : (A : Ledger) (c : Command) (f : Name)
+    → total (λ m. if same_name f m.field then m.amount else pos 0) (next A c).moves
+    ≡ total (λ m. if same_name f m.field then m.amount else pos 0) A.moves +ℤ moved_by_command f c
+moves_next A c f = grind (arith, ints, common_steps, total-push)
 
-  moves_next : (f : Name)
-      → total (λ m. if same_name f m.field then m.amount else pos 0) (next A c).moves
-      ≡ total (λ m. if same_name f m.field then m.amount else pos 0) A.moves +ℤ moved_by_command f c
-  moves_next f = by (moved_at_once c)
-    where
-      by : (x : Option (Name × Way × ℕ))
-          → total (λ m. if same_name f m.field then m.amount else pos 0)
-          (moves_after (option_map (λ m. record { place = places A + 1; field = m.0; amount = signed m.1 m.2 }) x) A.moves)
-          ≡ total (λ m. if same_name f m.field then m.amount else pos 0) A.moves +ℤ option_map_or
-          (λ m. if same_name f m.0 then signed m.1 m.2 else pos 0) x (pos 0)
-      by None = omega (arith, ints)
-      by (Some m) = total-push (λ m. if same_name f m.field then m.amount else pos 0) A.moves _
+module _ (A : Ledger) (c : Command) (goes : Each StepGoes (steps_of A c)) where
+  parts_next : (part : Part) (f : Name) → IsPart part
+      → total (part_of part f) (next A c).orders ≡ total (part_of part f) A.orders +ℤ added_on part f (share_steps A c)
+  parts_next part f is = orders_add part is f (effect c) A.orders goes
 
   pub value_next : (f : Field)
       → settled (next A c) f
       ≡ (settled A f +ℤ moved_by_command f.name c) +ℤ added_on settled_part f.name (share_steps A c)
   value_next f =
-      let moves = moves_next f.name in
-      let used = parts_next settled_part (moved_by_order f.name) f.name settled_counts (moved_is f.name) in
+      let moves = moves_next A c f.name in
+      let used = parts_next settled_part f.name settled_counts in
       omega (arith, ints)
 
   pub takes_next : (f : Name) → held_to_take (next A c) f ≡ held_to_take A f +ℤ added_on take_part f (share_steps A c)
-  takes_next f = parts_next take_part (taken_by_order f) f take_counts (taken_is f)
+  takes_next f = parts_next take_part f take_counts
 
   pub adds_next : (f : Name) → held_to_add (next A c) f ≡ held_to_add A f +ℤ added_on add_part f (share_steps A c)
-  adds_next f = parts_next add_part (added_by_order f) f add_counts (added_is f)
+  adds_next f = parts_next add_part f add_counts
 
 -- ---- a stock that does not change
 
@@ -431,7 +482,8 @@ StaysAlike x = x.changes ≡ false → x.after ≡ x.before
 
 -- a line whose stock does not change, in the states and with the marks before and then
 line_alike : (s t : State) (x y : Bool) (m l : Line) → open_state s ≡ true → (x ≡ true → y ≡ true)
-    → ((open_state s && not (open_state t)) || (y && not x) || not (m.held == l.held) || (y && (not (m.held == l.held) || not (m.used == l.used))))
+    → ((open_state s && not (open_state t)) || (y && not x) || not (m.held == l.held)
+        || (y && (not (m.held == l.held) || not (m.used == l.used))))
     ≡ false
     → share_of t y l ≡ share_of s x m
 line_alike Open Open true y m l unended firm e = rw (firm refl) (grind (arith, number_is))
@@ -474,7 +526,7 @@ alike A c goes = each-flat StaysAlike shares_of_step (steps_of A c) (each-imp st
 any-flat : {X Y : Type 0} (t : Y → Bool) (f : X → List Y) (xs : List X)
     → list_any t (flat_map f xs) ≡ list_any (λ x. list_any t (f x)) xs
 any-flat t f [] = refl
-any-flat t f (x ∷ xs) = list_any-append t (f x) (flat_map f xs) ∙ ap (λ b. list_any t (f x) || b) (any-flat t f xs)
+any-flat t f (x ∷ xs) = grind (arith, ints, common_steps, (any-flat t f xs))
 
 -- a field is touched where it is the command's own, or some line on it changes its stock
 pub touched : (A : Ledger) (c : Command) (f : Name)
@@ -511,20 +563,14 @@ touched A c f =
 pub changes_share : (A : Ledger) (c : Command) (f : Name)
     → list_any (λ x. same_name f x.name && x.changes) (share_steps A c)
     ≡ list_any (λ s. list_any (λ l. on f l.after && changes_stock s l) (lines_of s)) (steps_of A c)
-changes_share A c f = any-flat (λ x. same_name f x.name && x.changes) shares_of_step (steps_of A c) ∙ any_same _ _
-    (steps_of A c) (each (λ s. any-map (λ x. same_name f x.name && x.changes) (share_step s) (lines_of s)) (steps_of A c))
+changes_share A c f = grind (arith, ints, common_steps, any-flat, any_same, each, any-map)
 
-nothing_added : (part : Way → Share → ℤ) (f : Name) (x : ShareStep) → StaysAlike x
+nothing_added : (part : Part) (f : Name) (x : ShareStep) → StaysAlike x
     → (same_name f x.name && x.changes) ≡ false
     → (if same_name f x.name then part x.way x.after -ℤ part x.way x.before else pos 0) ≡ pos 0
-nothing_added part f x alike e = by (same_name f x.name) e
-  where
-    by : (b : Bool) → (b && x.changes) ≡ false
-        → (if b then part x.way x.after -ℤ part x.way x.before else pos 0) ≡ pos 0
-    by true k = let same = ap (part x.way) (alike k) in omega (arith, ints)
-    by false k = refl
+nothing_added part f x alike e = grind (arith, ints, common_steps, alike)
 
-pub none_added : (part : Way → Share → ℤ) (f : Name) (xs : List ShareStep) → Each StaysAlike xs
+pub none_added : (part : Part) (f : Name) (xs : List ShareStep) → Each StaysAlike xs
     → list_any (λ x. same_name f x.name && x.changes) xs ≡ false → added_on part f xs ≡ pos 0
 none_added part f xs alike e =
     total-zero _ xs (each-both (λ x a k. nothing_added part f x a k) xs alike (any_none _ xs e))
@@ -536,24 +582,5 @@ SameNumbers A B f = (settled B f ≡ settled A f) × (held_to_take B f.name ≡ 
 pub same_numbers : (A : Ledger) (c : Command) (f : Field) → Good A → FirstFailure (checks A c) None
     → changes_field A c f.name ≡ false → SameNumbers A (next A c) f
 same_numbers A c f good passed e =
-    let parts = or_false _ _ (sym (touched A c f.name) ∙ e) in
-    let goes = steps_go A c good.orders_in_order passed in
-    let same = alike A c goes in
-    let none = changes_share A c f.name ∙ parts.1 in
-    let moved = not_moved c parts.0 in
-    let value = value_next A c goes f in let takes = takes_next A c goes f.name in
-    let adds = adds_next A c goes f.name in
-    let no_value = none_added settled_part f.name (share_steps A c) same none in
-    let no_takes = none_added take_part f.name (share_steps A c) same none in
-    let no_adds = none_added add_part f.name (share_steps A c) same none in
-    (omega (arith, ints), omega (arith, ints), omega (arith, ints))
-  where
-    not_moved : (c : Command) → option_map_or (same_name f.name) (own_field c) false ≡ false
-        → moved_by_command f.name c ≡ pos 0
-    not_moved c k = by (moved_at_once c) refl
-      where
-        by : (x : Option (Name × Way × ℕ)) → moved_at_once c ≡ x
-            → option_map_or (λ m. if same_name f.name m.0 then signed m.1 m.2 else pos 0) x (pos 0) ≡ pos 0
-        by None e = refl
-        by (Some m) e = ap (λ b. if b then signed m.1 m.2 else pos 0)
-            (sym (ap (λ x. option_map_or (same_name f.name) x false) (moves_alone c m e).own) ∙ k)
+    grind (arith, ints, common_steps, or_false, touched, steps_go, alike, changes_share, value_next, takes_next,
+        adds_next, none_added, moves_alone)

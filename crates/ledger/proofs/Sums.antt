@@ -1,20 +1,19 @@
 -- Sums of whole numbers over lists, term by term.
-use Rattle.ledger.proofs.Prelude.{Bool, Each, Ledger, Less, List, MatchOrdering, Name, None, Order, Some, [], ap, arith, common_steps, false, find, flat_map, if◌then◌else◌, insert_in_order, ints, map, nat_cmp, places, pos, ranks, refl, subst, total, ℕ, ℤ, ◌++◌, ◌+ℤ◌, ◌+◌, ◌<◌, ◌==◌, ◌∙◌, ◌∷◌, ◌≡◌, ◌≤ℤ◌}
+use Rattle.ledger.proofs.Prelude.{Bool, Each, Ledger, Less, List, MatchOrdering, Name, None, Order, Some, [], ap, arith,
+    common_steps, false, find, flat_map, if◌then◌else◌, insert_in_order, ints, map, nat_cmp, places, pos, ranks, refl,
+    subst, total, ℕ, ℤ, ◌++◌, ◌+ℤ◌, ◌+◌, ◌<◌, ◌==◌, ◌∷◌, ◌≡◌, ◌≤ℤ◌}
 
 pub total-le : {X : Type 0} (f g : X → ℤ) (xs : List X) → Each (λ x. f x ≤ℤ g x) xs → total f xs ≤ℤ total g xs
 total-le f g [] h = omega (arith, ints)
-total-le f g (x ∷ xs) h =
-    let a : f x ≤ℤ g x = h.0 in let b : total f xs ≤ℤ total g xs = total-le f g xs h.1 in omega (arith, ints)
+total-le f g (x ∷ xs) h = grind (arith, ints, common_steps, (total-le f g xs h.1))
 
 pub total-eq : {X : Type 0} (f g : X → ℤ) (xs : List X) → Each (λ x. f x ≡ g x) xs → total f xs ≡ total g xs
 total-eq f g [] h = refl
-total-eq f g (x ∷ xs) h =
-    let a : f x ≡ g x = h.0 in let b : total f xs ≡ total g xs = total-eq f g xs h.1 in omega (arith, ints)
+total-eq f g (x ∷ xs) h = grind (arith, ints, common_steps, (total-eq f g xs h.1))
 
 pub total-sum : {X : Type 0} (f g : X → ℤ) (xs : List X) → total (λ x. f x +ℤ g x) xs ≡ total f xs +ℤ total g xs
 total-sum f g [] = refl
-total-sum f g (x ∷ xs) =
-    let b : total (λ x. f x +ℤ g x) xs ≡ total f xs +ℤ total g xs = total-sum f g xs in omega (arith, ints)
+total-sum f g (x ∷ xs) = grind (arith, ints, common_steps, (total-sum f g xs))
 
 pub total-map : {X Y : Type 0} (f : Y → ℤ) (h : X → Y) (xs : List X) → total f (map h xs) ≡ total (λ x. f (h x)) xs
 total-map f h [] = refl
@@ -22,8 +21,7 @@ total-map f h (x ∷ xs) = ap (λ z. f (h x) +ℤ z) (total-map f h xs)
 
 pub total-zero : {X : Type 0} (f : X → ℤ) (xs : List X) → Each (λ x. f x ≡ pos 0) xs → total f xs ≡ pos 0
 total-zero f [] h = refl
-total-zero f (x ∷ xs) h =
-    let a : f x ≡ pos 0 = h.0 in let b : total f xs ≡ pos 0 = total-zero f xs h.1 in omega (arith, ints)
+total-zero f (x ∷ xs) h = grind (arith, ints, common_steps, (total-zero f xs h.1))
 
 -- what each element gives, one at a time
 pub each : {X : Type 0} {P : X → Type 0} → ((x : X) → P x) → (xs : List X) → Each P xs
@@ -47,23 +45,17 @@ pub each-of-push : {X : Type 0} (P : X → Type 0) (xs : List X) (x : X) → Eac
 each-of-push P [] x h k = (k, tt)
 each-of-push P (y ∷ ys) x h k = (h.0, each-of-push P ys x h.1 k)
 
--- a sum over elements whose parts stay
-pub total-kept : {X : Type 0} (g : X → ℤ) (h : X → X) (xs : List X) → Each (λ x. g (h x) ≡ g x) xs
-    → total g (map h xs) ≡ total g xs
-total-kept g h xs e = total-map g h xs ∙ total-eq (λ x. g (h x)) g xs e
-
 pub least_if : (b : Bool) (z : ℤ) → pos 0 ≤ℤ z → pos 0 ≤ℤ (if b then z else pos 0)
 least_if b z h = grind arith
 
 pub total-insert : {X : Type 0} (g : X → ℤ) (p : X → X → Bool) (x : X) (xs : List X)
     → total g (insert_in_order p x xs) ≡ g x +ℤ total g xs
 total-insert g p x [] = refl
-total-insert g p x (y ∷ ys) = let more = total-insert g p x ys in grind (arith, ints, common_steps)
+total-insert g p x (y ∷ ys) = grind (arith, ints, common_steps, (total-insert g p x ys))
 
 pub total-push : {X : Type 0} (g : X → ℤ) (xs : List X) (x : X) → total g (xs ++ x ∷ []) ≡ total g xs +ℤ g x
 total-push g [] x = omega (arith, ints)
-total-push g (y ∷ ys) x =
-    let e : total g (ys ++ x ∷ []) ≡ total g ys +ℤ g x = total-push g ys x in omega (arith, ints)
+total-push g (y ∷ ys) x = grind (arith, ints, common_steps, (total-push g ys x))
 
 pub each-insert : {X : Type 0} (P : X → Type 0) (p : X → X → Bool) (x : X) (xs : List X) → P x → Each P xs
     → Each P (insert_in_order p x xs)
@@ -98,7 +90,7 @@ each-flat P f (x ∷ xs) h = each-append P (f x) (flat_map f xs) h.0 (each-flat 
 pub total-flat : {X Y : Type 0} (g : Y → ℤ) (f : X → List Y) (xs : List X)
     → total g (flat_map f xs) ≡ total (λ x. total g (f x)) xs
 total-flat g f [] = refl
-total-flat g f (x ∷ xs) = total-append g (f x) (flat_map f xs) ∙ ap (λ z. total g (f x) +ℤ z) (total-flat g f xs)
+total-flat g f (x ∷ xs) = grind (arith, ints, common_steps, (total-flat g f xs), total-append)
 
 -- ---- ledgers with one entry changed
 
@@ -113,4 +105,4 @@ with_move f amount A = record A { moves = A.moves ++ record { place = places A +
 -- an element of a sum of what is not negative is at most the sum
 pub total-not_negative : {X : Type 0} (g : X → ℤ) → ((x : X) → pos 0 ≤ℤ g x) → (xs : List X) → pos 0 ≤ℤ total g xs
 total-not_negative g h [] = omega (arith, ints)
-total-not_negative g h (x ∷ xs) = let a = h x in let b = total-not_negative g h xs in omega (arith, ints)
+total-not_negative g h (x ∷ xs) = grind (arith, ints, common_steps, (total-not_negative g h xs))

@@ -1,12 +1,14 @@
--- What a request is answered, and which ledger is left: the checks of its command in their order, of which the first
--- that fails decides.
-use Rattle.std.specs.Prelude.{ℕ, Bool, ◌+◌, ◌<◌, ◌≤◌, ◌≡◌, ◌≢◌, List, [], ◌∷◌, ◌++◌, length, take, Option, Some, None, IsSome, IsNone, IsSomeAnd, IsTrue, IsFalse, ◌⊎◌, MatchOption, if◌then◌else◌}
+-- How a request is answered, and which ledger it leaves. The checks of its command are made in their order, and the
+-- first that fails decides.
+use Rattle.std.specs.Prelude.{ℕ, Bool, ◌+◌, ◌<◌, ◌≤◌, ◌≡◌, ◌≢◌, List, [], ◌∷◌, ◌++◌, length, take, Option, Some, None,
+    IsSome, IsNone, IsSomeAnd, IsTrue, IsFalse, ◌⊎◌, MatchOption, if◌then◌else◌}
 use Rattle.std.specs.Str.{bytes_eq}
 use Rattle.escrow.specs.declared.quantity.Way.{Way}
 use Rattle.escrow.specs.declared.quantity.Way.TheVariants as way
 use Rattle.words.specs.declared.open_line.OpenLine.{OpenLine}
 use Rattle.words.specs.declared.command.Command.{Command}
-use Rattle.words.specs.declared.command.Command.TheVariants.{Field, Deliver, Writeoff, Rebound, Open, Transfer, More, Use, Release, Commit, Abort, Firm, Expire}
+use Rattle.words.specs.declared.command.Command.TheVariants.{Field, Deliver, Writeoff, Rebound, Open, Transfer, More,
+    Use, Release, Commit, Abort, Firm, Expire}
 use Rattle.words.specs.declared.command.Request.{Request}
 use Rattle.words.specs.declared.reply.Refusal.{Refusal}
 use Rattle.words.specs.declared.reply.Refusal.TheVariants as refusal
@@ -17,7 +19,8 @@ use Rattle.words.specs.declared.limits.TheConstants.{MAX_ORDER_LINES}
 use Rattle.ledger.specs.declared.limits.TheConstants.{MAX_FIELDS, MAX_ORDERS, MAX_PLACES}
 use Rattle.ledger.specs.declared.order.Kind.TheVariants as kind
 use Rattle.ledger.specs.declared.order.Line.{Line}
-use Rattle.ledger.specs.Ledger.{Name, Order, Ledger, places, is_open, is_transfer, open_orders, field_named, order_numbered, line_on, kept_under, name_of}
+use Rattle.ledger.specs.Ledger.{Name, Order, Ledger, places, is_open, is_transfer, open_orders, field_named,
+    order_numbered, line_on, kept_under, name_of}
 use Rattle.ledger.specs.Outcomes.{FallsBelow, RisesAbove}
 use Rattle.ledger.specs.Next.{next, accept, with_order, new_order, transfer_lines}
 
@@ -44,8 +47,8 @@ full A more = check (MAX_PLACES < places A + open_orders A + more) refusal.Full
 abbrev pub no_field : Ledger → Name → ℕ → Check
 no_field A f line = record { fails = IsNone (field_named A f); refusal = refusal.NoField; line = line }
 
--- B has the line or the amount in it: a take fails where some outcome of B is below the field's lower bound, an add
--- where some is above its upper one
+-- B is the ledger that is tested: the one with the order line, the amount or the other bounds in it. A take fails where
+-- some outcome of B is below the field's lower bound, an add where some outcome of B is above its upper bound.
 abbrev pub bound : Way → Ledger → Name → ℕ → Check
 bound way.Take B f line = record { fails = FallsBelow B f; refusal = refusal.TooLittle; line = line }
 bound way.Add B f line = record { fails = RisesAbove B f; refusal = refusal.TooMuch; line = line }
@@ -54,7 +57,7 @@ bound way.Add B f line = record { fails = RisesAbove B f; refusal = refusal.TooM
 abbrev pub no_order : Ledger → ℕ → Check
 no_order A n = check (IsNone (order_numbered A n)) refusal.NoOrder
 
--- some fact of the order under that number
+-- P holds of the order under that number
 abbrev pub OfOrder : Ledger → ℕ → (Order → Type 0) → Type 0
 OfOrder A n P = IsSomeAnd (order_numbered A n) P
 
@@ -66,7 +69,7 @@ ended A n = check (OfOrder A n (λ o. IsFalse (is_open o))) refusal.Ended
 abbrev pub firm : Ledger → ℕ → Check
 firm A n = check (OfOrder A n (λ o. IsTrue o.firm)) refusal.Firm
 
--- the line of the order under that number on that field
+-- P holds of the line that the order under that number has on that field
 abbrev pub OfLine : Ledger → ℕ → Name → (Line → Type 0) → Type 0
 OfLine A n f P = OfOrder A n (λ o. IsSomeAnd (line_on o f) P)
 
@@ -78,8 +81,8 @@ not_held A n f = check (OfOrder A n (λ o. IsNone (line_on o f))) refusal.NotHel
 abbrev pub over_use : Ledger → ℕ → Name → ℕ → Check
 over_use A n f q = check (OfLine A n f (λ l. l.held < l.used + q)) refusal.OverUse
 
--- The checks of the lines of an order, which has the lines before: for each line, the ledger tested has the order with
--- those and this one.
+-- The checks of order lines, one after the other; `before` are the lines that the order has by then. Each line is
+-- tested at the ledger in which the order has those lines and this one.
 abbrev pub line_checks : Ledger → (List OpenLine → Order) → List OpenLine → List OpenLine → List Check
 line_checks A order before [] = []
 line_checks A order before (l ∷ ls) = let f = name_of l.branch l.article in
@@ -88,8 +91,8 @@ line_checks A order before (l ∷ ls) = let f = name_of l.branch l.article in
     ∷ bound l.way (with_order (order (before ++ l ∷ [])) A) f (length before + 1)
     ∷ line_checks A order (before ++ l ∷ []) ls
 
--- The checks of a new order that are not those of its lines. It needs a place for the command, and one set aside for
--- the order's end.
+-- The checks of a new order, but for those of its lines. The order needs a place for the command, and one that is set
+-- aside for its end.
 abbrev pub order_checks : Ledger → ℕ → ℕ → List Check
 order_checks A n until = full A 2 ∷ check (MAX_ORDERS ≤ length A.orders) refusal.Full
     ∷ check (IsSome (order_numbered A n)) refusal.OrderThere ∷ check (until ≤ A.clock) refusal.Past ∷ []
@@ -111,7 +114,7 @@ part_checks A n f q = full A 1 ∷ no_order A n ∷ ended A n ∷ not_held A n f
 abbrev pub open_checks : Ledger → ℕ → List Check
 open_checks A n = no_order A n ∷ ended A n ∷ []
 
--- the checks of an abort: it is not firm either
+-- the checks of an abort: there is an open order under that number, and it is not firm
 abbrev pub loose_checks : Ledger → ℕ → List Check
 loose_checks A n = no_order A n ∷ ended A n ∷ firm A n ∷ []
 
@@ -149,8 +152,8 @@ abbrev pub AnswersNew : Ledger → Request → Reply → Ledger → Type 0
 AnswersNew A r reply B = (found : Option (Refusal × ℕ)) × FirstFailure (checks A r.command) found
     × MatchOption found ((reply ≡ Done (places A + 1)) × (B ≡ accept A r)) (λ e. (reply ≡ Refused e.0 e.1) × (B ≡ A))
 
--- The request is answered with the reply, and B is the ledger after it. A kept key answers its old place to the same
--- command, and refuses another.
+-- The request is answered with the reply, and B is the ledger after it. Under a key that is kept, the same command
+-- gets its old place again, and another command is refused.
 abbrev pub Answers : Ledger → Request → Reply → Ledger → Type 0
 Answers A r reply B = MatchOption (kept_under A r.key) (AnswersNew A r reply B)
     (λ k. (reply ≡ (if same_command k.command r.command then Done k.place else Refused refusal.KeyReused 0)) × (B ≡ A))

@@ -1,9 +1,10 @@
--- What may still come to the open orders, and that they can all be honoured. Every beginning of a future is a future,
--- so what is said of its end is said of each step.
+-- What may still come for the open orders, and what it means that all of them can be honoured. Each beginning of a
+-- future is a future, too. So what is said about the end of every future holds after each step.
 use Rattle.std.specs.Prelude.{ℕ, ◌+◌, ◌≡◌, ◌≢◌, List, IsTrue, IsNone}
 use Rattle.std.specs.List.{AllByRecursion as Each}
 use Rattle.words.specs.declared.command.Command.{Command}
-use Rattle.words.specs.declared.command.Command.TheVariants.{Field, Deliver, Writeoff, Rebound, Open, Transfer, More, Use, Release, Commit, Abort, Firm, Expire}
+use Rattle.words.specs.declared.command.Command.TheVariants.{Field, Deliver, Writeoff, Rebound, Open, Transfer, More,
+    Use, Release, Commit, Abort, Firm, Expire}
 use Rattle.words.specs.declared.command.Request.{Request}
 use Rattle.words.specs.declared.reply.Reply.{Reply}
 use Rattle.words.specs.declared.reply.Reply.TheVariants.{Done}
@@ -33,7 +34,7 @@ AsksNoStock (Expire now) = Unit {0}
 abbrev pub StaysFirm : Order → Type 0
 StaysFirm o = IsTrue o.firm × (o.state ≢ Aborted)
 
--- it settles what that order uses, if it does: a commit, a `firm`, or a use
+-- the command may settle what that order uses: it is a commit, a `firm` or a use of that order
 abbrev pub Settles : Command → ℕ → Type 0
 Settles (Commit m) n = m ≡ n
 Settles (Firm m) n = m ≡ n
@@ -53,18 +54,19 @@ Settles (Expire now) n = ⊥
 abbrev pub IsFuture : List Request → Type 0
 IsFuture requests = Each (λ r. AsksNoStock r.command) requests
 
--- every field is within its bounds, and no open order is refused its commit
+-- Every field is within its bounds, and no open order is refused its commit, under a key that is not kept. This says
+-- nothing about a use, which needs a free place.
 pub record IsHonoured (B : Ledger) : Type 0 where
   pub within : Each (λ f. IsWithin f.lo f.hi (settled B f)) B.fields
   pub commits : Each (λ o. IsTrue (is_open o) → (key : List ℕ) → IsNone (kept_under B key)
       → (C : Ledger) × Answers B (record { key = key; command = Commit o.number }) (Done (places B + 1)) C) B.orders
 
--- every future is answered to its end, and stands there
+-- every future can be answered to its end, and the ledger there is honoured
 abbrev pub Honours : Ledger → Type 0
 Honours A = (requests : List Request) → IsFuture requests → (replies : List Reply) × (B : Ledger)
     × Runs A requests replies B × IsHonoured B
 
--- ..and by whatever replies it is answered
+-- the ledger after every future is honoured, by whatever replies that future is answered
 abbrev pub HonoursAlways : Ledger → Type 0
 HonoursAlways A =
     (requests : List Request) → IsFuture requests → (replies : List Reply) (B : Ledger) → Runs A requests replies B

@@ -1,5 +1,5 @@
 -- The good ledgers: codes and numbers are in range, all that an entry names is there, the limits are kept, and every
--- field is safe. Whether the kept commands would lead to it is not asked.
+-- field is safe. It is not asked whether the kept commands would lead to the ledger.
 use Rattle.std.specs.Prelude.{◌+◌, ◌≤◌, ◌≡◌, ◌≢◌, List, [], ◌∷◌, length, map, nat_abs, IsTrue, IsSome, nat_eq}
 use Rattle.std.specs.Ordering.{nat_cmp}
 use Rattle.std.specs.Cmp.Lexicographic.{slice_cmp}
@@ -13,10 +13,11 @@ use Rattle.words.specs.declared.limits.TheConstants.{MAX_ORDER_LINES}
 use Rattle.ledger.specs.declared.limits.TheConstants.{MAX_FIELDS, MAX_ORDERS, MAX_PLACES}
 use Rattle.ledger.specs.declared.order.State.TheVariants.{Aborted}
 use Rattle.ledger.specs.declared.order.Line.{Line}
-use Rattle.ledger.specs.Ledger.{Field, Move, Order, Kept, Ledger, places, name_cmp, same_name, line_name, is_transfer, open_orders, field_named}
+use Rattle.ledger.specs.Ledger.{Field, Move, Order, Kept, Ledger, places, name_cmp, same_name, line_name, is_transfer,
+    open_orders, field_named}
 use Rattle.ledger.specs.Outcomes.{IsSafe}
 
--- its codes are codes, and its numbers are levels
+-- a good field: its codes have their forms, and its numbers are levels
 pub record IsGoodField (f : Field) : Type 0 where
   pub branch : IsBranch f.name.branch
   pub article : IsArticle f.name.article
@@ -24,14 +25,14 @@ pub record IsGoodField (f : Field) : Type 0 where
   pub hi : IsLevel f.hi
   pub start : IsLevel f.start
 
--- its place is taken, its field is there, and its amount is a quantity, up or down
+-- a good move: its place is taken, its field is there, and its amount is a quantity, up or down
 pub record IsGoodMove (A : Ledger) (m : Move) : Type 0 where
   pub first : 1 ≤ m.place
   pub last : m.place ≤ places A
   pub field : IsSome (field_named A m.field)
   pub size : IsQty (nat_abs m.amount)
 
--- its field is there, and no more is used than is held
+-- a good order line: its field is there, and no more is used than is held
 pub record IsGoodLine (A : Ledger) (l : Line) : Type 0 where
   pub field : IsSome (field_named A (line_name l))
   pub held : IsLevel l.held
@@ -43,7 +44,8 @@ IsTransferPair (l ∷ m ∷ []) =
     (l.way ≡ Take) × (m.way ≡ Add) × (l.article ≡ m.article) × (l.held ≡ m.held) × (l.used ≡ m.used)
 IsTransferPair ls = ⊥
 
--- 1 to 64 good lines on different fields, and on a transfer exactly its pair; where it is firm it was not aborted
+-- a good order: it has 1 to 64 good lines on different fields, a transfer exactly its pair; a firm order was not
+-- aborted
 pub record IsGoodOrder (A : Ledger) (o : Order) : Type 0 where
   pub number : IsOrderNo o.number
   pub until : IsMoment o.until
@@ -56,7 +58,7 @@ pub record IsGoodOrder (A : Ledger) (o : Order) : Type 0 where
   -- only an open or a committed order is firm
   pub firm : IsTrue o.firm → o.state ≢ Aborted
 
--- its key is a key, and its command is in range
+-- a good kept key: the key has its form, and the command is in range
 pub record IsGoodKept (k : Kept) : Type 0 where
   pub key : IsKey k.key
   pub command : IsInRange k.command
@@ -73,7 +75,7 @@ pub record Good (A : Ledger) : Type 0 where
   pub few_orders : length A.orders ≤ MAX_ORDERS
   pub kept : Each IsGoodKept A.kept
   pub kept_in_order : IsStrictlySortedBy (slice_cmp nat_cmp) (map (λ k. k.key) A.kept)
-  -- the places are among 1 to the number of kept keys, and no two are the same: so each is there once
+  -- the places are from 1 to the number of kept keys, and no two are the same: so each is there once
   pub places_in_range : Each (λ k. (1 ≤ k.place) × (k.place ≤ places A)) A.kept
   pub places_apart : IsDistinct nat_eq (map (λ k. k.place) A.kept)
   pub places_fit : places A + open_orders A ≤ MAX_PLACES

@@ -1,6 +1,7 @@
 -- A ledger: the clock, all fields, and all that was ever moved, ordered and accepted. It holds no value, no infimum and
 -- no supremum.
-use Rattle.std.specs.Prelude.{ℕ, ◌-◌, ℤ, Bool, true, false, ◌&&◌, List, [], ◌∷◌, length, Option, find, ◌==◌, if◌then◌else◌, count_by}
+use Rattle.std.specs.Prelude.{ℕ, ◌-◌, ℤ, Bool, true, false, ◌&&◌, List, [], ◌∷◌, length, Option, find, ◌==◌,
+    if◌then◌else◌, count_by}
 use Rattle.std.specs.Str.{bytes_eq}
 use Rattle.std.specs.declared.cmp.Ordering.{Ordering}
 use Rattle.std.specs.Ordering.{nat_cmp, ordering_then}
@@ -37,9 +38,10 @@ pub record Move : Type 0 where
 pub record Order : Type 0 where
   pub number : ℕ
   pub kind : Kind
+  -- an expiry at this moment or a later one aborts the order, if it is open and not firm then
   pub until : ℕ
   pub state : State
-  -- it is no longer to be aborted, and what it uses is settled at once; the mark stays, also after the commit
+  -- a firm order is never aborted, and what it uses is settled at once; it stays firm, also after its commit
   pub firm : Bool
   pub lines : List Line
 
@@ -49,8 +51,8 @@ pub record Kept : Type 0 where
   pub place : ℕ
   pub command : Command
 
--- Fields, orders and kept keys are maps, which stand as lists in the order of their keys, and moves in the order of
--- their places: a good ledger's do.
+-- Fields, orders and kept keys are maps. In a good ledger they stand as lists: the fields in the order of their names,
+-- the orders of their numbers, the kept keys of the keys, and the moves in the order of their places.
 pub record Ledger : Type 0 where
   pub clock : ℕ
   pub fields : List Field
@@ -119,7 +121,7 @@ is_settled o = settled_state o.state o.firm
 abbrev pub is_transfer : Order → Bool
 is_transfer o = transfer_kind o.kind
 
--- what of an amount on the line is not settled yet: of a firm order what is beyond its use
+-- the part of an amount on the line that is not settled yet; on a firm order, what goes beyond what the line has used
 abbrev pub unsettled : Bool → Line → ℕ → ℕ
 unsettled firm l amount = if firm then amount - l.used else amount
 

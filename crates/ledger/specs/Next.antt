@@ -1,5 +1,7 @@
--- What a command does to the orders, and the ledger after it. It looks at no stock.
-use Rattle.std.specs.Prelude.{ℕ, ◌+◌, ◌-◌, Bool, Option, None, Some, option_map, ◌&&◌, ◌||◌, not, false, true, ◌==◌, nat_lt, nat_le, List, [], ◌∷◌, ◌++◌, map, is_some, if◌then◌else◌}
+-- What a command does to the orders, and the ledger after it. The definitions here look at no stock: the check of the
+-- stock looks at the ledger that they give. Of a command that a check before that one refuses they mean nothing.
+use Rattle.std.specs.Prelude.{ℕ, ◌+◌, ◌-◌, Bool, Option, None, Some, option_map, ◌&&◌, ◌||◌, not, false, true, ◌==◌,
+    nat_lt, nat_le, List, [], ◌∷◌, ◌++◌, map, is_some, if◌then◌else◌}
 use Rattle.std.specs.Ordering.{is_lt, nat_cmp}
 use Rattle.std.specs.Cmp.Lexicographic.{slice_cmp}
 use Rattle.escrow.specs.declared.quantity.Way.{Way}
@@ -7,13 +9,15 @@ use Rattle.escrow.specs.declared.quantity.Way.TheVariants as way
 use Rattle.words.specs.declared.open_line.OpenLine.{OpenLine}
 use Rattle.words.specs.declared.command.Command.{Command}
 use Rattle.words.specs.declared.command.Request.{Request}
-use Rattle.words.specs.declared.command.Command.TheVariants.{Field, Deliver, Writeoff, Rebound, Open, Transfer, More, Use, Release, Commit, Abort, Firm, Expire}
+use Rattle.words.specs.declared.command.Command.TheVariants.{Field, Deliver, Writeoff, Rebound, Open, Transfer, More,
+    Use, Release, Commit, Abort, Firm, Expire}
 use Rattle.ledger.specs.declared.order.Kind.{Kind}
 use Rattle.ledger.specs.declared.order.Kind.TheVariants as kind
 use Rattle.ledger.specs.declared.order.State.{State}
 use Rattle.ledger.specs.declared.order.State.TheVariants as state
 use Rattle.ledger.specs.declared.order.Line.{Line}
-use Rattle.ledger.specs.Ledger.{Kept, Name, Field as FieldOf, Move, Order, Ledger, places, name_cmp, on, is_open, is_transfer, line_on, insert_in_order, name_of, same_name}
+use Rattle.ledger.specs.Ledger.{Kept, Name, Field as FieldOf, Move, Order, Ledger, places, name_cmp, on, is_open,
+    is_transfer, line_on, insert_in_order, name_of, same_name}
 use Rattle.ledger.specs.Outcomes.{signed}
 
 -- the field with other bounds; its start stays, and may then lie outside them
@@ -42,7 +46,7 @@ abbrev pub transfer_lines : List ℕ → List ℕ → List ℕ → ℕ → List 
 transfer_lines a from to q = record { way = way.Take; branch = from; article = a; qty = q }
     ∷ record { way = way.Add; branch = to; article = a; qty = q } ∷ []
 
--- the order's line on the field changed, on a transfer both lines
+-- the order with its line on the field changed; on a transfer both lines change
 abbrev pub change_lines : Name → (Line → Line) → Order → Order
 change_lines f change o = record o { lines = map (λ l. if is_transfer o || on f l then change l else l) o.lines }
 
@@ -55,11 +59,12 @@ raise_used q l = record l { used = l.used + q }
 abbrev pub lower_held : ℕ → Line → Line
 lower_held q l = record l { held = l.held - q }
 
--- more held on the order's line on that field
+-- the order with so much more held on its line on that field
 abbrev pub hold_more : Name → ℕ → Order → Order
 hold_more f q o = record o { lines = map (λ l. if on f l then raise_held q l else l) o.lines }
 
--- more held on the order's line on that field; without such a line, one more line at the end
+-- the order with so much more held on its line on that field; where it has no such line, with that line more at the
+-- end
 abbrev pub add_hold : OpenLine → Order → Order
 add_hold l o = let f = name_of l.branch l.article in
     if is_some (line_on o f) then hold_more f l.qty o else record o { lines = o.lines ++ new_line l ∷ [] }
@@ -158,7 +163,7 @@ abbrev pub moves_after : Option Move → List Move → List Move
 moves_after None moves = moves
 moves_after (Some m) moves = moves ++ m ∷ []
 
--- the ledger that a command makes of another
+-- the ledger that a command makes of this one, but for its key
 abbrev pub next : Ledger → Command → Ledger
 next A c = record {
   clock = clock_after c A.clock;

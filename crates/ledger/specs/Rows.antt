@@ -1,4 +1,4 @@
--- The rows of a ledger: what the seven tables hold for it, each in the order of its key. Texts are seen as their bytes.
+-- The rows of a ledger: what the seven tables hold for it. Texts are seen as their bytes.
 use Rattle.std.specs.Prelude.{ℕ, ◌+◌, ◌≡◌, ℤ, pos, List, [], ◌∷◌, map, flat_map, if◌then◌else◌}
 use Rattle.std.specs.declared.cmp.Ordering.{Ordering}
 use Rattle.std.specs.Ordering.{nat_cmp, int_cmp, ordering_then}
@@ -64,7 +64,7 @@ pub record KeptCells : Type 0 where
 pub record FirmCells : Type 0 where
   pub number : ℤ
 
--- what the seven tables hold, each in the order of its key
+-- the rows of the seven tables, as lists; that they stand in the order of their keys says `IsInKeyOrder`
 pub record Content : Type 0 where
   pub desk : List DeskCells
   pub fields : List FieldCells
@@ -177,7 +177,7 @@ kept_cmp a b = text_cmp a.reqkey b.reqkey
 abbrev pub firm_cmp : FirmCells → FirmCells → Ordering
 firm_cmp a b = int_cmp a.number b.number
 
--- the rows of each table stand strictly in the order of their keys
+-- the rows of each table but `desk` stand strictly in the order of their keys
 pub record IsInKeyOrder (C : Content) : Type 0 where
   pub fields : IsStrictlySortedBy field_cmp C.fields
   pub moves : IsStrictlySortedBy move_cmp C.moves

@@ -67,7 +67,7 @@ content_of t = record {
 abbrev pub no_content : Content
 no_content = record { desk = []; fields = []; moves = []; orders = []; lines = []; kept = []; firms = [] }
 
--- a row more, before those of its table
+-- the content with one row more, before the others of its table
 abbrev pub with_change : Change → Content → Content
 with_change (change.Desk r) C = record C { desk = desk_cells r ∷ C.desk }
 with_change (change.Field r) C = record C { fields = field_cells r ∷ C.fields }

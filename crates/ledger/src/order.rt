@@ -5,19 +5,19 @@ ghost use Rattle.ledger.specs.Ledger.{line_name};
 
 use escrow::{Article, Branch, FieldName, Level, Way};
 
-/// What kind of order it is.
+/// The kind of an order.
 #[derive(Clone, Copy, PartialEq, Eq)]
 pub enum Kind {
-    /// Of lines of its own.
+    /// 1 to 64 lines, each on another field.
     Plain,
-    /// A take at one branch and an add at another.
+    /// Two lines on one article: the first takes at one branch, the second adds at another.
     Transfer,
 }
 
 /// Where an order stands.
 #[derive(Clone, Copy, PartialEq, Eq)]
 pub enum State {
-    /// It holds what its lines hold.
+    /// It has not ended, and holds what its lines hold.
     Open,
     /// It has ended, and what it used is settled.
     Committed,
@@ -28,7 +28,7 @@ pub enum State {
 /// Where an order stands, as it is shown.
 #[derive(Clone, Copy, PartialEq, Eq)]
 pub enum Standing {
-    /// It holds what its lines hold.
+    /// It has not ended, and holds what its lines hold.
     Open,
     /// It is open and may no longer be aborted: what it uses is settled at once.
     Firm,
@@ -38,7 +38,7 @@ pub enum Standing {
     Aborted,
 }
 
-/// A line of an order: what it holds on a field, one way, and how much of that it has used.
+/// An order line: what it holds on a field, one way, and how much of that it has used.
 #[derive(Clone, Copy)]
 pub struct Line {
     pub way: Way,
@@ -48,7 +48,8 @@ pub struct Line {
     pub used: Level,
 }
 
-/// What a line counts for in the stock of its field: how much of it is settled, and how much is held beyond that.
+/// What an order line counts for in the stock of its field: how much of it is settled, and how much is held beyond
+/// that.
 #[derive(Clone, Copy)]
 pub struct Share {
     pub settled: u64,
@@ -56,7 +57,7 @@ pub struct Share {
 }
 
 impl Line {
-    /// The name of the field that the line is on.
+    /// Returns the name of the field that the line is on.
     pub fn name(&self) -> FieldName
         ensures { result ≡ line_name self.now }
     {

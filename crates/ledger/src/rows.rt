@@ -27,7 +27,7 @@ pub struct FieldRow {
     pub value: i64,
     /// The least result over the outcomes of the open orders.
     pub inf: i64,
-    /// The greatest.
+    /// The greatest result over these outcomes.
     pub sup: i64,
 }
 
@@ -98,21 +98,21 @@ impl<R> Model for Rows<R> {
 impl<R> Rows<R> {
     ghost use Rattle.std.specs.Prelude.{◌≡◌};
 
-    /// These rows. Takes no memory.
+    /// Makes `Rows` of these rows. Takes no memory.
     pub fn new(rows: Vec<R>) -> Rows<R>
         ensures { result ≡ rows.items }
     {
         Self { rows }
     }
 
-    /// The rows.
+    /// Returns the rows.
     pub fn as_slice(&self) -> &[R]
         ensures { result.now ≡ self.now }
     {
         &self.rows
     }
 
-    /// The rows. Takes no memory.
+    /// Returns the rows. Takes no memory.
     pub fn into_vec(self) -> Vec<R>
         ensures { result.items ≡ self }
     {

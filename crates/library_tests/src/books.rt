@@ -75,7 +75,7 @@ pub(crate) fn request(alloc: Global, key: &str, command: &str) -> Result<Request
     Ok(Request { key, command })
 }
 
-/// Carries the command out, and tells whether these are the rows that it changes.
+/// Carries the command out. Returns whether these are the rows that it changes.
 fn changes_rows(alloc: Global, book: &mut Book, step: &Step) -> Result<bool, Fail> {
     let request = request(alloc, step.0, step.1)?;
     let Planned::Accept(plan) = book.plan(alloc, &request)? else {
@@ -87,7 +87,7 @@ fn changes_rows(alloc: Global, book: &mut Book, step: &Step) -> Result<bool, Fai
     Ok(is_so)
 }
 
-/// A book that has carried these out, one after the other, each with the rows that it changes.
+/// Returns a book that has carried these steps out, one after the other; each must change its rows.
 pub(crate) fn book_after<R: Abort + AllocGlobal>(rt: &R, steps: &[Step]) -> Result<Book, Fail> {
     let mut book = Book::new(rt.alloc());
     for step in steps {

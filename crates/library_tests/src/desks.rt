@@ -1,4 +1,4 @@
-//! Desks, and their calls without clauses, so that a test's proof need not carry them.
+//! Desks, and their calls without clauses, so that a test's proof need not know them.
 
 use desk::{CallFault, Desk, OpenFault, Run, ScriptFault, script};
 use keep::Keep;
@@ -8,12 +8,12 @@ use std::num::NonZeroUsize;
 use std::test::Fail;
 use words::{Item, Reply, Request, read_item};
 
-/// The call without its clauses, so that a test's proof need not carry them.
+/// `Desk::open` without its clauses, so that a test's proof need not know them.
 pub(crate) fn open<K: Keep>(alloc: Global, keep: K) -> Result<Desk<K>, (OpenFault, K)> {
     Desk::open(alloc, keep)
 }
 
-/// The call without its clauses, likewise.
+/// `Desk::call` without its clauses.
 pub(crate) fn call<K: Keep>(
     alloc: Global,
     desk: &mut Desk<K>,
@@ -22,12 +22,12 @@ pub(crate) fn call<K: Keep>(
     desk.call(alloc, request)
 }
 
-/// The call without its clauses, likewise.
+/// `Desk::run` without its clauses.
 pub(crate) fn run<K: Keep>(alloc: Global, desk: &mut Desk<K>, requests: &[Request]) -> Run {
     desk.run(alloc, requests)
 }
 
-/// The call without its clauses, likewise.
+/// `Desk::run_together` without its clauses.
 pub(crate) fn run_together<K: Keep>(
     alloc: Global,
     desk: &mut Desk<K>,
@@ -36,8 +36,8 @@ pub(crate) fn run_together<K: Keep>(
     desk.run_together(alloc, requests)
 }
 
-/// The requests are answered by lists of so many together, and their lines written, where that is a number: the call
-/// without its clauses, likewise.
+/// Answers the requests in batches of at most so many, and writes their lines: `answer_lists` without its clauses. An
+/// error where no such number is given.
 pub(crate) fn answer_lists<K: Keep, W: Write>(
     alloc: Global,
     desk: &mut Desk<K>,
@@ -49,7 +49,8 @@ pub(crate) fn answer_lists<K: Keep, W: Write>(
     Ok(desk::answer_lists(alloc, requests, Some(most), writer, desk))
 }
 
-/// The requests are answered from this number on: the call without its clauses, where there is such a number.
+/// Answers the requests from this number on: `Desk::resume` without its clauses. An error where there is no such
+/// number.
 pub(crate) fn resume<K: Keep>(
     alloc: Global,
     desk: &mut Desk<K>,
@@ -62,7 +63,7 @@ pub(crate) fn resume<K: Keep>(
     Ok(desk.resume(alloc, requests, first))
 }
 
-/// What a script on these streams ends with, likewise.
+/// Plays a script on these streams: `script` without its clauses.
 pub(crate) fn answer<K: Keep, R: Read, W: Write>(
     alloc: Global,
     reader: &mut R,
@@ -72,7 +73,7 @@ pub(crate) fn answer<K: Keep, R: Read, W: Write>(
     script(alloc, reader, writer, desk)
 }
 
-/// The desk whose rows the keeper holds.
+/// Returns the desk whose rows the keeper holds.
 pub(crate) fn opened<K: Keep + Drop>(alloc: Global, keep: K) -> Result<Desk<K>, Fail> {
     match open(alloc, keep) {
         Ok(desk) => Ok(desk),
@@ -80,7 +81,7 @@ pub(crate) fn opened<K: Keep + Drop>(alloc: Global, keep: K) -> Result<Desk<K>, 
     }
 }
 
-/// The requests of these lines.
+/// Returns the requests of these lines.
 pub(crate) fn requests(alloc: Global, lines: &[&str]) -> Result<Vec<Request>, Fail> {
     let mut requests = Vec::new(alloc);
     for line in lines {

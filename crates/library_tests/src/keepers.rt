@@ -1,4 +1,4 @@
-//! Keepers of new desks, and their calls without clauses, so that a test's proof need not carry them.
+//! Keepers of new desks, and their calls without clauses, so that a test's proof need not know them.
 
 ghost use Rattle.std.specs.Prelude.{All};
 ghost use Rattle.ledger.specs.Tables.{rows_among};
@@ -11,24 +11,24 @@ use sqlite::{Alter, Connection, MemStore};
 use std::alloc::Global;
 use std::test::Fail;
 
-/// What the keeper loads.
+/// Returns what the keeper loads.
 pub(crate) fn load<K: Keep>(keep: &mut K, alloc: Global) -> Result<Tables, KeepFault> {
     keep.load(alloc)
 }
 
-/// How the keeper fails to load.
+/// Returns how the keeper fails to load.
 pub(crate) fn load_fault<K: Keep>(keep: &mut K, alloc: Global) -> Option<KeepFault> {
     load(keep, alloc).err()
 }
 
-/// What the keeper answers to a commit.
+/// Returns what the keeper answers to a commit.
 pub(crate) fn commit<K: Keep>(keep: &mut K, changes: &[Change]) -> Result<(), KeepFault>
     requires { All IsTheRow (rows_among changes.now).desk }
 {
     keep.commit(changes)
 }
 
-/// A keeper over the connection, which is in no transaction.
+/// Returns a keeper over the connection; an error where a transaction is open.
 pub(crate) fn keeper<S: Alter + Drop>(conn: Connection<S>) -> Result<SqlKeep<S>, Fail> {
     if conn.is_autocommit() {
         Ok(SqlKeep::over(conn))
@@ -37,7 +37,7 @@ pub(crate) fn keeper<S: Alter + Drop>(conn: Connection<S>) -> Result<SqlKeep<S>,
     }
 }
 
-/// Makes a new desk over the connection, which is in no transaction.
+/// Makes a new desk over the connection, where no transaction is open.
 pub(crate) fn create<S: Alter>(conn: &mut Connection<S>) -> Result<(), KeepFault> {
     if conn.is_autocommit() {
         SqlKeep::create_over(conn)
@@ -46,7 +46,7 @@ pub(crate) fn create<S: Alter>(conn: &mut Connection<S>) -> Result<(), KeepFault
     }
 }
 
-/// Makes version 2 of what the connection shows, which is in no transaction.
+/// Upgrades what the connection shows to version 2, where no transaction is open.
 pub(crate) fn upgrade<S: Alter>(conn: &mut Connection<S>) -> Result<(), KeepFault> {
     if conn.is_autocommit() {
         SqlKeep::upgrade_over(conn)
@@ -59,14 +59,14 @@ pub(crate) fn connection_of<S: Alter>(keep: SqlKeep<S>) -> Connection<S> {
     keep.into_connection()
 }
 
-/// A keeper of a new desk in memory, over SQLite.
+/// Returns a keeper of a new desk in memory, over SQLite.
 pub(crate) fn sql_keeper(alloc: Global) -> Result<SqlKeep<MemStore>, Fail> {
     let mut conn = Connection::open_in_memory(alloc)?;
     create(&mut conn)?;
     keeper(conn)
 }
 
-/// A keeper of a new desk that never fails.
+/// Returns a keeper of a new desk that never fails.
 pub(crate) fn plain_keeper(alloc: Global) -> PlainKeep {
     PlainKeep::start(alloc, None, false)
 }

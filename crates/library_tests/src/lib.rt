@@ -1,4 +1,4 @@
-//! Tests of the libraries, each by what its callers see.
+//! Tests of the libraries, each by what callers see.
 #![tactic(auto)]
 
 #[cfg(test)]

@@ -12,18 +12,18 @@ use std::process::Abort;
 use std::test::Fail;
 use words::{Refusal, Reply};
 
-/// The order of that number: the call without its clauses, so that a test's proof need not carry them.
+/// Returns the order of that number: the call without its clauses, so that a test's proof need not know them.
 fn order(book: &Book, number: u64) -> Option<OrderView<'_>> {
     book.order(OrderNo::new(number)?)
 }
 
-/// The field of that branch, likewise.
+/// Returns the field of that branch: the call without its clauses.
 fn field(book: &Book, branch: &str) -> Option<FieldView> {
     let branch = Branch::read(branch.as_bytes()).ok()?;
     book.field(branch, Article::read(b"A-1").ok()?)
 }
 
-/// The field at that index, likewise.
+/// Returns the field at that index: the call without its clauses.
 fn field_at(book: &Book, index: usize) -> Option<FieldView> {
     book.field_at(index)
 }
@@ -40,13 +40,13 @@ fn a_new_book_shows_nothing(rt: HostRuntime) {
     assert!(rt; shows_nothing(&Book::new(rt.alloc())));
 }
 
-/// The settled value, the infimum and the supremum.
+/// Returns the settled value, the infimum and the supremum.
 fn numbers(view: Option<FieldView>) -> Option<[u64; 3]> {
     let field = view?;
     Some([field.value.get(), field.inf.get(), field.sup.get()])
 }
 
-/// It shows two fields, in the order of their branches.
+/// Returns whether the book shows two fields, in the order of their branches.
 fn shows_two_fields(book: &Book) -> bool {
     book.field_count() == 2
         && field_at(book, 0) == field(book, "N1")
@@ -56,7 +56,7 @@ fn shows_two_fields(book: &Book) -> bool {
         && field_at(book, 2) == None
 }
 
-/// Its one line held 10 to take, of which 4 were used.
+/// Returns whether the one line of the order held 10 to take, of which 4 were used.
 fn is_shown(order: &OrderView<'_>) -> bool {
     match order.lines {
         [line] => line.way == Way::Take && [line.held.get(), line.used.get()] == [10, 4],
@@ -64,7 +64,7 @@ fn is_shown(order: &OrderView<'_>) -> bool {
     }
 }
 
-/// It shows an order of that kind that is aborted.
+/// Returns whether the book shows an order of that kind that is aborted.
 fn shows_an_order(book: &Book) -> bool {
     match order(book, 9) {
         Some(order) => {
@@ -77,7 +77,7 @@ fn shows_an_order(book: &Book) -> bool {
     }
 }
 
-/// What is planned for a command under a key.
+/// Returns what is planned for a command under a key.
 fn answers() -> &'static [(&'static str, &'static str, Reply)] {
     &ANSWERS
 }
@@ -116,7 +116,7 @@ fn expect_answers<R: Abort + AllocGlobal>(rt: &R, book: &Book) -> Result<(), Fai
     Ok(())
 }
 
-/// The clock, and how many places, orders and open orders there are.
+/// Returns the clock, and how many places, orders and open orders there are.
 fn counts(book: &Book) -> [usize; 4] {
     let minutes = book.clock().get() as usize;
     [
@@ -127,12 +127,12 @@ fn counts(book: &Book) -> [usize; 4] {
     ]
 }
 
-/// What is kept under the key: the call without its clauses.
+/// Returns what is kept under the key: the call without its clauses.
 fn kept<'a>(book: &'a Book, key: &str) -> Option<KeptView<'a>> {
     book.kept(Key::read(key.as_bytes()).ok()?)
 }
 
-/// It shows what is kept under a key, and nothing under another.
+/// Returns whether the book shows what is kept under a key, and nothing under another.
 fn shows_what_is_kept(book: &Book) -> bool {
     match kept(book, "k-3") {
         Some(view) => {
@@ -144,7 +144,7 @@ fn shows_what_is_kept(book: &Book) -> bool {
     }
 }
 
-/// The number of the first open order from that one on.
+/// Returns the number of the first open order from that one on.
 fn open_from(book: &Book, number: u64) -> Option<u64> {
     match book.open_from(OrderNo::new(number)?) {
         Some(order) => Some(order.number.get()),
@@ -161,7 +161,7 @@ fn commands_change_their_rows_and_are_shown(rt: HostRuntime) -> Result<(), Fail>
     expect_answers(&rt, &book)
 }
 
-/// How many orders are due at that moment, and the first of them.
+/// Returns how many orders are due at that moment, and the first of them.
 fn due(alloc: Global, book: &Book, minutes: u64) -> Result<(usize, Option<u64>), Fail> {
     let Some(moment) = Moment::new(minutes) else {
         return Err("no moment")?;

@@ -24,7 +24,7 @@ fn laws_can_be_called() {
     desk::batches_are_invisible();
 }
 
-/// Whether a run of these requests ends so.
+/// Returns whether a run of these requests ends so.
 fn runs<K: Keep>(
     alloc: Global,
     desk: &mut Desk<K>,
@@ -43,7 +43,7 @@ const LINES: [&str; 3] = [
     "F2 open 32 500 take N1 A-1 10",
 ];
 
-/// The third commit fails: the run ends there, and then nothing is answered, also not to what was done.
+/// Returns whether the third commit fails, the run ends there, and then nothing is answered, also not to what was done.
 fn is_cut<K: Keep>(alloc: Global, desk: &mut Desk<K>, first: &Request, all: &[Request]) -> bool {
     let replies = [Reply::Done(1), Reply::Done(2)];
     call(alloc, desk, first) == Ok(Reply::Done(1))
@@ -53,7 +53,7 @@ fn is_cut<K: Keep>(alloc: Global, desk: &mut Desk<K>, first: &Request, all: &[Re
         && desk.is_stopped()
 }
 
-/// The keeper behind that, which is stopped.
+/// Returns the keeper of a desk that was so cut, which is stopped.
 fn stopped<K: Keep + Drop>(
     alloc: Global,
     keep: K,
@@ -70,7 +70,7 @@ fn stopped<K: Keep + Drop>(
     }
 }
 
-/// Whether no desk is opened over the keeper, which is told as the store.
+/// Returns whether no desk is opened over the keeper, with a fault of the store.
 fn is_closed<K: Keep + Drop>(alloc: Global, keep: K) -> bool {
     match open(alloc, keep) {
         Ok(desk) => {

@@ -8,24 +8,26 @@ use escrow::{
 };
 use std::test::Fail;
 
-/// The first two texts are read, and compared by their bytes; the third is no branch.
+/// Returns whether the first two texts are read as branches, and are ordered by their bytes, and the third is no
+/// branch.
 fn are_branches(first: &[u8], second: &[u8], none: &[u8]) -> Result<bool, BadCode> {
     let (one, two) = (Branch::read(first)?, Branch::read(second)?);
-    let as_given = one.as_bytes() == first && two.as_bytes() == second;
+    let as_given = one.as_bytes() == first && two.as_str().as_bytes() == second;
     Ok(as_given && one < two && one != two && Branch::read(none) == Err(BadCode))
 }
 
-/// The same of articles.
+/// Returns whether the first two texts are read as articles, and are ordered by their bytes, and the third is no
+/// article.
 fn are_articles(first: &[u8], second: &[u8], none: &[u8]) -> Result<bool, BadCode> {
     let (one, two) = (Article::read(first)?, Article::read(second)?);
-    let as_given = one.as_bytes() == first && two.as_bytes() == second;
+    let as_given = one.as_bytes() == first && two.as_str().as_bytes() == second;
     Ok(as_given && one < two && one != two && Article::read(none) == Err(BadCode))
 }
 
-/// The same of keys.
+/// Returns whether the first two texts are read as keys, and are ordered by their bytes, and the third is no key.
 fn are_keys(first: &[u8], second: &[u8], none: &[u8]) -> Result<bool, BadCode> {
     let (one, two) = (Key::read(first)?, Key::read(second)?);
-    let as_given = one.as_bytes() == first && two.as_bytes() == second;
+    let as_given = one.as_bytes() == first && two.as_str().as_bytes() == second;
     Ok(as_given && one < two && one != two && Key::read(none) == Err(BadCode))
 }
 
@@ -62,17 +64,17 @@ fn numbers_are_made_in_their_ranges(rt: HostRuntime) {
     assert!(rt; Level::of(7).get() == 7 && Moment::first().get() == 0);
 }
 
-/// What is answered, where the amount is a quantity.
+/// Returns the answer of `Quantity::ask`, where the number is a quantity.
 fn ask(stock: &mut Quantity, way: Way, pieces: u64) -> Option<Result<(), Bound>> {
     Some(stock.ask(way, Qty::new(pieces)?))
 }
 
-/// The same where it is to be done at once.
+/// Returns the answer of `Quantity::at_once`, where the number is a quantity.
 fn at_once(stock: &mut Quantity, way: Way, pieces: u64) -> Option<Result<(), Bound>> {
     Some(stock.at_once(way, Qty::new(pieces)?))
 }
 
-/// The value, the infimum and the supremum.
+/// Returns the value, the infimum and the supremum.
 fn shown(stock: &Quantity) -> [u64; 3] {
     [stock.value().get(), stock.inf().get(), stock.sup().get()]
 }
@@ -95,7 +97,7 @@ fn requests_are_tested_against_the_worst_outcome(rt: HostRuntime) -> Result<(), 
     Ok(())
 }
 
-/// Between 0 and 100, with these as its value, its infimum and its supremum.
+/// Returns a quantity between 0 and 100, with this value, this infimum and this supremum.
 fn restored(value: u64, inf: u64, sup: u64) -> Option<Quantity>
     ensures { IfSome result (λ q. q ≡ record {
       lo = 0;

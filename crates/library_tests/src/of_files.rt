@@ -29,7 +29,7 @@ const DELIVERIES: &[u8] = b"key,branch,article,qty\nD1,N1,A-1,10\n";
 
 const BOUNDS: &[u8] = b"key,branch,article,lo,hi\nB1,N1,A-1,5,40\n";
 
-/// There is one request, of this key and this command.
+/// Returns whether there is one request, with this key and this command.
 fn is_one(requests: &[Request], key: &[u8], command: &[u8]) -> bool {
     match requests {
         [request] => request.key.as_bytes() == key && request.command.words() == command,
@@ -63,10 +63,11 @@ fn files_say_their_requests(rt: HostRuntime) -> Result<(), Fail> {
 /// How long the pieces of a reader or a writer are.
 const PIECE: usize = 16;
 
-/// How many reads the file of orders needs: of its first byte, of the other 85 piece by piece, and of the end.
+/// How many reads the file of orders needs: one for its first byte, six for the other 85 in pieces, and one for the
+/// end.
 const READS: usize = 8;
 
-/// What the file is answered where the read with this number fails.
+/// Returns the fault of the file where the read with this number fails.
 fn fault_of_read(alloc: Global, before_fault: usize, is_interrupted: bool) -> Option<FileFault> {
     let reader = Drip {
         bytes: ORDERS,
@@ -91,7 +92,7 @@ fn a_failing_read_is_a_fault_at_once(rt: HostRuntime) {
     }
 }
 
-/// One field.
+/// Returns one field.
 fn stock() -> &'static [Step] {
     &STOCK
 }
@@ -131,7 +132,8 @@ fn write_sheet(
     })
 }
 
-/// The write with this number fails, or takes none: so much of the sheet is written then.
+/// Returns whether so much of the sheet is written as fits before the write with this number, which fails or takes
+/// nothing.
 fn is_beginning(
     alloc: Global,
     book: &Book,
@@ -155,7 +157,7 @@ fn is_beginning(
     Ok(taken.len() == len && sheet.as_bytes().starts_with(taken) && ended == want)
 }
 
-/// A fault at each write, and at none.
+/// Tries a fault at each write, and at none.
 fn expect_beginnings<R: Abort + AllocGlobal>(
     rt: &R,
     book: &Book,
@@ -174,7 +176,7 @@ fn expect_beginnings<R: Abort + AllocGlobal>(
     Ok(())
 }
 
-/// Of both sheets.
+/// Tries a fault at each write of each of the two sheets, and at none.
 fn expect_both<R: Abort + AllocGlobal>(rt: &R, book: &Book) -> Result<(), Fail> {
     expect_beginnings(rt, book, (Kind::Branch, BRANCH_SHEET))?;
     expect_beginnings(rt, book, (Kind::Article, ARTICLE_SHEET))

@@ -7,12 +7,12 @@ use std::test::Fail;
 /// More items than two blocks hold.
 const COUNT: u32 = 3000;
 
-/// The key that comes in at a place: each number below 3,001 but one, in no order, since 3,001 is a prime.
+/// Returns the key that comes in at a place: each number below 3,001 but one, out of order, since 3,001 is a prime.
 fn key_at(place: u32) -> u32 {
     (u64::from(place) * 7919 % 3001) as u32
 }
 
-/// Entries that came in no order, each with the place at which it came.
+/// Returns entries that came out of order, each with the place at which it came.
 fn filled(alloc: Global) -> Result<InOrder<u32, u32>, AllocError> {
     let mut entries = InOrder::new(alloc);
     for place in 0..COUNT {
@@ -22,8 +22,8 @@ fn filled(alloc: Global) -> Result<InOrder<u32, u32>, AllocError> {
     Ok(entries)
 }
 
-/// Whether each entry stands behind the one with the next lower key, under its key, and among those that came where it
-/// came.
+/// Returns whether each entry stands after the one with the next lower key, is found under its key, and is the one that
+/// came at its place.
 fn are_found(entries: &InOrder<u32, u32>) -> bool {
     let mut before = None;
     for place in 0..entries.len() {
@@ -39,7 +39,7 @@ fn are_found(entries: &InOrder<u32, u32>) -> bool {
     true
 }
 
-/// The entries that came in, and no others.
+/// Returns whether all entries that came in are shown, and no others.
 fn shows_all(entries: &InOrder<u32, u32>) -> bool {
     entries.len() == 3000
         && are_found(entries)
@@ -47,7 +47,7 @@ fn shows_all(entries: &InOrder<u32, u32>) -> bool {
         && entries.get(&3001).is_none()
 }
 
-/// One more, under a key behind the others.
+/// Returns whether one more entry goes in, under a key after the others.
 fn takes_one_more(entries: &mut InOrder<u32, u32>) -> Result<bool, AllocError> {
     entries.reserve(1)?;
     let has_room = 1 <= entries.room();
@@ -57,7 +57,7 @@ fn takes_one_more(entries: &mut InOrder<u32, u32>) -> Result<bool, AllocError> {
     Ok(has_room && entries.len() == 3001 && are_found(entries))
 }
 
-/// Another value, under a key and at a place.
+/// Returns whether other values go in, under a key and at a place.
 fn takes_other_values(entries: &mut InOrder<u32, u32>) -> bool {
     if let Some(value) = entries.get_mut(&9000) {
         *value = 5;
@@ -77,7 +77,7 @@ fn entries_are_found_under_their_keys(rt: HostRuntime) -> Result<(), Fail> {
     Ok(())
 }
 
-/// The numbers below a count, the last of them put in first.
+/// Returns the numbers below a count, the last of them put in first.
 fn counted(alloc: Global, count: u32) -> Result<BlockList<u32>, AllocError> {
     let mut list = BlockList::new(alloc);
     for number in (0..count).rev() {
@@ -87,12 +87,12 @@ fn counted(alloc: Global, count: u32) -> Result<BlockList<u32>, AllocError> {
     Ok(list)
 }
 
-/// The place of a number, or where it would go.
+/// Returns the place of a number, or else where it would go.
 fn place(list: &BlockList<u32>, wanted: u32) -> Result<usize, usize> {
     list.binary_search_by(|number| number.cmp(&wanted))
 }
 
-/// Another number in the second block.
+/// Returns whether another number goes into the second block.
 fn takes_another(list: &mut BlockList<u32>) -> bool {
     if list.len() <= 1024 {
         return false;
@@ -101,7 +101,7 @@ fn takes_another(list: &mut BlockList<u32>) -> bool {
     *list.get(1024) == 7 && *list.get(1023) == 1023
 }
 
-/// The last number of the first block is taken out, and those behind it move up.
+/// Returns whether the last number of the first block comes out, and those after it move up.
 fn gives_one_back(list: &mut BlockList<u32>) -> bool {
     if list.len() <= 1025 {
         return false;

@@ -65,7 +65,7 @@ fn commit_line<K: Keep>(alloc: Global, keep: &mut K) -> Result<(), Fail> {
     Ok(())
 }
 
-/// A text that SQL would read as the end of a string and a statement is a text like any other.
+/// Commits a text that SQL would read as the end of a string and a statement: it is a text like any other.
 fn commit_kept<K: Keep>(alloc: Global, keep: &mut K) -> Result<(), Fail> {
     let row = KeptRow {
         reqkey: String::from_str(alloc, "K2")?,
@@ -92,7 +92,7 @@ const DESK: DeskRow = DeskRow {
     places: 12,
 };
 
-/// All columns of all rows, in their order.
+/// Returns all columns of all rows, in their order.
 fn shown(alloc: Global, tables: &Tables) -> Result<String, AllocError> {
     format!(in alloc; "{tables:?}")
 }
@@ -105,7 +105,7 @@ fn commit_orders<K: Keep>(keep: &mut K) -> Result<(), KeepFault> {
     )
 }
 
-/// Marks two orders as firm, out of their order, and the one of them again.
+/// Marks two orders as firm, out of their order, and one of them again.
 fn commit_firms<K: Keep>(keep: &mut K) -> Result<(), KeepFault> {
     commit(
         keep,
@@ -130,7 +130,7 @@ fn commit_rows<K: Keep>(alloc: Global, keep: &mut K) -> Result<(), Fail> {
     commit_field(alloc, keep, "A-1", 43)
 }
 
-/// What the keeper loads, as text.
+/// Returns what the keeper loads, as text.
 pub(crate) fn loaded<K: Keep>(alloc: Global, keep: &mut K) -> Result<String, Fail> {
     let tables = load(keep, alloc)?;
     let text = shown(alloc, &tables);
@@ -141,7 +141,7 @@ pub(crate) fn loaded<K: Keep>(alloc: Global, keep: &mut K) -> Result<String, Fai
 const COMMITTED: &str =
     "Tables { desk: DeskRow { one: 1, version: 2, clock: 30, places: 12 }, fields: Rows { rows: [FieldRow { branch: \"N1\", article: \"A-1\", lo: 1, hi: 90, start: 50, value: 43, inf: 30, sup: 70 }, FieldRow { branch: \"N1\", article: \"A-2\", lo: 1, hi: 90, start: 50, value: 41, inf: 30, sup: 70 }] }, moves: Rows { rows: [MoveRow { place: 9, branch: \"N1\", article: \"A-1\", qty: -8 }] }, orders: Rows { rows: [OrderRow { number: 7, kind: 1, until: 900, state: 0 }, OrderRow { number: 20, kind: 1, until: 900, state: 1 }] }, lines: Rows { rows: [LineRow { number: 7, nr: 2, branch: \"N2\", article: \"A-3\", way: 1, held: 6, used: 5 }] }, kept: Rows { rows: [KeptRow { reqkey: \"K2\", place: 4, words: \"'); DROP TABLE kept; --\" }] }, firms: Rows { rows: [FirmRow { number: 7 }, FirmRow { number: 20 }] } }";
 
-/// Whether what is committed comes back.
+/// Returns whether what is committed comes back.
 fn comes_back<K: Keep + Drop>(alloc: Global, mut keep: K) -> Result<bool, Fail> {
     commit_rows(alloc, &mut keep)?;
     Ok(loaded(alloc, &mut keep)?.as_str() == COMMITTED)
@@ -154,7 +154,7 @@ fn rows_come_back_by_their_keys(rt: HostRuntime) -> Result<(), Fail> {
     Ok(())
 }
 
-/// Whether the keeper fails to load by its store, and is stopped by that.
+/// Returns whether the keeper fails to load because of its store, and is then stopped.
 fn fails_by_store<K: Keep>(alloc: Global, keep: &mut K) -> bool {
     load_fault(keep, alloc) == Some(KeepFault::Store)
         && load_fault(keep, alloc) == Some(KeepFault::Stopped)
@@ -162,7 +162,7 @@ fn fails_by_store<K: Keep>(alloc: Global, keep: &mut K) -> bool {
         && keep.is_stopped()
 }
 
-/// A keeper with two orders over a store that takes one step a statement.
+/// Returns a keeper with two orders, over a store that allows one step a statement.
 fn limited(alloc: Global) -> Result<SqlKeep<MemStore>, Fail> {
     let mut keep = sql_keeper(alloc)?;
     commit_orders(&mut keep)?;

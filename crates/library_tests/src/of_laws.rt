@@ -1,4 +1,4 @@
-//! Tests of `laws`: each holds of all ledgers or desks; a call of one costs nothing.
+//! Tests of `laws`: each law holds for all ledgers or desks; a call of one costs nothing.
 
 #[test]
 fn laws_of_ledgers_can_be_called() {

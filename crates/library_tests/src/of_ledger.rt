@@ -4,7 +4,7 @@ use escrow::{Article, BadCode, Branch, Level, Way};
 use ledger::Line;
 use std::test::Fail;
 
-/// Whether a line is on the field of its branch and article.
+/// Returns whether a line is on the field of its branch and article.
 fn is_on_its_field(branch: &[u8], article: &[u8]) -> Result<bool, BadCode> {
     let line = Line {
         way: Way::Take,

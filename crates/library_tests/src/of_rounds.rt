@@ -1,4 +1,4 @@
-//! Rounds: connections at their places, and a service of those who come from memory.
+//! Rounds: connections at their places, and a service for those who come from memory.
 
 use crate::desks::opened;
 use crate::keepers::plain_keeper;
@@ -19,24 +19,24 @@ fn laws_can_be_called() {
     rounds::rounds_are_one_order::<HttpDialogue>();
 }
 
-/// What two connections bring: one makes a field, and the other delivers to it. The second message is longer, so that it has
-/// come whole behind the first also where both come byte by byte.
+/// What two connections bring: one makes a field, and the other delivers to it. The second message is longer, so it
+/// comes whole after the first, also where both come byte by byte.
 const MESSAGES: [&[u8]; 2] = [
     b"POST /v1/commands HTTP/1.1\r\nContent-Length: 46\r\n\r\n{\"command\":\"field N1 A-1 0 100 40\",\"key\":\"K1\"}",
     b"POST /v1/commands HTTP/1.1\r\nContent-Length: 75\r\n\r\n{\"command\":\"deliver N1 A-1 5\",\"key\":\"123e4567-e89b-12d3-a456-426614174000\"}",
 ];
 
-/// What each is answered: the first two places.
+/// What each connection is answered: the first two places.
 const ANSWERS: [&[u8]; 2] = [
     b"HTTP/1.1 200 OK\r\ncontent-type: application/json\r\ncontent-length: 11\r\n\r\n{\"place\":1}",
     b"HTTP/1.1 200 OK\r\ncontent-type: application/json\r\ncontent-length: 11\r\n\r\n{\"place\":2}",
 ];
 
-/// What each is answered by a desk that is stopped.
+/// What each connection is answered by a desk that is stopped.
 const STOPPED: &[u8] =
     b"HTTP/1.1 503 Service Unavailable\r\ncontent-type: application/json\r\ncontent-length: 19\r\n\r\n{\"error\":\"stopped\"}";
 
-/// Seats a connection, of which more is wanted then; at which place.
+/// Seats a connection, of which more must be wanted then. Returns its place.
 fn seat<S: Stream + Drop>(
     alloc: Global,
     places: &mut Places<HttpDialogue, S>,
@@ -54,7 +54,7 @@ fn seat<S: Stream + Drop>(
     Ok(place)
 }
 
-/// Reads at a place by such pieces, as long as no question is found and more is wanted.
+/// Reads at a place into such a piece, as long as no question is found and more is wanted.
 fn read<S: Stream + Drop>(
     alloc: Global,
     places: &mut Places<HttpDialogue, S>,
@@ -73,7 +73,7 @@ fn read<S: Stream + Drop>(
     Err("no end of reads")?
 }
 
-/// Writes at a place, as long as something is to be written there: how many bytes these are.
+/// Writes at a place as long as something is to be written there. Returns how many bytes these are.
 fn write<S: Stream + Drop>(
     places: &mut Places<HttpDialogue, S>,
     place: usize,
@@ -105,7 +105,7 @@ fn round<S: Stream + Drop, K: Keep>(
     Ok(())
 }
 
-/// How a place stands, where there is such a place.
+/// Returns how a place stands, where there is such a place.
 fn standing<S: Stream + Drop>(
     places: &Places<HttpDialogue, S>,
     place: usize,
@@ -116,7 +116,7 @@ fn standing<S: Stream + Drop>(
     Ok(places.standing(place))
 }
 
-/// A question is found at a place, and nothing is written there yet.
+/// A question must be found at a place, and nothing be written there yet.
 fn ask<S: Stream + Drop>(
     alloc: Global,
     places: &mut Places<HttpDialogue, S>,
@@ -130,7 +130,7 @@ fn ask<S: Stream + Drop>(
     Ok(())
 }
 
-/// An answer is written at a place, and then nothing is left to be said there: how many bytes were written.
+/// An answer must be written at a place, and then nothing be left to say there. Returns how many bytes were written.
 fn tell<S: Stream + Drop>(
     alloc: Global,
     places: &mut Places<HttpDialogue, S>,
@@ -145,7 +145,7 @@ fn tell<S: Stream + Drop>(
     Ok(written)
 }
 
-/// Two connections come, are heard by such pieces, and are answered in one round.
+/// Two connections come, are read in such pieces, and are answered in one round.
 fn speak<S: Stream + Drop, K: Keep>(
     alloc: Global,
     places: &mut Places<HttpDialogue, S>,
@@ -167,7 +167,7 @@ fn speak<S: Stream + Drop, K: Keep>(
     Ok(())
 }
 
-/// Whether the one who leaves a place has been written this.
+/// Returns whether this was written to the one who leaves a place.
 fn leaves_with(
     places: &mut Places<HttpDialogue, (&'static [u8], Vec<u8>)>,
     place: usize,
@@ -201,7 +201,7 @@ fn speak_and_leave<K: Keep>(
     )
 }
 
-/// The same on a new desk that the keeper holds.
+/// Lets two connections speak and leave on a new desk that the keeper holds. Returns whether all is as it must be.
 fn speak_over<K: Keep + Drop>(alloc: Global, keep: K, piece: &mut [u8]) -> Result<bool, Fail> {
     let mut desk = opened(alloc, keep)?.defer(alloc);
     let is_so = speak_and_leave(alloc, piece, &mut desk);
@@ -223,14 +223,14 @@ type Known = (Drip<'static>, Vec<u8>);
 #[derive(Drop)]
 struct Gathering {
     coming: VecDeque<Known>,
-    /// Those that were closed.
+    /// The connections that were closed.
     gone: Vec<Known>,
 }
 
 impl Crowd for Gathering {
     type Stream = Known;
 
-    // what these are is not said; the test looks
+    // no clause says what these are; the test looks
     ghost comes = { λ old stream new. Unit {0} };
 
     ghost closes = { λ old stream new. Unit {0} };
@@ -260,12 +260,12 @@ impl Crowd for Gathering {
     }
 
     fn close(&mut self, stream: Known) {
-        // one for which there is no room is missed by the test
+        // the test misses a connection for which there is no room
         let _ = self.gone.push(stream);
     }
 }
 
-/// Two come, of whom each read brings so many bytes.
+/// Returns a crowd of two connections that come; each read brings so many bytes.
 fn two_come(alloc: Global, piece: usize) -> Result<Gathering, Fail> {
     let mut coming = VecDeque::new(alloc);
     for bytes in MESSAGES {
@@ -283,7 +283,7 @@ fn two_come(alloc: Global, piece: usize) -> Result<Gathering, Fail> {
     })
 }
 
-/// Serves two who come: how that ends, and who was there.
+/// Serves two who come. Returns who was there, and how that ended.
 fn serve<K: Keep>(
     rt: &HostRuntime,
     crowd: Gathering,
@@ -300,7 +300,7 @@ fn serve<K: Keep>(
     Ok(serve_rounds::<HttpDialogue, Gathering, K>(rt, desk, crowd, &terms))
 }
 
-/// Whether both were closed, and were written this.
+/// Returns whether both were closed, and this was written to them.
 fn were_told(gone: &[Known], answers: [&[u8]; 2]) -> bool {
     match gone {
         [first, second] => first.1.as_slice() == answers[0] && second.1.as_slice() == answers[1],
@@ -308,7 +308,7 @@ fn were_told(gone: &[Known], answers: [&[u8]; 2]) -> bool {
     }
 }
 
-/// How serving two on a new desk that the keeper holds ends, where they are written this.
+/// Serves two on a new desk that the keeper holds; this must be written to them. Returns how that ended.
 fn serve_over<K: Keep + Drop>(
     rt: &HostRuntime,
     keep: K,

@@ -1,4 +1,4 @@
-//! Messages one of whose streams fails.
+//! Messages, where one of their streams fails.
 
 use crate::streams::{Ended, Played, expect_faults};
 use desk::Desk;
@@ -25,13 +25,13 @@ const MESSAGES: &[u8] =
 const ANSWERS: &[u8] =
     b"HTTP/1.1 200 OK\r\ncontent-type: application/json\r\ncontent-length: 11\r\n\r\n{\"place\":1}HTTP/1.1 200 OK\r\ncontent-type: application/json\r\ncontent-length: 76\r\n\r\n{\"article\":\"A-1\",\"branch\":\"N1\",\"hi\":100,\"inf\":40,\"lo\":0,\"sup\":40,\"value\":40}HTTP/1.1 404 Not Found\r\ncontent-type: application/json\r\ncontent-length: 16\r\n\r\n{\"error\":\"none\"}HTTP/1.1 400 Bad Request\r\ncontent-type: application/json\r\ncontent-length: 19\r\n\r\n{\"error\":\"message\"}";
 
-/// What is told where all is answered.
+/// How serving ends where all is answered.
 const SERVED: Served = Served {
     answered: 4,
     ending: Ending::BadMessage,
 };
 
-/// How serving these streams ends: the call without its clauses, so that a test's proof need not carry them.
+/// Returns how serving these streams ends: the call without its clauses, so that a test's proof need not know them.
 fn serve_on<K: Keep, R: Read, W: Write>(
     alloc: Global,
     reader: &mut R,
@@ -41,7 +41,7 @@ fn serve_on<K: Keep, R: Read, W: Write>(
     serve(alloc, reader, writer, desk)
 }
 
-/// They are served.
+/// Serves the bytes as messages.
 struct Messages;
 
 impl Played for Messages {

@@ -20,7 +20,7 @@ fn laws_can_be_called() {
     cuts_do_not_matter();
 }
 
-/// A command of each kind.
+/// Returns a command of each kind.
 fn commands() -> &'static [&'static str] {
     &COMMANDS
 }
@@ -42,7 +42,7 @@ const COMMANDS: [&str; 14] = [
     "firm 7",
 ];
 
-/// The text is the words of the command that it is read as, and of the same command spelled anew.
+/// Returns whether the text is the words of the command that it is read as, and of the same command spelled anew.
 fn has_its_words(alloc: Global, text: &str) -> Result<bool, Fail> {
     let read = SpelledCommand::read(alloc, text.as_bytes())?;
     let made = SpelledCommand::of(alloc, read_command(alloc, text.as_bytes())?)?;
@@ -62,7 +62,7 @@ fn each_kind_is_read_and_written_back(rt: HostRuntime) -> Result<(), Fail> {
     Ok(())
 }
 
-/// Two lines, of which the second adds 5 at N2.
+/// Returns whether these are two order lines, the second of which adds 5 at N2.
 fn are_the_lines(lines: &[OpenLine]) -> bool {
     match lines {
         [first, second] => {
@@ -89,7 +89,7 @@ fn an_order_has_its_lines(rt: HostRuntime) -> Result<(), Fail> {
     Ok(())
 }
 
-/// The key of a request, `?` and what is asked for, and `-` for a bad line.
+/// Returns what marks an item: the key of a request, `?` and what is asked for, or `-` for a bad line.
 fn mark(item: &Item) -> &[u8] {
     match item {
         Item::Request(request) => request.key.as_bytes(),
@@ -99,7 +99,7 @@ fn mark(item: &Item) -> &[u8] {
     }
 }
 
-/// Lines and their marks.
+/// Returns lines and their marks.
 fn script() -> &'static [(&'static str, &'static str)] {
     &SCRIPT
 }
@@ -111,8 +111,8 @@ const SCRIPT: [(&str, &str); 4] = [
     ("? order 7", "?order"),
 ];
 
-/// A piece gives the item of that mark, or none. It is fed again where memory is refused: nothing of it was taken in
-/// then.
+/// Returns whether a piece gives the item with that mark, or none. Where memory is refused, the piece is fed again:
+/// nothing of it was taken in.
 fn gives(
     alloc: Global,
     lines: &mut Lines,
@@ -130,7 +130,7 @@ fn gives(
     })
 }
 
-/// A line comes in two pieces, and then its newline.
+/// Returns whether a line gives its item only once its newline comes, after two pieces.
 fn gives_at_its_end(
     alloc: Global,
     lines: &mut Lines,
@@ -145,7 +145,7 @@ fn gives_at_its_end(
     )
 }
 
-/// What comes behind the last newline is bad, once.
+/// Returns whether what comes after the last newline is bad, once.
 fn gives_a_rest(alloc: Global, lines: &mut Lines) -> Result<bool, Memory> {
     Ok(
         lines.finish().is_none()
@@ -195,7 +195,7 @@ fn replies_have_their_text(rt: HostRuntime) -> Result<(), Fail> {
     Ok(())
 }
 
-/// What a read into eight bytes takes: these, or a fault.
+/// Returns whether a read into eight bytes takes these, or fails.
 fn is_read<I: Read>(reader: &mut I, want: Option<&[u8]>) -> bool {
     let mut buffer = [0; 8];
     match (read_piece(reader, &mut buffer), want) {
@@ -219,8 +219,8 @@ fn a_read_is_a_piece_or_a_fault(rt: HostRuntime) {
     assert!(rt; is_read(&mut drip, Some(b"")));
 }
 
-/// How a text is written whose write with this number fails, or takes none; how much of it is then written, where that
-/// is a beginning.
+/// Returns how the writing of a text ends where the write with this number fails, or takes nothing; and how much of the
+/// text is then written, where that is a beginning.
 fn written_until(
     alloc: Global,
     text: &[u8],

@@ -1,4 +1,4 @@
-//! Readers and writers that fail once, and what is played over them.
+//! Readers and writers that fail once, and what is played over them on a desk.
 
 use crate::desks::opened;
 use crate::keepers::plain_keeper;
@@ -9,8 +9,8 @@ use std::io::{self, Read, Write};
 use std::process::Abort;
 use std::test::Fail;
 
-/// Gives its bytes in pieces, fails once, in the place of the piece with this number, and goes on. The failure is an
-/// interrupted read, which might be tried again, or another.
+/// Gives its bytes in pieces; once, in place of the piece with this number, it fails, and then goes on. The failure
+/// is an interrupted read, which might be tried again, or another one.
 #[derive(Drop)]
 pub(crate) struct Drip<'a> {
     pub bytes: &'a [u8],
@@ -41,7 +41,7 @@ impl Read for Drip<'_> {
     }
 }
 
-/// Takes pieces; once, in the place of the piece with this number, it takes none or fails, and goes on.
+/// Takes pieces; once, in place of the piece with this number, it takes nothing or fails, and then goes on.
 #[derive(Drop)]
 pub(crate) struct Sink {
     pub taken: Vec<u8>,
@@ -70,7 +70,7 @@ impl Write for Sink {
     }
 }
 
-/// How what is played ended.
+/// How something that was played ended.
 #[derive(Clone, Copy)]
 pub(crate) enum Ended {
     Whole,
@@ -79,9 +79,9 @@ pub(crate) enum Ended {
     Otherwise,
 }
 
-/// What is played over streams on a desk.
+/// Something that is played over streams on a desk.
 pub(crate) trait Played {
-    /// How it ends.
+    /// Plays it. Returns how it ended.
     fn end<K: Keep, R: Read, W: Write>(
         &self,
         alloc: Global,
@@ -91,7 +91,7 @@ pub(crate) trait Played {
     ) -> Ended;
 }
 
-/// How it ends on the desk that the keeper holds.
+/// Plays it on the desk that the keeper holds. Returns how it ended.
 fn end<P: Played, K: Keep + Drop, R: Read, W: Write>(
     alloc: Global,
     played: &P,
@@ -105,7 +105,7 @@ fn end<P: Played, K: Keep + Drop, R: Read, W: Write>(
     Ok(ended)
 }
 
-/// A reader and a writer of so many bytes at a time; each fails in the place of that call, and goes on.
+/// A reader and a writer that handle so many bytes at a time; each fails at the call with this number, and goes on.
 #[derive(Clone, Copy)]
 struct Fault {
     piece: usize,
@@ -114,8 +114,8 @@ struct Fault {
     is_other: bool,
 }
 
-/// How it ends with that fault on a new desk, where these bytes are read, and whether all was answered. What was written
-/// is a beginning of the answers.
+/// Plays it with that fault on a new desk that reads these bytes. What is written must be a beginning of the answers.
+/// Returns how it ended, and whether all was answered.
 fn ends_with<P: Played>(
     alloc: Global,
     played: &P,
@@ -141,7 +141,7 @@ fn ends_with<P: Played>(
     Ok((ended, writer.taken.len() == answers.len()))
 }
 
-/// How many reads are needed, where each that is needed fails in turn.
+/// Returns how many reads are needed, by a failure of each in turn.
 fn reads_needed<P: Played>(
     alloc: Global,
     played: &P,
@@ -165,7 +165,7 @@ fn reads_needed<P: Played>(
     Err("no end of reads")?
 }
 
-/// The same of writes.
+/// Returns how many writes are needed, by a failure of each in turn.
 fn writes_needed<P: Played>(
     alloc: Global,
     played: &P,
@@ -189,8 +189,8 @@ fn writes_needed<P: Played>(
     Err("no end of writes")?
 }
 
-/// It ends at once where a stream fails. As many reads are needed as there are pieces, and one that finds the end; and
-/// more writes than answers of that length.
+/// What is played must end at once where a stream fails. It needs as many reads as there are pieces, and one that
+/// finds the end; and at least as many writes as answers of that length need.
 pub(crate) fn expect_faults<R: Abort + AllocGlobal, P: Played>(
     rt: &R,
     played: &P,

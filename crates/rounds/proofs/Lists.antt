@@ -1,5 +1,6 @@
 -- What stands at the places of a list.
-use Rattle.std.proofs.Common.{◌≡◌, ◌≢◌, ◌⊎◌, ◌∙◌, ◌+◌, ◌<◌, ◌≤◌, ◌++◌, ◌∷◌, ℕ, zero, suc, Bool, List, [], Option, None, Some, ap, arith, inl, inr, length, length-set, refl, set, subst, sym, take, true, false}
+use Rattle.std.proofs.Common.{◌≡◌, ◌≢◌, ◌⊎◌, ◌∙◌, ◌+◌, ◌<◌, ◌≤◌, ◌++◌, ◌∷◌, ℕ, zero, suc, Bool, List, [], Option, None,
+    Some, ap, arith, inl, inr, length, length-set, refl, set, subst, sym, take, true, false}
 use Rattle.std.specs.Prelude.{nat_eq, slice_get}
 use Rattle.std.proofs.lemmas.Bool.Decides.{eqb_tells}
 use Rattle.rounds.specs.Rounds.{AreBefore, AtEach, IsAt}
@@ -51,7 +52,8 @@ module _ {X : Type 0} where
   get_joined (z ∷ xs) y x zero e = inl e
   get_joined (z ∷ xs) y x (suc p) e = by (get_joined xs y x p e)
     where
-      by : (slice_get xs p ≡ Some x) ⊎ ((x ≡ y) × (p ≡ length xs)) → (slice_get xs p ≡ Some x) ⊎ ((x ≡ y) × (suc p ≡ suc (length xs)))
+      by : (slice_get xs p ≡ Some x) ⊎ ((x ≡ y) × (p ≡ length xs))
+          → (slice_get xs p ≡ Some x) ⊎ ((x ≡ y) × (suc p ≡ suc (length xs)))
       by (inl is) = inl is
       by (inr (same, last)) = inr (same, ap suc last)
 
@@ -126,7 +128,8 @@ module _ {V : Type 0} (R : Option V → Option V → Type 0) where
   pub gone_none : (xs : List (Option V)) → HasGoneOver R xs xs 0
   gone_none xs = record { size = refl; before = λ p v w lt. absurd (omega arith); others = λ p le. refl }
 
-  pub gone_more : (old new : List (Option V)) (i : ℕ) (v w : Option V) → HasGoneOver R old new i → slice_get new i ≡ Some v → R v w
+  pub gone_more : (old new : List (Option V)) (i : ℕ) (v w : Option V) → HasGoneOver R old new i
+      → slice_get new i ≡ Some v → R v w
       → HasGoneOver R old (set new i w) (i + 1)
   gone_more old new i v w so_far at_i r = record {
     size = length-set new i w ∙ so_far.size;
@@ -142,10 +145,12 @@ module _ {V : Type 0} (R : Option V → Option V → Type 0) where
           let same : v ≡ x = cc (at_i, so_far.others i (omega arith), old_at) in
           let put : w ≡ y = cc (get_set new i v w at_i, new_at) in
           subst (λ (o : Option V). R x o) put (subst (λ (o : Option V). R o w) same r)
-      by p x y lt at_x at_y (inr (_, other)) = so_far.before p x y (omega (arith, other)) at_x (sym (get_other new i p w other) ∙ at_y)
+      by p x y lt at_x at_y (inr (_, other)) =
+          so_far.before p x y (omega (arith, other)) at_x (sym (get_other new i p w other) ∙ at_y)
 
   -- nobody is at the others
-  pub gone_taken : (old new : List (Option V)) (bound : ℕ) → HasGoneOver R old new bound → AreBefore bound old → R None None → AtEach R old new
+  pub gone_taken : (old new : List (Option V)) (bound : ℕ) → HasGoneOver R old new bound → AreBefore bound old
+      → R None None → AtEach R old new
   gone_taken [] [] bound h before none = tt
   gone_taken [] (y ∷ ys) bound h before none = absurd (omega (arith, h.size))
   gone_taken (x ∷ xs) [] bound h before none = absurd (omega (arith, h.size))
@@ -170,7 +175,8 @@ module _ {V : Type 0} (R : Option V → Option V → Type 0) where
   )
 
 -- one place more, at which nobody is
-pub free_more : {V : Type 0} (xs : List (Option V)) → ((p : ℕ) (v : V) → IsAt xs p v → ⊥) → (p : ℕ) (v : V) → IsAt (xs ++ None ∷ []) p v → ⊥
+pub free_more : {V : Type 0} (xs : List (Option V)) → ((p : ℕ) (v : V) → IsAt xs p v → ⊥) → (p : ℕ) (v : V)
+    → IsAt (xs ++ None ∷ []) p v → ⊥
 free_more xs free p v e = by (get_joined xs None (Some v) p e)
   where
     by : (slice_get xs p ≡ Some (Some v)) ⊎ ((Some v ≡ None) × (p ≡ length xs)) → ⊥
@@ -207,7 +213,8 @@ either_way false h k = h refl
 either_way true h k = k refl
 
 -- so many places are free, and the next one too
-pub free_on : {V : Type 0} (old new : List (Option V)) (i : ℕ) → ((p : ℕ) → p < i → slice_get old p ≡ Some None) → slice_get new i ≡ Some None
+pub free_on : {V : Type 0} (old new : List (Option V)) (i : ℕ) → ((p : ℕ) → p < i → slice_get old p ≡ Some None)
+    → slice_get new i ≡ Some None
     → ((p : ℕ) → p ≢ i → slice_get new p ≡ slice_get old p) → (p : ℕ) → p < i + 1 → slice_get new p ≡ Some None
 free_on old new i before here others p lt = by (eqb_tells p i)
   where

@@ -1,5 +1,6 @@
 -- How one connection stands, from step to step.
-use Rattle.std.proofs.Common.{◌≡◌, ◌∙◌, ◌+◌, ◌≤◌, ◌++◌, ◌∷◌, ℕ, zero, suc, Bool, true, false, List, [], add-one, ap, append-nil, append_assoc, arith, drop, length, refl, subst, sym, take}
+use Rattle.std.proofs.Common.{◌≡◌, ◌∙◌, ◌+◌, ◌≤◌, ◌++◌, ◌∷◌, ℕ, zero, suc, Bool, true, false, List, [], add-one, ap,
+    append-nil, append_assoc, arith, drop, length, refl, subst, sym, take}
 use Rattle.std.specs.Prelude.{slice_index_or}
 use Rattle.std.proofs.lemmas.List.{map-append}
 use Rattle.desk.specs.Desk.{DeskState, Snapshot, snapshot}
@@ -7,7 +8,8 @@ use Rattle.desk.specs.Dialogue.{FailsOne, Language, text_of}
 use Rattle.desk.specs.declared.fault.CallFault.{CallFault}
 use Rattle.desk.specs.declared.fault.CallFault.TheVariants.{Memory, Stopped}
 use Rattle.rounds.specs.declared.phase.Phase.TheVariants.{Asks, Over, Wants}
-use Rattle.rounds.specs.Lines.{Ask, Heard, IsHeard, IsTold, LineView, Said, Speaks, answers_of, questions_of, with_piece, with_said, with_written}
+use Rattle.rounds.specs.Lines.{Ask, Heard, IsHeard, IsTold, LineView, Said, Speaks, answers_of, questions_of,
+    with_piece, with_said, with_written}
 use Rattle.rounds.specs.Rounds.{HasTurn}
 use Rattle.rounds.proofs.Telling.{AreSettled, begins_shorter, texts_joined}
 use Rattle.rounds.proofs.Saying.{with_none}
@@ -118,32 +120,40 @@ module _ {S P T Q A : Type 0} (g : Speaks S P T Q A) where
   -- where none is answered in this round, nothing is said
   pub nothing_said : (v : LineView S P T) (h : Heard Q A) (said : List (Said Q A)) → v.asked ≡ [] → IsHeard g v h said → said ≡ []
   nothing_said v h said none is =
-      none_said said (asks_none g.asks (questions_of said) (subst (λ (ps : List P). Ask g.asks ps (questions_of said)) none is.are_asked))
+      none_said said (asks_none g.asks (questions_of said)
+          (subst (λ (ps : List P). Ask g.asks ps (questions_of said)) none is.are_asked))
 
-  pub heard_nothing : (v : LineView S P T) (h : Heard Q A) (said : List (Said Q A)) → v.asked ≡ [] → IsHeard g v h said → IsHeard g v h []
+  pub heard_nothing : (v : LineView S P T) (h : Heard Q A) (said : List (Said Q A)) → v.asked ≡ [] → IsHeard g v h said
+      → IsHeard g v h []
   heard_nothing v h said none is = subst (λ (s : List (Said Q A)). IsHeard g v h s) (nothing_said v h said none is) is
 
-  pub shown_nothing : (v : LineView S P T) (h : Heard Q A) (said : List (Said Q A)) → v.asked ≡ [] → IsHeard g v h said → IsHeard g v (with_said h said) []
+  pub shown_nothing : (v : LineView S P T) (h : Heard Q A) (said : List (Said Q A)) → v.asked ≡ [] → IsHeard g v h said
+      → IsHeard g v (with_said h said) []
   shown_nothing v h said none is =
-      subst (λ (k : Heard Q A). IsHeard g v k []) (sym (ap (with_said h) (nothing_said v h said none is) ∙ with_none h)) (heard_nothing v h said none is)
+      subst (λ (k : Heard Q A). IsHeard g v k []) (sym (ap (with_said h) (nothing_said v h said none is) ∙ with_none h))
+          (heard_nothing v h said none is)
 
   -- a turn of one that is the same connection
-  pub turn_from : (is_answered : Bool) (u v w : LineView S P T) (old new : Snapshot) (h : Heard Q A) (said : List (Said Q A)) → v.connection ≡ u.connection
+  pub turn_from : (is_answered : Bool) (u v w : LineView S P T) (old new : Snapshot) (h : Heard Q A)
+      (said : List (Said Q A)) → v.connection ≡ u.connection
       → HasTurn g is_answered v w old new h said → HasTurn g is_answered u w old new h said
   turn_from false u v w old new h said same still = still
   turn_from true u v w old new h said same (s, is, answers, told, stands) = (s, is ∙ same, answers, told, stands)
 
   -- it is forgotten
-  pub heard_forgotten : (v w : LineView S P T) (h : Heard Q A) (said : List (Said Q A)) → IsHeard g v h said → w.dialogue ≡ v.dialogue → w.asked ≡ []
+  pub heard_forgotten : (v w : LineView S P T) (h : Heard Q A) (said : List (Said Q A)) → IsHeard g v h said
+      → w.dialogue ≡ v.dialogue → w.asked ≡ []
       → w.waiting ≡ v.asked ++ v.waiting → w.hidden ≡ [] → w.output ≡ v.output → w.phase ≡ Asks → IsHeard g w h []
   heard_forgotten v w h said is dialogue asked waiting hidden output phase = record {
     waiting = questions_of said ++ is.waiting;
     are_asked = subst (λ (ps : List P). Ask g.asks ps []) (sym asked) tt;
     are_waiting = subst (λ (ps : List P). Ask g.asks ps (questions_of said ++ is.waiting)) (sym waiting)
         (asks_joined g.asks v.asked v.waiting (questions_of said) is.waiting is.are_asked is.are_waiting);
-    found = subst (λ (d : S). g.has_found d h.read h.has_ended ((h.questions ++ []) ++ (questions_of said ++ is.waiting))) (sym dialogue)
+    found = subst (λ (d : S).
+        g.has_found d h.read h.has_ended ((h.questions ++ []) ++ (questions_of said ++ is.waiting))) (sym dialogue)
         (subst (λ (qs : List Q). g.has_found v.dialogue h.read h.has_ended qs)
-        (append_assoc h.questions (questions_of said) is.waiting ∙ ap (λ (qs : List Q). qs ++ (questions_of said ++ is.waiting)) (sym (append-nil h.questions))) is.found);
+        (append_assoc h.questions (questions_of said) is.waiting
+            ∙ ap (λ (qs : List Q). qs ++ (questions_of said ++ is.waiting)) (sym (append-nil h.questions))) is.found);
     text = is.text ∙ ap (λ (bytes : List ℕ). h.written ++ bytes) (sym output);
     hidden = hidden;
     quiet = λ some. absurd (omega arith);
@@ -152,26 +162,32 @@ module _ {S P T Q A : Type 0} (g : Speaks S P T Q A) where
   }
 
   -- it is shown
-  pub heard_shown : (v w : LineView S P T) (h : Heard Q A) (said : List (Said Q A)) → IsHeard g v h said → 1 ≤ length v.asked → w.dialogue ≡ v.dialogue → w.asked ≡ []
+  pub heard_shown : (v w : LineView S P T) (h : Heard Q A) (said : List (Said Q A)) → IsHeard g v h said
+      → 1 ≤ length v.asked → w.dialogue ≡ v.dialogue → w.asked ≡ []
       → w.waiting ≡ v.waiting → w.hidden ≡ [] → w.output ≡ v.hidden → w.phase ≡ v.phase → IsHeard g w (with_said h said) []
   heard_shown v w h said is some dialogue asked waiting hidden output phase =
-      let quiet : v.output ≡ [] = is.quiet (omega (arith, some, asks_some g.asks v.asked (questions_of said) is.are_asked, count_said said)) in
-      let again : (h.questions ++ questions_of said) ++ [] ≡ h.questions ++ questions_of said = append-nil (h.questions ++ questions_of said) in
+      let quiet : v.output ≡ [] =
+          is.quiet (omega (arith, some, asks_some g.asks v.asked (questions_of said) is.are_asked, count_said said)) in
+      let again : (h.questions ++ questions_of said) ++ [] ≡ h.questions ++ questions_of said =
+          append-nil (h.questions ++ questions_of said) in
       record {
         waiting = is.waiting;
         are_asked = subst (λ (ps : List P). Ask g.asks ps []) (sym asked) tt;
         are_waiting = subst (λ (ps : List P). Ask g.asks ps is.waiting) (sym waiting) is.are_waiting;
-        found = subst (λ (d : S). g.has_found d h.read h.has_ended (((h.questions ++ questions_of said) ++ []) ++ is.waiting)) (sym dialogue)
+        found = subst (λ (d : S).
+            g.has_found d h.read h.has_ended (((h.questions ++ questions_of said) ++ []) ++ is.waiting)) (sym dialogue)
             (subst (λ (qs : List Q). g.has_found v.dialogue h.read h.has_ended (qs ++ is.waiting)) (sym again) is.found);
         text = texts_joined g.language h.answers (answers_of said)
-            ∙ ap (λ (bytes : List ℕ). bytes ++ text_of g.language (answers_of said)) (is.text ∙ ap (λ (bytes : List ℕ). h.written ++ bytes) quiet ∙ append-nil h.written)
+            ∙ ap (λ (bytes : List ℕ). bytes ++ text_of g.language (answers_of said))
+                (is.text ∙ ap (λ (bytes : List ℕ). h.written ++ bytes) quiet ∙ append-nil h.written)
             ∙ ap (λ (bytes : List ℕ). h.written ++ bytes) (sym is.hidden ∙ sym output);
         hidden = hidden;
         quiet = λ some. absurd (omega arith);
         wants = λ wants. let (none, going, come) = is.wants (sym phase ∙ wants) in
             (none, going, subst (λ (qs : List Q). g.language.have_come h.read qs) (sym again) come);
         over = λ over. let (none, are, ends) = is.over (sym phase ∙ over) in
-            (none, subst (λ (qs : List Q). g.language.are_questions h.read qs) (sym again) are, subst (λ (qs : List Q). g.language.ends h.has_ended qs) (sym again) ends);
+            (none, subst (λ (qs : List Q). g.language.are_questions h.read qs) (sym again) are,
+                subst (λ (qs : List Q). g.language.ends h.has_ended qs) (sym again) ends);
       }
 
   -- its answer is hidden
@@ -180,16 +196,25 @@ module _ {S P T Q A : Type 0} (g : Speaks S P T Q A) where
       → w ≡ record v { asked = v.asked ++ take 1 v.waiting; waiting = drop 1 v.waiting; hidden = v.hidden ++ text }
   hidden_so u v w before bytes text same was e is =
       is ∙ (λ i. record u { asked = u.asked ++ take 1 u.waiting; waiting = drop 1 u.waiting; hidden = was i ++ e i })
-      ∙ (λ i. let x = same i in record x { asked = x.asked ++ take 1 x.waiting; waiting = drop 1 x.waiting; hidden = x.hidden ++ text })
+      ∙ (λ i.
+          let x = same i in
+          record x { asked = x.asked ++ take 1 x.waiting; waiting = drop 1 x.waiting; hidden = x.hidden ++ text })
 
   -- its next question is answered
-  pub heard_answered : (v w : LineView S P T) (h : Heard Q A) (said : List (Said Q A)) → v.phase ≡ Asks → v.output ≡ [] → (is : IsHeard g v h said)
+  pub heard_answered : (v w : LineView S P T) (h : Heard Q A) (said : List (Said Q A)) → v.phase ≡ Asks → v.output ≡ []
+      → (is : IsHeard g v h said)
       → (first : IsFirst g.asks v.waiting is.waiting) → (s : Said Q A) → s.question ≡ first.question
-      → w ≡ record v { asked = v.asked ++ take 1 v.waiting; waiting = drop 1 v.waiting; hidden = v.hidden ++ g.language.text s.answer } → IsHeard g w h (said ++ s ∷ [])
+      → w
+          ≡ record v {
+            asked = v.asked ++ take 1 v.waiting;
+            waiting = drop 1 v.waiting;
+            hidden = v.hidden ++ g.language.text s.answer
+          } → IsHeard g w h (said ++ s ∷ [])
   heard_answered v w h said phase quiet is first s asked same =
       subst (λ (x : LineView S P T). IsHeard g x h (said ++ s ∷ [])) (sym same) (record {
         waiting = first.rest;
-        are_asked = subst (λ (qs : List Q). Ask g.asks (v.asked ++ take 1 v.waiting) qs) (sym (map-append (λ (s : Said Q A). s.question) said (s ∷ [])))
+        are_asked = subst (λ (qs : List Q). Ask g.asks (v.asked ++ take 1 v.waiting) qs)
+            (sym (map-append (λ (s : Said Q A). s.question) said (s ∷ [])))
             (asks_joined g.asks v.asked (take 1 v.waiting) (questions_of said) (s.question ∷ []) is.are_asked
             (subst (λ (ps : List P). Ask g.asks (take 1 ps) (s.question ∷ [])) (sym first.are)
             (subst (λ (q : Q). g.asks first.held q) (sym asked) first.asked, tt)));
@@ -207,26 +232,31 @@ module _ {S P T Q A : Type 0} (g : Speaks S P T Q A) where
     where
       found_so : (h.questions ++ questions_of said) ++ is.waiting ≡ (h.questions ++ questions_of (said ++ s ∷ [])) ++ first.rest
       found_so =
-          ap (λ (qs : List Q). (h.questions ++ questions_of said) ++ qs) (first.questions_are ∙ ap (λ (q : Q). q ∷ first.rest) (sym asked))
+          ap (λ (qs : List Q). (h.questions ++ questions_of said) ++ qs)
+              (first.questions_are ∙ ap (λ (q : Q). q ∷ first.rest) (sym asked))
           ∙ sym (append_assoc (h.questions ++ questions_of said) (s.question ∷ []) first.rest)
           ∙ ap (λ (qs : List Q). qs ++ first.rest) (append_assoc h.questions (questions_of said) (s.question ∷ [])
           ∙ ap (λ (qs : List Q). h.questions ++ qs) (sym (map-append (λ (s : Said Q A). s.question) said (s ∷ []))))
 
   -- what is told once it is answered
   pub told_answered : AreSettled g → (v : LineView S P T) (h : Heard Q A) (said : List (Said Q A)) → (is : IsHeard g v h said)
-      → (first : IsFirst g.asks v.waiting is.waiting) → (s : Said Q A) → s.question ≡ first.question → IsTold g.language (with_said h (said ++ s ∷ []))
+      → (first : IsFirst g.asks v.waiting is.waiting) → (s : Said Q A) → s.question ≡ first.question
+      → IsTold g.language (with_said h (said ++ s ∷ []))
   told_answered settled v h said is first s asked = record {
     first = λ more last. begins_shorter g.language (h.read ++ more) (h.questions ++ questions_of (said ++ s ∷ [])) first.rest
         (settled v.dialogue h.read h.has_ended ((h.questions ++ questions_of (said ++ s ∷ [])) ++ first.rest)
         (subst (λ (qs : List Q). g.has_found v.dialogue h.read h.has_ended qs) found_so is.found) more last);
     unwritten = v.output ++ text_of g.language (answers_of (said ++ s ∷ []));
-    text = texts_joined g.language h.answers (answers_of (said ++ s ∷ [])) ∙ ap (λ (bytes : List ℕ). bytes ++ text_of g.language (answers_of (said ++ s ∷ []))) is.text
+    text =
+        texts_joined g.language h.answers (answers_of (said ++ s ∷ []))
+        ∙ ap (λ (bytes : List ℕ). bytes ++ text_of g.language (answers_of (said ++ s ∷ []))) is.text
         ∙ append_assoc h.written v.output (text_of g.language (answers_of (said ++ s ∷ [])));
   }
     where
       found_so : (h.questions ++ questions_of said) ++ is.waiting ≡ (h.questions ++ questions_of (said ++ s ∷ [])) ++ first.rest
       found_so =
-          ap (λ (qs : List Q). (h.questions ++ questions_of said) ++ qs) (first.questions_are ∙ ap (λ (q : Q). q ∷ first.rest) (sym asked))
+          ap (λ (qs : List Q). (h.questions ++ questions_of said) ++ qs)
+              (first.questions_are ∙ ap (λ (q : Q). q ∷ first.rest) (sym asked))
           ∙ sym (append_assoc (h.questions ++ questions_of said) (s.question ∷ []) first.rest)
           ∙ ap (λ (qs : List Q). qs ++ first.rest) (append_assoc h.questions (questions_of said) (s.question ∷ [])
           ∙ ap (λ (qs : List Q). h.questions ++ qs) (sym (map-append (λ (s : Said Q A). s.question) said (s ∷ []))))
@@ -242,11 +272,15 @@ module _ {S P T Q A : Type 0} (g : Speaks S P T Q A) where
         waiting = is.waiting;
         are_asked = subst (λ (ps : List P). Ask g.asks ps []) (sym asked) is.are_asked;
         are_waiting = subst (λ (ps : List P). Ask g.asks ps is.waiting) (sym waiting) is.are_waiting;
-        found = subst (λ (qs : List Q). g.has_found w.dialogue (h.read ++ bytes) ((with_piece h bytes).has_ended) ((h.questions ++ []) ++ qs)) (sym none)
-            (subst (λ (qs : List Q). g.has_found w.dialogue (h.read ++ bytes) ((with_piece h bytes).has_ended) qs) (sym (append-nil (h.questions ++ [])))
+        found = subst (λ (qs : List Q).
+            g.has_found w.dialogue (h.read ++ bytes) ((with_piece h bytes).has_ended) ((h.questions ++ []) ++ qs))
+            (sym none)
+            (subst (λ (qs : List Q). g.has_found w.dialogue (h.read ++ bytes) ((with_piece h bytes).has_ended) qs)
+            (sym (append-nil (h.questions ++ [])))
             (taken h.read (h.questions ++ [])
             (subst (λ (ended : Bool). g.has_found v.dialogue h.read ended (h.questions ++ [])) going
-            (subst (λ (qs : List Q). g.has_found v.dialogue h.read h.has_ended qs) (ap (λ (qs : List Q). (h.questions ++ []) ++ qs) none ∙ append-nil (h.questions ++ [])) is.found))
+            (subst (λ (qs : List Q). g.has_found v.dialogue h.read h.has_ended qs)
+                (ap (λ (qs : List Q). (h.questions ++ []) ++ qs) none ∙ append-nil (h.questions ++ [])) is.found))
             come));
         text = is.text ∙ ap (λ (b : List ℕ). h.written ++ b) (sym output);
         hidden = hidden ∙ is.hidden;
@@ -256,8 +290,10 @@ module _ {S P T Q A : Type 0} (g : Speaks S P T Q A) where
       }
 
   -- a beginning of the output is written
-  pub heard_written : (v w : LineView S P T) (h : Heard Q A) (bytes : List ℕ) → IsHeard g v h [] → w.dialogue ≡ v.dialogue → w.asked ≡ v.asked
-      → w.waiting ≡ v.waiting → w.hidden ≡ v.hidden → w.phase ≡ v.phase → v.output ≡ bytes ++ w.output → IsHeard g w (with_written h bytes) []
+  pub heard_written : (v w : LineView S P T) (h : Heard Q A) (bytes : List ℕ) → IsHeard g v h []
+      → w.dialogue ≡ v.dialogue → w.asked ≡ v.asked
+      → w.waiting ≡ v.waiting → w.hidden ≡ v.hidden → w.phase ≡ v.phase → v.output ≡ bytes ++ w.output
+      → IsHeard g w (with_written h bytes) []
   heard_written v w h bytes is dialogue asked waiting hidden phase output = record {
     waiting = is.waiting;
     are_asked = subst (λ (ps : List P). Ask g.asks ps []) (sym asked) is.are_asked;
@@ -271,15 +307,18 @@ module _ {S P T Q A : Type 0} (g : Speaks S P T Q A) where
   }
 
   -- a question is found, where none waits
-  pub heard_found : (v w : LineView S P T) (h : Heard Q A) (said : List (Said Q A)) (held : P) → IsHeard g v h said → v.waiting ≡ [] → w.asked ≡ v.asked
+  pub heard_found : (v w : LineView S P T) (h : Heard Q A) (said : List (Said Q A)) (held : P) → IsHeard g v h said
+      → v.waiting ≡ [] → w.asked ≡ v.asked
       → w.waiting ≡ held ∷ [] → w.hidden ≡ v.hidden → w.output ≡ v.output → w.phase ≡ Asks
       → ((read : List ℕ) (ended : Bool) (questions : List Q) → g.has_found v.dialogue read ended questions
       → (q : Q) × g.asks held q × g.has_found w.dialogue read ended (questions ++ q ∷ [])) → IsHeard g w h said
   heard_found v w h said held is none asked waiting hidden output phase finds =
-      let empty : is.waiting ≡ [] = asks_none g.asks is.waiting (subst (λ (ps : List P). Ask g.asks ps is.waiting) none is.are_waiting) in
+      let empty : is.waiting ≡ [] =
+          asks_none g.asks is.waiting (subst (λ (ps : List P). Ask g.asks ps is.waiting) none is.are_waiting) in
       let (q, asks, found) = finds h.read h.has_ended (h.questions ++ questions_of said)
       (subst (λ (qs : List Q). g.has_found v.dialogue h.read h.has_ended qs)
-      (ap (λ (qs : List Q). (h.questions ++ questions_of said) ++ qs) empty ∙ append-nil (h.questions ++ questions_of said)) is.found) in
+      (ap (λ (qs : List Q). (h.questions ++ questions_of said) ++ qs) empty
+          ∙ append-nil (h.questions ++ questions_of said)) is.found) in
       record {
         waiting = q ∷ [];
         are_asked = subst (λ (ps : List P). Ask g.asks ps (questions_of said)) (sym asked) is.are_asked;
@@ -293,17 +332,21 @@ module _ {S P T Q A : Type 0} (g : Speaks S P T Q A) where
       }
 
   -- none is found: more is wanted, or it is over
-  pub heard_paused : (v w : LineView S P T) (h : Heard Q A) (said : List (Said Q A)) → IsHeard g v h said → v.waiting ≡ [] → w.asked ≡ v.asked
+  pub heard_paused : (v w : LineView S P T) (h : Heard Q A) (said : List (Said Q A)) → IsHeard g v h said
+      → v.waiting ≡ [] → w.asked ≡ v.asked
       → w.waiting ≡ v.waiting → w.hidden ≡ v.hidden → w.output ≡ v.output
       → ((read : List ℕ) (ended : Bool) (questions : List Q) → g.has_found v.dialogue read ended questions
       → g.has_found w.dialogue read ended questions
       × (w.phase ≡ Wants → (ended ≡ false) × g.language.have_come read questions)
       × (w.phase ≡ Over → g.language.are_questions read questions × g.language.ends ended questions)) → IsHeard g w h said
   heard_paused v w h said is none asked waiting hidden output finds =
-      let empty : is.waiting ≡ [] = asks_none g.asks is.waiting (subst (λ (ps : List P). Ask g.asks ps is.waiting) none is.are_waiting) in
+      let empty : is.waiting ≡ [] =
+          asks_none g.asks is.waiting (subst (λ (ps : List P). Ask g.asks ps is.waiting) none is.are_waiting) in
       let same : (h.questions ++ questions_of said) ++ is.waiting ≡ h.questions ++ questions_of said =
       ap (λ (qs : List Q). (h.questions ++ questions_of said) ++ qs) empty ∙ append-nil (h.questions ++ questions_of said) in
-      let (found, wants, over) = finds h.read h.has_ended (h.questions ++ questions_of said) (subst (λ (qs : List Q). g.has_found v.dialogue h.read h.has_ended qs) same is.found) in
+      let (found, wants, over) =
+          finds h.read h.has_ended (h.questions ++ questions_of said)
+              (subst (λ (qs : List Q). g.has_found v.dialogue h.read h.has_ended qs) same is.found) in
       record {
         waiting = is.waiting;
         are_asked = subst (λ (ps : List P). Ask g.asks ps (questions_of said)) (sym asked) is.are_asked;
@@ -317,7 +360,8 @@ module _ {S P T Q A : Type 0} (g : Speaks S P T Q A) where
       }
 
 -- memory was refused, and nothing has changed
-pub memory_same : {Q A : Type 0} (L : Language Q A) (fault : CallFault) (old : DeskState) (q : Q) (new : DeskState) → fault ≡ Memory
+pub memory_same : {Q A : Type 0} (L : Language Q A) (fault : CallFault) (old : DeskState) (q : Q) (new : DeskState)
+    → fault ≡ Memory
     → FailsOne L fault old q new → snapshot new ≡ snapshot old
 memory_same L Memory old q new is (ledger, stopped, more) = λ i. record { ledger = ledger i; is_stopped = stopped i }
 memory_same L Stopped old q new is h = absurd (cc)

@@ -1,10 +1,12 @@
 -- A round, turn by turn.
-use Rattle.std.proofs.Common.{◌≡◌, ◌≢◌, ◌⊎◌, ◌∙◌, ◌++◌, ◌∷◌, ℕ, Bool, true, false, List, [], Option, None, Some, ap, inl, inr, refl, set, subst, sym}
+use Rattle.std.proofs.Common.{◌≡◌, ◌≢◌, ◌⊎◌, ◌∙◌, ◌++◌, ◌∷◌, ℕ, Bool, true, false, List, [], Option, None, Some, ap,
+    inl, inr, refl, set, subst, sym}
 use Rattle.std.specs.Prelude.{nat_eq, slice_get}
 use Rattle.std.proofs.lemmas.Bool.Decides.{eqb_tells}
 use Rattle.desk.specs.Desk.{Snapshot}
 use Rattle.rounds.specs.Lines.{Heard, IsTold, LineView, Said, Speaks, Stands, with_said}
-use Rattle.rounds.specs.Rounds.{Apart, AreSaid, AtEach, HasTurnAt, InRound, IsAt, IsForgotten, IsNowhere, IsSameSeat, IsShown, SameAt, heard_with, said_on}
+use Rattle.rounds.specs.Rounds.{Apart, AreSaid, AtEach, HasTurnAt, InRound, IsAt, IsForgotten, IsNowhere, IsSameSeat,
+    IsShown, SameAt, heard_with, said_on}
 use Rattle.rounds.proofs.Lists.{all_set, each_at, each_from, each_set, get_other, get_set}
 use Rattle.rounds.proofs.Saying.{on_other, on_same, said_more}
 
@@ -55,7 +57,8 @@ module _ {S P T : Type 0} where
       by (Some w, is, same) = (w, is, same)
 
   -- who is nowhere now was nowhere before
-  pub nowhere_before : (lines : List (Option (LineView S P T))) (p n : ℕ) (v w : Option (LineView S P T)) → slice_get lines p ≡ Some v
+  pub nowhere_before : (lines : List (Option (LineView S P T))) (p n : ℕ) (v w : Option (LineView S P T))
+      → slice_get lines p ≡ Some v
       → SameAt v w → IsNowhere (set lines p w) n → IsNowhere lines n
   nowhere_before lines p n v w at_p same none q x at_q here = by (eqb_tells q p)
     where
@@ -78,7 +81,8 @@ module _ {S P T : Type 0} where
 
   -- those at the places now were there before, under their numbers
   pub apart_by : (old new : List (Option (LineView S P T)))
-      → ((p : ℕ) (v : LineView S P T) → IsAt new p v → (u : LineView S P T) × IsAt old p u × (u.connection ≡ v.connection)) → Apart old → Apart new
+      → ((p : ℕ) (v : LineView S P T) → IsAt new p v
+          → (u : LineView S P T) × IsAt old p u × (u.connection ≡ v.connection)) → Apart old → Apart new
   apart_by old new before apart p q v w at_p at_q same =
       let (x, x_at, x_same) = before p v at_p in
       let (y, y_at, y_same) = before q w at_q in
@@ -88,7 +92,8 @@ module _ {S P T : Type 0} where
 
 module _ {S P T Q A : Type 0} (g : Speaks S P T Q A) where
   -- a turn leaves who is at the place
-  pub turn_seat : (is_answered : Bool) (v w : Option (LineView S P T)) (mid now : Snapshot) → HasTurnAt g is_answered v w mid now → SameAt v w
+  pub turn_seat : (is_answered : Bool) (v w : Option (LineView S P T)) (mid now : Snapshot)
+      → HasTurnAt g is_answered v w mid now → SameAt v w
   turn_seat is_answered None None mid now h = tt
   turn_seat is_answered None (Some w) mid now h = absurd h
   turn_seat is_answered (Some v) None mid now h = absurd h
@@ -103,7 +108,8 @@ module _ {S P T Q A : Type 0} (g : Speaks S P T Q A) where
       said = round.said;
       are_said = subst (λ (s : Snapshot). AreSaid g.language start round.said s) (sym still) round.are_said;
       apart = apart_after lines (set lines p w) (each_set SameAt seat_still lines p was w at_p same) round.apart;
-      stand = λ q v e. all_set (λ r (o : Option (LineView S P T)). (v : LineView S P T) → o ≡ Some v → Stands g v (heard v.connection) (said_on v.connection round.said))
+      stand = λ q v e. all_set (λ r (o : Option (LineView S P T)).
+          (v : LineView S P T) → o ≡ Some v → Stands g v (heard v.connection) (said_on v.connection round.said))
           lines p w here (λ r o other is v e. round.stand r v (is ∙ ap Some e)) q (Some v) e v refl;
       told = round.told;
       only = λ n none. round.only n (nowhere_before lines p n was w at_p same none);
@@ -113,7 +119,8 @@ module _ {S P T Q A : Type 0} (g : Speaks S P T Q A) where
     one_more : (v w : LineView S P T) → IsAt lines p v → IsSameSeat v w → (s : Said Q A) → s.connection ≡ v.connection
         → g.language.answers mid s.question s.kind s.answer now
         → IsTold g.language (with_said (heard v.connection) (said_on v.connection round.said ++ s ∷ []))
-        → Stands g w (heard v.connection) (said_on v.connection round.said ++ s ∷ []) → InRound g start now (set lines p (Some w)) heard
+        → Stands g w (heard v.connection) (said_on v.connection round.said ++ s ∷ [])
+        → InRound g start now (set lines p (Some w)) heard
     one_more v w at_p same s is answers told stands =
         let n = v.connection in
         let said = round.said ++ s ∷ [] in
@@ -122,7 +129,8 @@ module _ {S P T Q A : Type 0} (g : Speaks S P T Q A) where
           said = said;
           are_said = said_more g.language round.said s start mid now round.are_said answers;
           apart = apart_after lines (set lines p (Some w)) seats round.apart;
-          stand = λ q x e. all_set (λ r (o : Option (LineView S P T)). (x : LineView S P T) → o ≡ Some x → Stands g x (heard x.connection) (said_on x.connection said))
+          stand = λ q x e. all_set (λ r (o : Option (LineView S P T)).
+              (x : LineView S P T) → o ≡ Some x → Stands g x (heard x.connection) (said_on x.connection said))
               lines p (Some w)
               (λ x e. let same_x : w ≡ x = cc in
               subst (λ (x : LineView S P T). Stands g x (heard x.connection) (said_on x.connection said)) same_x
@@ -140,17 +148,21 @@ module _ {S P T Q A : Type 0} (g : Speaks S P T Q A) where
               on_other m round.said s (λ here. was p v at_p (sym is ∙ here)) ∙ round.only m was;
         }
       where
-        by : (m : ℕ) → IsTold g.language (heard m) → ((nat_eq m v.connection ≡ true) × (m ≡ v.connection)) ⊎ ((nat_eq m v.connection ≡ false) × (m ≢ v.connection))
+        by : (m : ℕ) → IsTold g.language (heard m)
+            → ((nat_eq m v.connection ≡ true) × (m ≡ v.connection))
+                ⊎ ((nat_eq m v.connection ≡ false) × (m ≢ v.connection))
             → IsTold g.language (heard_with heard (round.said ++ s ∷ []) m)
         by m before (inl (_, here)) =
             subst (λ (m : ℕ). IsTold g.language (heard_with heard (round.said ++ s ∷ []) m)) (sym here)
-            (subst (λ (xs : List (Said Q A)). IsTold g.language (with_said (heard v.connection) xs)) (sym (on_same v.connection round.said s is)) told)
+            (subst (λ (xs : List (Said Q A)). IsTold g.language (with_said (heard v.connection) xs))
+                (sym (on_same v.connection round.said s is)) told)
         by m before (inr (_, other)) =
             subst (λ (xs : List (Said Q A)). IsTold g.language (with_said (heard m) xs))
             (sym (on_other m round.said s (λ here. other (sym here ∙ is)))) (round.told m before)
 
     -- a place has its turn
-    pub turn_more : (is_answered : Bool) (v w : Option (LineView S P T)) → slice_get lines p ≡ Some v → HasTurnAt g is_answered v w mid now
+    pub turn_more : (is_answered : Bool) (v w : Option (LineView S P T)) → slice_get lines p ≡ Some v
+        → HasTurnAt g is_answered v w mid now
         → InRound g start now (set lines p w) heard
     turn_more is_answered None None at_p (none, still) = none_more still None None at_p tt (λ v e. absurd (cc))
     turn_more is_answered None (Some w) at_p h = absurd h

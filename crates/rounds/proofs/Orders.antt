@@ -1,5 +1,6 @@
 -- The rounds of a history are one order.
-use Rattle.std.proofs.Common.{Option, None, Some, ◌≡◌, ◌≢◌, ◌⊎◌, ◌∙◌, ◌++◌, ℕ, true, false, List, [], ap, append-nil, append_assoc, inl, inr, map, refl, subst, sym}
+use Rattle.std.proofs.Common.{Option, None, Some, ◌≡◌, ◌≢◌, ◌⊎◌, ◌∙◌, ◌++◌, ℕ, true, false, List, [], ap, append-nil,
+    append_assoc, inl, inr, map, refl, subst, sym}
 use Rattle.std.specs.Prelude.{nat_eq}
 use Rattle.std.proofs.lemmas.Bool.Decides.{eqb_tells}
 use Rattle.std.proofs.lemmas.List.{map-append}
@@ -67,7 +68,8 @@ module _ {Q A T : Type 0} (part : Heard Q A → List T) (of : Said Q A → T)
     (bytes : (h : Heard Q A) (more : List ℕ) → part (with_written h more) ≡ part h)
     (none : part unheard ≡ []) where
   -- what is known of one, or of another with the same part
-  part_at : (n c : ℕ) (h : Heard Q A) (heard : ℕ → Heard Q A) → part h ≡ part (heard c) → part (heard_on c h heard n) ≡ part (heard n)
+  part_at : (n c : ℕ) (h : Heard Q A) (heard : ℕ → Heard Q A) → part h ≡ part (heard c)
+      → part (heard_on c h heard n) ≡ part (heard n)
   part_at n c h heard same = by (eqb_tells n c)
     where
       by : ((nat_eq n c ≡ true) × (n ≡ c)) ⊎ ((nat_eq n c ≡ false) × (n ≢ c)) → part (heard_on c h heard n) ≡ part (heard n)
@@ -78,16 +80,20 @@ module _ {Q A T : Type 0} (part : Heard Q A → List T) (of : Said Q A → T)
   pub part_grows : (history : History Q A) (n : ℕ) → part (heard_in history n) ≡ map of (said_on n (order_of history))
   part_grows begun n = none
   part_grows (came history c piece) n =
-      part_at n c (with_piece (heard_in history c) piece) (heard_in history) (pieces (heard_in history c) piece) ∙ part_grows history n
+      part_at n c (with_piece (heard_in history c) piece) (heard_in history) (pieces (heard_in history c) piece)
+      ∙ part_grows history n
   part_grows (wrote history c more) n =
-      part_at n c (with_written (heard_in history c) more) (heard_in history) (bytes (heard_in history c) more) ∙ part_grows history n
+      part_at n c (with_written (heard_in history c) more) (heard_in history) (bytes (heard_in history c) more)
+      ∙ part_grows history n
   part_grows (kept history said) n =
       on (heard_in history n) (said_on n said) ∙ ap (λ (xs : List T). xs ++ map of (said_on n said)) (part_grows history n)
-      ∙ sym (map-append of (said_on n (order_of history)) (said_on n said)) ∙ ap (map of) (sym (on_joined n (order_of history) said))
+      ∙ sym (map-append of (said_on n (order_of history)) (said_on n said))
+      ∙ ap (map of) (sym (on_joined n (order_of history) said))
   part_grows (lost history untold) n = part_grows history n
 
 module _ {Q A : Type 0} where
-  pub questions_grow : (history : History Q A) (n : ℕ) → (heard_in history n).questions ≡ questions_of (said_on n (order_of history))
+  pub questions_grow : (history : History Q A) (n : ℕ)
+      → (heard_in history n).questions ≡ questions_of (said_on n (order_of history))
   questions_grow = part_grows (λ h. h.questions) (λ s. s.question) (λ h said. refl) (λ h piece. refl) (λ h more. refl) refl
 
   pub answers_grow : (history : History Q A) (n : ℕ) → (heard_in history n).answers ≡ answers_of (said_on n (order_of history))

@@ -10,7 +10,8 @@ module _ {K : Type 0} where
   kept_behind old new (inl e) = ap (λ d. d.keep.keep) e
   kept_behind old new (inr e) = e
 
-  pub off_so : (old new : DeskView (DeferredView K)) → StaysSet (λ a b. b.keep ≡ a.keep) old new → (old.keep.stopped ≡ true → new ≡ old)
+  pub off_so : (old new : DeskView (DeferredView K)) → StaysSet (λ a b. b.keep ≡ a.keep) old new
+      → (old.keep.stopped ≡ true → new ≡ old)
       → OnlyPutsOff old new
   off_so old new set untouched = record { keep = kept_behind old new set; untouched = untouched }
 
@@ -25,7 +26,8 @@ module _ {K : Type 0} where
   }
 
   -- a desk in whose round something was put off was not stopped before
-  pub going_before : (old mid : DeskView (DeferredView K)) (was : Bool) → was ≡ old.keep.stopped → OnlyPutsOff old mid → old.keep.changes ≡ []
+  pub going_before : (old mid : DeskView (DeferredView K)) (was : Bool) → was ≡ old.keep.stopped → OnlyPutsOff old mid
+      → old.keep.changes ≡ []
       → (was ≡ true → mid.keep.changes ≢ []) → old.keep.stopped ≡ false
   going_before old mid was is off settled some = not_true old.keep.stopped (λ halted.
       some (is ∙ halted) (ap (λ d. d.keep.changes) (off.untouched halted) ∙ settled))

@@ -6,8 +6,8 @@ use Rattle.rounds.specs.Lines.{LineView, Speaks}
 use Rattle.rounds.specs.Rounds.{Loss}
 use Rattle.rounds.specs.declared.crowd.Crowd.{Ghosts as Crowd}
 
--- What connections come to: one that may come, and one that is closed as it stands, each with the crowd after that; and what
--- the crowd may be after it was waited for.
+-- A crowd, as a service sees it: which connection may come, and which is closed as it stands, each with the crowd
+-- after that; and what the crowd may be after a wait.
 pub record Listening (C T : Type 0) : Type 1 where
   pub comes : C → T → C → Type 0
   pub closes : C → T → C → Type 0
@@ -16,12 +16,12 @@ pub record Listening (C T : Type 0) : Type 1 where
 abbrev pub listening : {C T : Type 0} → (C → T → C → Type 0) → (C → T → C → Type 0) → (C → C → Type 0) → Listening C T
 listening comes closes waits = record { comes = comes; closes = closes; waits = waits }
 
--- so connections come to a kind of crowd
+-- how connections come to a crowd of some kind
 abbrev pub listening_to : {C T : Type 0} → Crowd C T → Listening C T
 listening_to c = record { comes = c.comes; closes = c.closes; waits = c.waits }
 
--- Who came and left: nobody yet; or behind that one came; or that one of this number, which had come so, was closed as it
--- stood; or it was waited.
+-- Who came and left: nobody yet; or then this connection came; or then the connection of this number, which had come
+-- as the first stream, was closed as the second; or then there was a wait.
 pub data Doors (T : Type 0) : Type 0 where
   unopened : Doors T
   entered : Doors T → T → Doors T
@@ -34,7 +34,7 @@ visits_in (entered doors stream) = visits_in doors ++ visit_of stream ∷ []
 visits_in (closed doors connection first last) = set (visits_in doors) connection (record { came = first; left = Some last })
 visits_in (waited doors) = visits_in doors
 
--- so they came to the crowd, and left it, from there to here
+-- the crowd went from `old` to `new` as these connections came and left
 abbrev pub Pass : {C T : Type 0} → Listening C T → C → Doors T → C → Type 0
 Pass c old unopened new = new ≡ old
 Pass {C = C} c old (entered doors stream) new = (mid : C) × Pass c old doors mid × c.comes mid stream new
@@ -47,7 +47,8 @@ pub record HubView (C V : Type 0) : Type 0 where
   pub crowd : C
   pub places : PlacesView V
 
--- A service stands so: these came to the crowd and left it, and the places stand behind a history of them.
+-- How a service stands: these connections came to the crowd and left it, and the places stand behind a history of
+-- them.
 pub record IsServing {C S P T Q A : Type 0} (g : Speaks S P T Q A) (c : Listening C T) (first : C) (loss : Option Loss)
     (start now : Snapshot) (hub : HubView C (LineView S P T)) : Type 0 where
   pub doors : Doors T

@@ -6,8 +6,9 @@ use Rattle.desk.specs.Dialogue.{Language}
 use Rattle.rounds.specs.Lines.{Heard, IsTold, LineView, Said, Speaks, Stands, unheard, with_piece, with_written}
 use Rattle.rounds.specs.Rounds.{Apart, AreSaid, IsAt, Loss, heard_on, heard_with, lost_between, stopped_at}
 
--- A history is none yet; or behind another a piece has come on a connection, which is its end where it has no bytes; or so
--- much was written on one; or a round was kept, in which this was said; or one was lost, of which this is not told.
+-- A history. Nothing has happened yet; or behind another history a piece has come on a connection, and one without
+-- bytes is the end of what comes; or these bytes were written on a connection; or a round was kept, in which this was
+-- said; or a round was lost, and what was said in it is not told.
 pub data History (Q A : Type 0) : Type 0 where
   begun : History Q A
   came : History Q A → ℕ → List ℕ → History Q A
@@ -15,7 +16,7 @@ pub data History (Q A : Type 0) : Type 0 where
   kept : History Q A → List (Said Q A) → History Q A
   lost : History Q A → List (Said Q A) → History Q A
 
--- what is known of each connection behind it
+-- what is known of each connection behind the history
 abbrev pub heard_in : {Q A : Type 0} → History Q A → ℕ → Heard Q A
 heard_in begun = λ connection. unheard
 heard_in (came history connection piece) =
@@ -33,8 +34,8 @@ order_of (wrote history connection bytes) = order_of history
 order_of (kept history said) = order_of history ++ said
 order_of (lost history untold) = order_of history
 
--- Its rounds lead the desk from there to here. At most one of them is lost, of which `loss` tells: it stops the desk, at the
--- ledger to which what is not told leads; and a stopped desk stays as it is.
+-- The rounds of the history lead the desk from `start` to `now`. At most one of them is lost, and `loss` has its
+-- ledgers: it stops the desk, at the ledger to which what is not told leads. A stopped desk stays as it is.
 abbrev pub AreRounds : {Q A : Type 0} → Language Q A → Option Loss → Snapshot → History Q A → Snapshot → Type 0
 AreRounds L loss start begun now = (now ≡ start) × (loss ≡ None)
 AreRounds L loss start (came history connection piece) now = AreRounds L loss start history now
@@ -52,11 +53,11 @@ pub record Visit (T : Type 0) : Type 0 where
   pub came : T
   pub left : Option T
 
--- one that is there
+-- a connection that has not left
 abbrev pub visit_of : {T : Type 0} → T → Visit T
 visit_of stream = record { came = stream; left = None }
 
--- what is known of a connection was read from its stream, and written to it
+-- what is known of a connection was read from its stream and written to it
 pub record IsHeardBy {T Q A : Type 0} (remaining contents : T → Option (List ℕ)) (first last : T) (h : Heard Q A)
     : Type 0 where
   pub reads : Consumes (remaining first) (remaining last) h.read
@@ -78,8 +79,9 @@ pub record PlacesView (V : Type 0) : Type 0 where
   pub lines : List (Option V)
   pub connections : ℕ
 
--- The places stand behind a history, whose rounds led the desk from there to here. Each connection that came was heard on its
--- stream alone, and is told its answers in their order; just those that have not left are there, at a place each.
+-- The places stand behind a history, whose rounds led the desk from `start` to `now`. Each connection that came was
+-- heard on its own stream alone, and is told its answers in their order. Exactly those that have not left are there,
+-- each at a place.
 pub record IsReached {S P T Q A : Type 0} (g : Speaks S P T Q A) (loss : Option Loss) (start now : Snapshot)
     (visits : List (Visit T))
     (places : PlacesView (LineView S P T)) : Type 0 where

@@ -6,10 +6,10 @@ use Rattle.rounds.specs.declared.stream.Stream.{Ghosts as Stream}
 use Rattle.rounds.specs.declared.phase.Phase.{Phase}
 use Rattle.rounds.specs.declared.phase.Phase.TheVariants.{Gone, Over, Wants}
 
--- A connection at its place, as contracts see it. What holds its dialogue is of type `S`, a question as it is held of type
--- `P`, and its stream of type `T`. The connections have numbers from 0, in the order in which they came. Some questions are
--- answered in this round, and their answers are hidden until they are kept; others wait for theirs. The output is what is
--- to be written.
+-- A connection at its place, as contracts see it. Its dialogue has the type `S`, a question as the program holds it
+-- the type `P`, and its stream the type `T`. The connections have numbers from 0, in the order in which they came.
+-- Some questions are answered in this round, and their answers are hidden until they are kept; others wait for their
+-- answers. The output is what is to be written.
 pub record LineView (S P T : Type 0) : Type 0 where
   pub dialogue : S
   pub stream : T
@@ -37,7 +37,7 @@ unheard = record { read = []; has_ended = false; questions = []; answers = []; w
 abbrev pub with_piece : {Q A : Type 0} → Heard Q A → List ℕ → Heard Q A
 with_piece h piece = record h { read = h.read ++ piece; has_ended = is_end piece }
 
--- so much more is written
+-- these bytes more are written
 abbrev pub with_written : {Q A : Type 0} → Heard Q A → List ℕ → Heard Q A
 with_written h bytes = record h { written = h.written ++ bytes }
 
@@ -58,7 +58,7 @@ answers_of said = map (λ s. s.answer) said
 abbrev pub with_said : {Q A : Type 0} → Heard Q A → List (Said Q A) → Heard Q A
 with_said h said = record h { questions = h.questions ++ questions_of said; answers = h.answers ++ answers_of said }
 
--- these questions, as they are held, ask for those, one by one
+-- these questions, as the program holds them, are those of the language, one by one
 abbrev pub Ask : {P Q : Type 0} → (P → Q → Type 0) → List P → List Q → Type 0
 Ask asks [] [] = Unit {0}
 Ask asks (p ∷ held) (q ∷ questions) = asks p q × Ask asks held questions
@@ -72,7 +72,7 @@ pub record Speaks (S P T Q A : Type 0) : Type 1 where
   pub remaining : T → Option (List ℕ)
   pub contents : T → Option (List ℕ)
 
--- so a kind of dialogue speaks over a kind of stream
+-- how a kind of dialogue speaks over a kind of stream
 abbrev pub speaks : {S P T : Type 0} → (d : Dialogue S P) → Stream T → Speaks S P T d.Asked d.Told
 speaks d s = record {
   language = d.language;
@@ -82,16 +82,17 @@ speaks d s = record {
   contents = s.contents;
 }
 
--- Of a connection, whether it is still there or not: its questions are the first ones of what has come, whatever comes
--- behind that, and what is written is a beginning of the texts of their answers.
+-- What holds for a connection, whether it is still there or not: the answered questions are the first ones of what
+-- has come, whatever comes behind that; and what is written is a beginning of the texts of their answers.
 pub record IsTold {Q A : Type 0} (L : Language Q A) (h : Heard Q A) : Type 0 where
   pub first : (more : List ℕ) → (h.has_ended ≡ true → more ≡ []) → Begins L (h.read ++ more) h.questions
   pub unwritten : List ℕ
   pub text : text_of L h.answers ≡ h.written ++ unwritten
 
--- How a connection stands, of which so much is known and this was said in this round: what was found are the questions that
--- are answered, those said now and those that wait; what is written, with the output, is the texts of the answers; and what
--- is hidden is the texts of those said now. No question waits where more bytes are wanted, or it is over.
+-- How a connection stands, where h is known of it and this was said in this round. The questions that were found are
+-- those answered before, those answered now, and those that wait. What is written and the output are together the
+-- texts of the answers; what is hidden is the texts of the answers given now. No question waits where more bytes are
+-- wanted, or where the dialogue is over.
 pub record IsHeard {S P T Q A : Type 0} (g : Speaks S P T Q A) (v : LineView S P T) (h : Heard Q A)
     (said : List (Said Q A)) : Type 0 where
   pub waiting : List Q
@@ -106,6 +107,6 @@ pub record IsHeard {S P T Q A : Type 0} (g : Speaks S P T Q A) (v : LineView S P
   pub over : v.phase ≡ Over → (waiting ≡ []) × g.language.are_questions h.read (h.questions ++ questions_of said)
       × g.language.ends h.has_ended (h.questions ++ questions_of said)
 
--- it stands so, or memory was refused for it
+-- the connection stands so, or memory was refused for it
 abbrev pub Stands : {S P T Q A : Type 0} → Speaks S P T Q A → LineView S P T → Heard Q A → List (Said Q A) → Type 0
 Stands g v h said = v.phase ≢ Gone → IsHeard g v h said

@@ -1,5 +1,6 @@
 -- Rounds: one order of the questions of all connections.
-use Rattle.std.specs.Prelude.{◌≡◌, ◌≢◌, ◌<◌, ◌≤◌, ◌⊎◌, Bool, false, true, ℕ, List, [], ◌∷◌, ◌++◌, Option, None, Some, Result, Err, Ok, if◌then◌else◌, length, nat_eq, slice_get, slice_index_or, take}
+use Rattle.std.specs.Prelude.{◌≡◌, ◌≢◌, ◌<◌, ◌≤◌, ◌⊎◌, Bool, false, true, ℕ, List, [], ◌∷◌, ◌++◌, Option, None, Some,
+    Result, Err, Ok, if◌then◌else◌, length, nat_eq, slice_get, slice_index_or, take}
 use Rattle.std.specs.Io.KnownBytes.{Appends, Consumes, Keeps}
 use Rattle.ledger.specs.Good.{Good}
 use Rattle.ledger.specs.Ledger.{Ledger}
@@ -13,7 +14,8 @@ use Rattle.rounds.specs.declared.standing.Standing.{Standing}
 use Rattle.rounds.specs.declared.standing.Standing.TheVariants.{Asks, Free, Over, Reads, Writes}
 use Rattle.rounds.specs.Lines.{Heard, IsHeard, IsTold, LineView, Said, Speaks, Stands, with_piece, with_said, with_written}
 
--- These are the answers of the language to the questions, whoever asked them, one behind the other, and the desk behind them.
+-- The answers are those of the language to the questions, one after the other, whoever asked them; and this is the
+-- desk behind them.
 abbrev pub AreSaid : {Q A : Type 0} → Language Q A → Snapshot → List (Said Q A) → Snapshot → Type 0
 AreSaid L old [] new = new ≡ old
 AreSaid L old (s ∷ said) new =
@@ -25,15 +27,15 @@ said_on connection [] = []
 said_on connection (s ∷ said) =
     if nat_eq s.connection connection then s ∷ said_on connection said else said_on connection said
 
--- what is known of each connection, where this is known of one
+-- what is known of each connection, with h as what is known of this one
 abbrev pub heard_on : {Q A : Type 0} → ℕ → Heard Q A → (ℕ → Heard Q A) → ℕ → Heard Q A
 heard_on connection h heard other = if nat_eq other connection then h else heard other
 
--- what is known of each connection once so much more was said
+-- what is known of each connection once this was said, too
 abbrev pub heard_with : {Q A : Type 0} → (ℕ → Heard Q A) → List (Said Q A) → ℕ → Heard Q A
 heard_with heard said connection = with_said (heard connection) (said_on connection said)
 
--- the desk that is stopped at that ledger
+-- a desk that is stopped at that ledger
 abbrev pub stopped_at : Ledger → Snapshot
 stopped_at ledger = record { ledger = ledger; is_stopped = true }
 
@@ -45,8 +47,8 @@ pub record Loss : Type 0 where
 abbrev pub lost_between : Snapshot → Snapshot → Loss
 lost_between mid last = record { before = mid.ledger; behind = last.ledger }
 
--- A round of which nothing is told has stopped the desk. What was said before it is one order of questions; what is said
--- behind it is said of the stopped desk, which stays as it is. `loss` tells of it.
+-- A round has stopped the desk, and nothing of that round is told. What was said before it is one order of questions;
+-- what is said behind it comes from the stopped desk, which stays as it is. `loss` has the ledgers of the round.
 pub record IsCutOnce {Q A : Type 0} (L : Language Q A) (loss : Loss) (old : Snapshot) (said : List (Said Q A))
     (new : Snapshot) : Type 0 where
   pub before : List (Said Q A)
@@ -88,7 +90,7 @@ abbrev pub Apart : {S P T : Type 0} → List (Option (LineView S P T)) → Type 
 Apart {S = S} {P = P} {T = T} places = (p q : ℕ) (v w : LineView S P T) → IsAt places p v → IsAt places q w
     → v.connection ≡ w.connection → p ≡ q
 
--- A desk whose commits are put off: the keeper behind it is left as it was, and a stopped desk is.
+-- On a desk whose commits are put off, the keeper behind it stays as it was; and a stopped desk stays so, too.
 pub record OnlyPutsOff {K : Type 0} (old new : DeskView (DeferredView K)) : Type 0 where
   pub keep : new.keep.keep ≡ old.keep.keep
   pub untouched : old.keep.stopped ≡ true → new ≡ old
@@ -97,8 +99,8 @@ pub record OnlyPutsOff {K : Type 0} (old new : DeskView (DeferredView K)) : Type
 abbrev pub IsSameSeat : {S P T : Type 0} → LineView S P T → LineView S P T → Type 0
 IsSameSeat v w = (w.connection ≡ v.connection) × (w.stream ≡ v.stream)
 
--- A connection of which so much is known and was said in this round has its turn. Nothing is answered, and the desk stays; or a
--- question is.
+-- A connection has its turn, where h is known of it and this was said in this round: nothing is answered, and the
+-- desk stays; or one question is answered.
 abbrev pub HasTurn : {S P T Q A : Type 0} → Speaks S P T Q A → (is_answered : Bool) → (v w : LineView S P T)
     → (old new : Snapshot) → Heard Q A → List (Said Q A) → Type 0
 HasTurn g false v w old new h said = (new ≡ old) × Stands g w h said
@@ -106,7 +108,7 @@ HasTurn {Q = Q} {A = A} g true v w old new h said = (s : Said Q A) × (s.connect
     × g.language.answers old s.question s.kind s.answer new
     × IsTold g.language (with_said h (said ++ s ∷ [])) × Stands g w h (said ++ s ∷ [])
 
--- a place has its turn, at which somebody is or not
+-- a place has its turn, whether somebody is there or not
 abbrev pub HasTurnAt : {S P T Q A : Type 0} → Speaks S P T Q A → (is_answered : Bool) → (v w : Option (LineView S P T))
     → (old new : Snapshot) → Type 0
 HasTurnAt g is_answered None None old new = (is_answered ≡ false) × (new ≡ old)
@@ -114,19 +116,19 @@ HasTurnAt {Q = Q} {A = A} g is_answered (Some v) (Some w) old new = IsSameSeat v
     × ((h : Heard Q A) (said : List (Said Q A)) → Stands g v h said → HasTurn g is_answered v w old new h said)
 HasTurnAt g is_answered _ _ old new = ⊥
 
--- so at each place
+-- at each place this holds between what was there before and what is there after
 abbrev pub AtEach : {V : Type 0} → (Option V → Option V → Type 0) → List (Option V) → List (Option V) → Type 0
 AtEach at [] [] = Unit {0}
 AtEach at (v ∷ old) (w ∷ new) = at v w × AtEach at old new
 AtEach at _ _ = ⊥
 
--- the same connection is at the place, or nobody
+-- the same connection is at the place as before, or nobody, as before
 abbrev pub SameAt : {S P T : Type 0} → (v w : Option (LineView S P T)) → Type 0
 SameAt None None = Unit {0}
 SameAt (Some v) (Some w) = IsSameSeat v w
 SameAt _ _ = ⊥
 
--- So much was said in this round, whatever was known of the connections before it, and each stands so.
+-- Within a round: this was said in it, whatever was known of the connections before it, and each stands behind that.
 pub record InRound {S P T Q A : Type 0} (g : Speaks S P T Q A) (old now : Snapshot) (places : List (Option (LineView S P T)))
     (heard : ℕ → Heard Q A) : Type 0 where
   pub said : List (Said Q A)
@@ -137,14 +139,14 @@ pub record InRound {S P T Q A : Type 0} (g : Speaks S P T Q A) (old now : Snapsh
   pub told : (connection : ℕ) → IsTold g.language (heard connection) → IsTold g.language (heard_with heard said connection)
   pub only : (connection : ℕ) → IsNowhere places connection → said_on connection said ≡ []
 
--- what was said is known of the connection at the place, if there is one
+-- what was said becomes known of the connection at the place, if there is one
 abbrev pub IsShown : {S P T Q A : Type 0} → Speaks S P T Q A → (v w : Option (LineView S P T)) → Type 0
 IsShown g None None = Unit {0}
 IsShown {Q = Q} {A = A} g (Some v) (Some w) = IsSameSeat v w
     × ((h : Heard Q A) (said : List (Said Q A)) → Stands g v h said → Stands g w (with_said h said) [])
 IsShown g _ _ = ⊥
 
--- nothing that was said is known of it
+-- nothing of what was said becomes known of the connection at the place, if there is one
 abbrev pub IsForgotten : {S P T Q A : Type 0} → Speaks S P T Q A → (v w : Option (LineView S P T)) → Type 0
 IsForgotten g None None = Unit {0}
 IsForgotten {Q = Q} {A = A} g (Some v) (Some w) = IsSameSeat v w
@@ -153,12 +155,12 @@ IsForgotten g _ _ = ⊥
 
 -- ---- how a place stands
 
--- something is to be written first
+-- `Writes` where something is to be written, and else as given
 abbrev pub unless_written : List ℕ → Standing → Standing
 unless_written [] standing = standing
 unless_written (byte ∷ bytes) standing = Writes
 
--- with an output that is to be written, in that phase
+-- how a place stands in that phase, with that output to be written
 abbrev pub standing_in : Phase → List ℕ → Standing
 standing_in phase.Wants output = unless_written output Reads
 standing_in phase.Asks output = unless_written output Asks
@@ -196,7 +198,7 @@ pub record HasCome {S P T Q A : Type 0} (g : Speaks S P T Q A) (v w : LineView S
   pub writes : Keeps (g.contents v.stream) (g.contents w.stream)
   pub stands : (h : Heard Q A) → IsHeard g v h [] → Stands g w (with_piece h piece) []
 
--- these bytes of its output were written
+-- these bytes of the connection's output were written
 pub record HasWritten {S P T Q A : Type 0} (g : Speaks S P T Q A) (v w : LineView S P T) (bytes : List ℕ) : Type 0 where
   pub connection : w.connection ≡ v.connection
   pub reads : Keeps (g.remaining v.stream) (g.remaining w.stream)
@@ -204,14 +206,15 @@ pub record HasWritten {S P T Q A : Type 0} (g : Speaks S P T Q A) (v w : LineVie
   pub output : v.output ≡ bytes ++ w.output
   pub stands : (h : Heard Q A) → IsHeard g v h [] → IsHeard g w (with_written h bytes) []
 
--- its stream has failed: nothing has come, and nothing was written
+-- the connection's stream has failed: nothing has come, and nothing was written
 pub record HasFailed {S P T Q A : Type 0} (g : Speaks S P T Q A) (v w : LineView S P T) : Type 0 where
   pub connection : w.connection ≡ v.connection
   pub reads : Keeps (g.remaining v.stream) (g.remaining w.stream)
   pub writes : Keeps (g.contents v.stream) (g.contents w.stream)
   pub stands : (h : Heard Q A) → IsHeard g v h [] → IsHeard g w h []
 
--- A place is read, where more is wanted there: so many bytes have come, or that failed. Elsewhere it stays.
+-- A read at a place. Where more is wanted there, so many bytes have come, or the read failed; else the place stays as
+-- it was.
 abbrev pub IsRead : {S P T Q A E : Type 0} → Speaks S P T Q A → Result (Option ℕ) E → (piece : List ℕ)
     → (v w : Option (LineView S P T)) → Type 0
 IsRead g (Ok None) piece v w = (standing_at v ≢ Reads) × (w ≡ v)
@@ -220,7 +223,8 @@ IsRead g (Ok (Some count)) piece (Some v) (Some w) = (standing_of v ≡ Reads) �
 IsRead g (Err error) piece (Some v) (Some w) = (standing_of v ≡ Reads) × HasFailed g v w
 IsRead g _ _ _ _ = ⊥
 
--- A place is written to, where something is to be written there: so many bytes of that were, or that failed. Elsewhere it stays.
+-- A write at a place. Where something is to be written there, so many bytes of it were written, or the write failed;
+-- else the place stays as it was.
 abbrev pub IsWritten : {S P T Q A E : Type 0} → Speaks S P T Q A → Result (Option ℕ) E → (v w : Option (LineView S P T))
     → Type 0
 IsWritten g (Ok None) v w = (standing_at v ≢ Writes) × (w ≡ v)
@@ -231,8 +235,9 @@ IsWritten g _ _ _ = ⊥
 
 -- ---- what a lost round leaves
 
--- What was put off could not be kept, which has stopped the keeper: a stop leaves the rows of the ledger before it, or those of
--- the ledger behind it. Or memory was refused before the keeper was asked: it goes on, and holds the rows before.
+-- What a lost round leaves. What was put off could not be kept, and that has stopped the keeper: a stop leaves the
+-- rows of the ledger before the round, or those of the ledger behind it. Or memory was refused before the keeper was
+-- asked: it goes on, and holds the rows before the round.
 abbrev pub IsLeftBy : {K : Type 0} → Ghosts K → K → Loss → Type 0
 IsLeftBy g keep loss =
     ((g.stopped keep ≡ true) × (g.is_honest keep → LeavesEither (g.leaves keep) loss.before loss.behind))

@@ -1,4 +1,4 @@
--- A service of rounds: what is so of the desk and of those that come, from its begin to its end.
+-- A service in rounds: what holds for the desk and for those who come, from the beginning of the service to its end.
 use Rattle.std.specs.Prelude.{◌≡◌, ◌<◌, ◌≤◌, false, true, ℕ, List, [], Option, Some, length, slice_get}
 use Rattle.keep.specs.declared.keep.Keep.{Ghosts}
 use Rattle.desk.specs.Deferred.{DeferredView, snapshot_off}
@@ -9,23 +9,25 @@ use Rattle.rounds.specs.Histories.{AreRounds, History, IsHeardBy, Visit, heard_i
 use Rattle.rounds.specs.Lines.{IsTold, LineView, Speaks, unheard}
 use Rattle.rounds.specs.Rounds.{IsLeftBy, Loss}
 
--- What is kept of a desk whose commits are put off, between rounds: nothing is put off; while it goes on the rows of its ledger
--- are stored behind it. Where a round that was lost has stopped it, a stop leaves the rows before that round or those behind it.
+-- How a desk whose commits are put off stands between rounds. Nothing is put off; while the desk goes on, the rows of
+-- its ledger are stored behind it. Where a lost round has stopped the desk, a stop leaves the rows before that round
+-- or those behind it.
 pub record IsKept {K : Type 0} (k : Ghosts K) (loss : Option Loss) (desk : DeskView (DeferredView K)) : Type 0 where
   pub settled : desk.keep.changes ≡ []
   pub stored : desk.keep.stopped ≡ false → k.is_honest desk.keep.keep
       → IsStored (k.holds desk.keep.keep) (k.leaves desk.keep.keep) desk.ledger
   pub left : desk.keep.stopped ≡ true → (l : Loss) × (loss ≡ Some l) × IsLeftBy k desk.keep.keep l
 
--- a service in between
+-- a service between two of its steps
 pub record InService {K C S P T Q A : Type 0} (g : Speaks S P T Q A) (c : Listening C T) (k : Ghosts K) (first : C)
     (start : Snapshot) (desk : DeskView (DeferredView K)) (hub : HubView C (LineView S P T)) : Type 0 where
   pub loss : Option Loss
   pub kept : IsKept k loss desk
   pub serving : IsServing g c first loss start (snapshot_off desk) hub
 
--- These connections came to the crowd and were closed again. There was one order of all their questions, in which the answers
--- led the desk from there to here; each connection was heard on its stream alone, and told its answers in their order.
+-- So many connections came to the crowd, and were closed again. All their questions have one order, in which the
+-- answers led the desk from `old` to `new`. Each connection was heard on its own stream alone, and was told its
+-- answers in their order.
 pub record HasMet {C T Q A : Type 0} (L : Language Q A) (remaining contents : T → Option (List ℕ)) (c : Listening C T)
     (loss : Option Loss) (first last : C) (count : ℕ) (old new : Snapshot) : Type 0 where
   pub doors : Doors T

@@ -3,7 +3,7 @@
 use std::io;
 use std::time::Instant;
 
-/// How many microseconds have gone by, as far as the clock tells.
+/// Returns how many microseconds have gone by, as far as the clock tells.
 pub fn micros_since(rt: &HostRuntime, begun: &io::Result<Instant>) -> u64 {
     let Ok(begun) = begun else {
         return 0;

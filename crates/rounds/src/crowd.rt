@@ -1,4 +1,4 @@
-//! What connections come to.
+//! The crowd, out of which connections come.
 
 use crate::stream::Stream;
 use std::io;
@@ -13,35 +13,35 @@ pub struct Readiness {
     pub can_write: bool,
 }
 
-/// What connections come to, and what tells which of them can be read or written.
+/// The crowd out of which connections come. It says which of them can be read or written.
 pub trait Crowd {
     ghost use Rattle.std.specs.Prelude.{IfNone, IfSome, OnErr, OnOk, length, ◌≡◌};
 
     type Stream: Stream + Drop;
 
-    // A connection that may come, and the crowd after that.
+    // This connection may come in, and this is the crowd after that.
     ghost comes: { Self → Self.Stream → Self → Type 0 };
 
-    // A connection that is closed as it stands, and the crowd after that.
+    // This connection is closed as it stands, and this is the crowd after that.
     ghost closes: { Self → Self.Stream → Self → Type 0 };
 
-    // What the crowd may be after it was waited for.
+    // This is what the crowd may be after a wait.
     ghost waits: { Self → Self → Type 0 };
 
-    /// Waits until something can be done at a place or somebody comes, at most so long; marks what can be done, place by
-    /// place. Whether anything happened.
+    /// Waits until something can be done at a place or somebody comes, but at most as long as `most` says. Marks what
+    /// can be done, place by place. Returns whether anything happened.
     fn wait(&mut self, most: Option<Duration>, ready: &mut [Readiness]) -> io::Result<bool>
         ensures waits { waits self.old self.new }
         ensures size { length ready.new ≡ length ready.old };
 
-    /// Whether somebody may wait to be let in.
+    /// Returns whether somebody may wait to be let in.
     fn may_come(&self) -> bool;
 
-    /// One that waits to be let in, if there is one.
+    /// Returns a connection that waits to be let in, if there is one.
     fn next(&mut self) -> Option<Self::Stream>
         ensures { waits self.old self.new };
 
-    /// Lets it in, to a place.
+    /// Lets a connection in, to a place.
     fn admit(&mut self, place: usize, stream: &mut Self::Stream) -> io::Result<()>
         ensures ok { OnOk result (comes self.old stream.new self.new) }
         ensures err { OnErr result (waits self.old self.new) };

@@ -19,25 +19,25 @@ use std::io;
 use std::marker::Model;
 use std::time::{Duration, Instant};
 
-/// Connections that have come, each at a place.
+/// The connections that are there, each at a place.
 #[derive(Drop)]
 pub struct Hub<D: Dialogue + Drop, C: Crowd + Drop> {
     crowd: C,
     places: Places<D, C::Stream>,
     /// What can be done at each place.
     ready: Vec<Readiness>,
-    /// The turn in which something came there or was taken last.
+    /// For each place, the last turn in which something came there or was taken.
     heard: Vec<u64>,
-    /// Who was answered there, and may ask again at once.
+    /// For each place, whether somebody was answered there who may ask again at once.
     awaited: Vec<bool>,
     turn: u64,
-    /// How many rounds go by without waiting for more.
+    /// How many rounds are still to be held without waiting for more.
     hasty: u32,
-    /// From here on no place was ever taken.
+    /// From this place on, no place was ever taken.
     unused: usize,
     /// How many microseconds a round has taken of late.
     cost: u64,
-    /// How often memory was refused, one time behind the other, for somebody who waited.
+    /// How often in a row memory was refused for somebody who waited.
     refused: u32,
 }
 
@@ -54,19 +54,19 @@ impl<D: Dialogue + Drop, C: Crowd + Drop> Model for Hub<D, C> {
         × (length h.heard.items ≡ length h.places.lines) × (length h.awaited.items ≡ length h.places.lines) };
 }
 
-/// How often more is waited for before a round, at the most.
+/// How often the hub waits for more before a round, at the most.
 const GATHERS: u32 = 256;
 
-/// How many rounds go by without waiting for more, where nobody came.
+/// How many rounds are held without waiting for more, once nobody came.
 const HASTY: u32 = 32;
 
-/// As many rounds, where each takes long.
+/// How many rounds are held so where each round takes long.
 const HASTY_WHERE_SLOW: u32 = 8;
 
-/// How many microseconds a round takes that takes long.
+/// A round that takes so many microseconds takes long.
 const SLOW: u64 = 2_000;
 
-/// So many of it.
+/// Returns a list that has this item so many times.
 fn many<T: Copy + Drop>(alloc: Global, one: T, count: usize) -> Result<Vec<T>, AllocError>
     ensures { IfOk result (λ all. length all.items ≡ count) }
 {
@@ -86,7 +86,7 @@ fn clear(marks: &mut [bool])
     }
 }
 
-/// The place of the least number, the first of several.
+/// Returns the place of the least number, the first of several.
 fn least_of(numbers: &[u64]) -> usize
     requires { 1 ≤ length numbers.now }
     ensures { result < length numbers.now }
@@ -118,7 +118,7 @@ impl<D: Dialogue + Drop, C: Crowd + Drop> Hub<D, C> {
         }
     }
 
-    /// A place at which nobody is; where there is none, the connection that was silent longest is closed.
+    /// Returns a free place. Where there is none, closes the connection that was silent longest, and returns its place.
     fn make_place(&mut self) -> usize
         requires some { 1 ≤ length self.old.places.lines }
         ensures served { (first : C) (loss : Option Loss) (start now : Snapshot)
@@ -139,7 +139,7 @@ impl<D: Dialogue + Drop, C: Crowd + Drop> Hub<D, C> {
         }
     }
 
-    /// How many places have ever been taken, the first ones.
+    /// Returns how many places, from the first on, have ever been taken.
     fn used(&self) -> usize
         ensures { result ≤ length self.now.places.lines }
     {
@@ -147,7 +147,7 @@ impl<D: Dialogue + Drop, C: Crowd + Drop> Hub<D, C> {
         if self.unused < all { self.unused } else { all }
     }
 
-    /// Whether a place is free, or a connection was silent in this turn.
+    /// Returns whether a place is free, or a connection was silent in this turn.
     fn has_place(&self) -> bool
         requires { 1 ≤ length self.now.places.lines }
     {
@@ -155,8 +155,8 @@ impl<D: Dialogue + Drop, C: Crowd + Drop> Hub<D, C> {
         self.places.free_place().is_some() || self.heard[silent] < self.turn
     }
 
-    /// Reads at a place, where something may have come and more is wanted, and looks for a question in it. Where a read fails the
-    /// connection is closed.
+    /// Reads at a place, where something may have come and more is wanted, and looks for a question in it. Where the
+    /// read fails, the connection is closed.
     fn read(&mut self, alloc: Global, place: usize, piece: &mut [u8])
         requires place { place < length self.old.places.lines }
         requires room { 0 < length piece.old }
@@ -180,8 +180,8 @@ impl<D: Dialogue + Drop, C: Crowd + Drop> Hub<D, C> {
         }
     }
 
-    /// Writes what is to be written at a place, as far as it is taken, and looks for the next question there. Where a write fails
-    /// the connection is closed.
+    /// Writes what is to be written at a place, as far as it is taken, and looks for the next question there. Where
+    /// the write fails, the connection is closed.
     fn write(&mut self, alloc: Global, place: usize)
         requires place { place < length self.old.places.lines }
         ensures served { (first : C) (loss : Option Loss) (start now : Snapshot)
@@ -206,7 +206,7 @@ impl<D: Dialogue + Drop, C: Crowd + Drop> Hub<D, C> {
         }
     }
 
-    /// Reads at a place; whether a question is to be answered there, and whether one is awaited.
+    /// Reads at a place. Returns whether a question is to be answered there, and whether one is awaited.
     fn hear_at(&mut self, alloc: Global, place: usize, piece: &mut [u8]) -> (bool, bool)
         requires place { place < length self.old.places.lines }
         requires room { 0 < length piece.old }
@@ -224,7 +224,8 @@ impl<D: Dialogue + Drop, C: Crowd + Drop> Hub<D, C> {
         (has_question, self.awaited[place])
     }
 
-    /// Reads at each place: at how many a question is to be answered, and how many that were answered have not asked again.
+    /// Reads at each place. Returns at how many places a question is to be answered, and how many connections that were
+    /// answered have not asked again.
     pub fn read_all(&mut self, alloc: Global, piece: &mut [u8]) -> (usize, usize)
         requires room { 0 < length piece.old }
         ensures served { (first : C) (loss : Option Loss) (start now : Snapshot)
@@ -243,14 +244,14 @@ impl<D: Dialogue + Drop, C: Crowd + Drop> Hub<D, C> {
         (asking, awaited)
     }
 
-    /// Waits for nobody that was answered.
+    /// Stops waiting for those who were answered.
     pub fn await_none(&mut self)
         ensures { self.new ≡ self.old }
     {
         clear(&mut self.awaited);
     }
 
-    /// Writes at a place, and closes the connection if nothing more comes of it; how the place stands then.
+    /// Writes at a place, and closes the connection if nothing more comes of it. Returns how the place stands then.
     fn tell_at(&mut self, alloc: Global, place: usize) -> Standing
         requires place { place < length self.old.places.lines }
         ensures served { (first : C) (loss : Option Loss) (start now : Snapshot)
@@ -266,7 +267,7 @@ impl<D: Dialogue + Drop, C: Crowd + Drop> Hub<D, C> {
         self.places.standing(place)
     }
 
-    /// Whether something can be done at a place before the crowd tells more.
+    /// Returns whether something can be done at a place before the crowd says more.
     fn is_busy(&self, place: usize, standing: Standing) -> bool
         requires { place < length self.now.places.lines }
     {
@@ -278,7 +279,7 @@ impl<D: Dialogue + Drop, C: Crowd + Drop> Hub<D, C> {
         }
     }
 
-    /// Writes at each place: whether anybody is there, and whether something can be done before the crowd tells more.
+    /// Writes at each place. Returns whether anybody is there, and whether something can be done before a wait.
     pub fn tell_all(&mut self, alloc: Global) -> (bool, bool)
         ensures served { (first : C) (loss : Option Loss) (start now : Snapshot)
             → IsServing (speaks D.Dialogue C.Stream.Stream) (listening_to C.Crowd) first loss start now self.old
@@ -311,8 +312,7 @@ impl<D: Dialogue + Drop, C: Crowd + Drop> Hub<D, C> {
         }
     }
 
-    /// Waits until something can be done or somebody comes, at most so long; whether anything
-    /// happened.
+    /// Waits, at most for `most`, until something can be done or somebody comes. Returns whether anything happened.
     pub fn wait(&mut self, most: Option<Duration>) -> io::Result<bool>
         ensures served { (first : C) (loss : Option Loss) (start now : Snapshot)
             → IsServing (speaks D.Dialogue C.Stream.Stream) (listening_to C.Crowd) first loss start now self.old
@@ -338,7 +338,7 @@ impl<D: Dialogue + Drop, C: Crowd + Drop> Hub<D, C> {
         let _ = self.places.round(alloc, most, desk);
     }
 
-    /// So many places, at which nobody is. Where memory is refused the crowd comes back.
+    /// Returns a hub with so many places, at which nobody is. Where memory is refused, the crowd is given back.
     pub fn new(alloc: Global, crowd: C, clients: usize) -> Result<Hub<D, C>, C>
         ensures serving { IfOk result (λ hub. (start : Snapshot)
             → IsServing (speaks D.Dialogue C.Stream.Stream) (listening_to C.Crowd)
@@ -374,14 +374,14 @@ impl<D: Dialogue + Drop, C: Crowd + Drop> Hub<D, C> {
         })
     }
 
-    /// How many connections have come.
+    /// Returns how many connections have come.
     pub fn connections(&self) -> usize
         ensures { result ≡ self.now.places.connections }
     {
         self.places.connections()
     }
 
-    /// The crowd, as it is.
+    /// Returns the crowd, as it is.
     pub fn into_crowd(self) -> C
         ensures { result ≡ self.crowd }
     {
@@ -389,7 +389,7 @@ impl<D: Dialogue + Drop, C: Crowd + Drop> Hub<D, C> {
         crowd
     }
 
-    /// How often memory was refused of late, one time behind the other, for somebody who waited.
+    /// Returns how often in a row memory was refused of late for somebody who waited.
     pub fn refused(&self) -> u32 {
         self.refused
     }
@@ -409,7 +409,7 @@ impl<D: Dialogue + Drop, C: Crowd + Drop> Hub<D, C> {
         self.cost = if micros < before { before } else { micros };
     }
 
-    /// Waits for nobody in the next rounds, as nobody came.
+    /// Has the next rounds wait for nobody, since nobody came.
     fn be_hasty(&mut self)
         ensures { self.new ≡ self.old }
     {
@@ -421,9 +421,9 @@ impl<D: Dialogue + Drop, C: Crowd + Drop> Hub<D, C> {
         self.await_none();
     }
 
-    /// Reads what has come. Behind a round those that it answered may ask again at once: they are waited for, so that all ask in
-    /// one round and not by turns in two. Half as long as a round takes pays, and a quarter of that without anybody, but at least
-    /// a millisecond. Where nobody came, some rounds go by without waiting.
+    /// Reads what has come. Those whom the last round answered may ask again at once, so the hub waits for them: then
+    /// all ask in one round, and not by turns in two. It pays off to wait for half as long as a round takes, or a
+    /// quarter of that where nobody comes, but at least for a millisecond. Where nobody came, some rounds do not wait.
     pub fn gather(&mut self, rt: &HostRuntime, most: usize, piece: &mut [u8]) -> io::Result<()>
         requires room { 0 < length piece.old }
         ensures served { (first : C) (loss : Option Loss) (start now : Snapshot)
@@ -461,7 +461,7 @@ impl<D: Dialogue + Drop, C: Crowd + Drop> Hub<D, C> {
 }
 
 impl<D: Begin + Drop, C: Crowd + Drop> Hub<D, C> {
-    /// Lets one more in, if somebody waits. Whether somebody did.
+    /// Lets in one more, if somebody waits. Returns whether somebody did.
     pub fn let_in(&mut self, alloc: Global) -> bool
         requires some { 1 ≤ length self.old.places.lines }
         requires count { self.old.places.connections < 2 ^ 64 - 1 }
@@ -474,7 +474,7 @@ impl<D: Begin + Drop, C: Crowd + Drop> Hub<D, C> {
         if !self.crowd.may_come() || !self.has_place() {
             return false;
         }
-        // where memory is refused for a dialogue, who waits is let in later
+        // where memory is refused for a dialogue, whoever waits is let in later
         let Ok(dialogue) = D::begin(alloc) else {
             self.refused = self.refused.saturating_add(1);
             return false;

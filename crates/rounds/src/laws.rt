@@ -1,4 +1,4 @@
-//! What is true of every history.
+//! What is true of every history. The function does nothing when run; its contract is the law.
 
 ghost use Rattle.std.specs.Prelude.{◌≡◌, ℕ, Option};
 ghost use Rattle.desk.specs.Desk.{Snapshot};
@@ -8,9 +8,9 @@ ghost use Rattle.rounds.specs.Rounds.{IsOneOrder, Loss, said_on};
 
 use desk::Dialogue;
 
-/// Whatever comes on the connections in whatever pieces, whenever rounds are held and answers are written: all that was said is
-/// one order of questions, in which the answers are those of the language; and the questions and answers of a connection are its
-/// own of that order.
+/// Whatever comes on the connections, in whatever pieces, and whenever rounds are held and answers are written: all
+/// that was said has one order, in which the answers are those of the language. The questions and answers of a
+/// connection are those of its own in that order.
 pub fn rounds_are_one_order<D: Dialogue>()
     ensures order { (loss : Option Loss) (history : History D.Asked D.Told) (start now : Snapshot)
         → AreRounds D.language loss start history now → IsOneOrder D.language loss start (order_of history) now }

@@ -16,10 +16,10 @@ use std::collections::VecDeque;
 use std::marker::Model;
 use std::{io, mem};
 
-/// How many bytes of answers may be hidden where one more question is answered.
+/// Another question is answered only where at most so many bytes of answers are hidden.
 const MOST_HIDDEN: usize = 32 * 1024;
 
-/// Room that is made before a command is carried out, for its answer.
+/// For how many bytes of its answer room is made before a command is carried out.
 const ROOM: usize = 512;
 
 /// A dialogue, and the stream that it is with.
@@ -27,20 +27,20 @@ const ROOM: usize = 512;
 pub struct Line<D: Dialogue + Drop, S: Drop> {
     dialogue: D,
     stream: S,
-    /// Its number, from 0, in the order in which connections came.
+    /// The connection's number, counted from 0 in the order in which connections came.
     connection: usize,
     phase: Phase,
-    /// Questions that were found, each up to the time when its answer is shown.
+    /// The questions that were found, and whose answers are not shown yet.
     questions: VecDeque<D::Question>,
     /// How many of them are answered in this round.
     answered: usize,
-    /// Their answers, while it is not known whether they are kept.
+    /// The answers to these, while it is not known whether they are kept.
     hidden: Vec<u8>,
     /// Answers that may be written.
     output: Vec<u8>,
     /// How many bytes of them are written.
     written: usize,
-    /// What was asked last in this round has changed nothing.
+    /// Whether the question that was answered last in this round has changed nothing.
     is_still: bool,
 }
 
@@ -65,7 +65,7 @@ impl<D: Dialogue + Drop, S: Drop> Model for Line<D, S> {
 }
 
 impl<D: Dialogue + Drop, S: Stream + Drop> Line<D, S> {
-    /// A connection on which nothing has come yet.
+    /// Returns a connection on which nothing has come yet.
     pub fn new(alloc: Global, connection: usize, dialogue: D, stream: S) -> Line<D, S>
         requires new { D.has_found dialogue [] false [] }
         requires none { D.language.have_come [] [] }
@@ -87,14 +87,14 @@ impl<D: Dialogue + Drop, S: Stream + Drop> Line<D, S> {
         }
     }
 
-    /// What is to be written.
+    /// Returns what is to be written.
     pub fn output(&self) -> &[u8]
         ensures { result.now ≡ self.now.output }
     {
         rest_of(&self.output, self.written)
     }
 
-    /// Whether a question was found that is not answered.
+    /// Returns whether a question was found that is not answered.
     pub fn has_question(&self) -> bool
         ensures waits { IsTrue result → 1 ≤ length self.now.waiting }
         ensures none { result ≡ false → self.now.waiting ≡ [] }
@@ -102,7 +102,7 @@ impl<D: Dialogue + Drop, S: Stream + Drop> Line<D, S> {
         self.answered < self.questions.len()
     }
 
-    /// How it stands.
+    /// Returns how the connection stands.
     pub fn standing(&self) -> Standing
         ensures { result ≡ standing_of self.now }
     {
@@ -119,7 +119,7 @@ impl<D: Dialogue + Drop, S: Stream + Drop> Line<D, S> {
         }
     }
 
-    /// The stream, as it is.
+    /// Returns the stream, as it is.
     pub fn into_stream(self) -> S
         ensures { result ≡ self.stream }
     {
@@ -127,8 +127,8 @@ impl<D: Dialogue + Drop, S: Stream + Drop> Line<D, S> {
         stream
     }
 
-    /// Reads a piece, where more is wanted: how many bytes these are, none only at the end of what there is. A failing read
-    /// brings nothing.
+    /// Reads a piece, where more is wanted. Returns how many bytes came; 0 means that the reader is at its end. A read
+    /// that fails brings nothing.
     pub fn read(&mut self, alloc: Global, piece: &mut [u8]) -> io::Result<usize>
         requires wants { self.old.phase ≡ Phase.Wants }
         requires room { 0 < length piece.old }
@@ -144,7 +144,8 @@ impl<D: Dialogue + Drop, S: Stream + Drop> Line<D, S> {
         Ok(count)
     }
 
-    /// Writes what is to be written, as far as it is taken: how many bytes these are. A failing write takes nothing.
+    /// Writes what is to be written, as far as it is taken. Returns how many bytes were written. A write that fails
+    /// takes nothing.
     pub fn write(&mut self) -> io::Result<usize>
         ensures within { IfOk result (λ count. count ≤ length self.old.output) }
         ensures written { IfOk result (λ count.
@@ -157,7 +158,7 @@ impl<D: Dialogue + Drop, S: Stream + Drop> Line<D, S> {
         Ok(count)
     }
 
-    /// Looks for a question in what has come, where none waits; whether one waits then.
+    /// Looks for a question in what has come, where none waits. Returns whether one waits then.
     pub fn look(&mut self, alloc: Global) -> bool
         ensures heard { (h : Heard D.Asked D.Told) (said : List (Said D.Asked D.Told))
             → Stands (speaks D.Dialogue S.Stream) self.old h said
@@ -188,8 +189,9 @@ impl<D: Dialogue + Drop, S: Stream + Drop> Line<D, S> {
         false
     }
 
-    /// Answers its next question, where there is one that may be answered in this round: what was answered before it is
-    /// written, or was answered in this round and has changed something. The answer is hidden. Whether there was one.
+    /// Answers the next question, if there is one and it may be answered in this round: each answer before it is
+    /// written, or is hidden in this round, and then the last one has changed something. The new answer is hidden.
+    /// Returns whether a question was answered.
     pub fn turn<K: Keep>(&mut self, alloc: Global, desk: &mut Desk<Deferred<K>>) -> bool
         requires going { D.may_stop → ⊥ }
         ensures turn { (h : Heard D.Asked D.Told) (said : List (Said D.Asked D.Told))
@@ -199,6 +201,7 @@ impl<D: Dialogue + Drop, S: Stream + Drop> Line<D, S> {
         ensures same { (self.new.connection ≡ self.old.connection) × (self.new.stream ≡ self.old.stream) }
         ensures off { OnlyPutsOff desk.old desk.new }
     {
+        // does nothing when run; the prover learns that the desk is in order
         desk.is_stopped();
         if self.standing() != Standing::Asks || self.is_still || MOST_HIDDEN < self.hidden.len() {
             return false;
@@ -209,7 +212,7 @@ impl<D: Dialogue + Drop, S: Stream + Drop> Line<D, S> {
         self.answer(alloc, desk)
     }
 
-    /// Answers the first question that waits, unless memory is refused. Whether it did.
+    /// Answers the first question that waits, unless memory is refused. Returns whether it did.
     fn answer<K: Keep>(&mut self, alloc: Global, desk: &mut Desk<Deferred<K>>) -> bool
         requires going { D.may_stop → ⊥ }
         requires waits { 1 ≤ length self.old.waiting }
@@ -222,6 +225,7 @@ impl<D: Dialogue + Drop, S: Stream + Drop> Line<D, S> {
         ensures same { (self.new.connection ≡ self.old.connection) × (self.new.stream ≡ self.old.stream) }
         ensures off { OnlyPutsOff desk.old desk.new }
     {
+        // does nothing when run; the prover learns that the desk is in order
         desk.is_stopped();
         let put_off = desk.put_off();
         let Ok(()) = self.hidden.reserve(ROOM) else {
@@ -278,7 +282,7 @@ impl<D: Dialogue + Drop, S: Stream + Drop> Line<D, S> {
         self.written = 0;
     }
 
-    /// Forgets what is hidden: its questions are to be answered anew.
+    /// Drops what is hidden: its questions are to be answered again.
     pub fn forget(&mut self)
         ensures forgotten { (h : Heard D.Asked D.Told) (said : List (Said D.Asked D.Told))
             → Stands (speaks D.Dialogue S.Stream) self.old h said
@@ -295,7 +299,7 @@ impl<D: Dialogue + Drop, S: Stream + Drop> Line<D, S> {
     }
 }
 
-/// The first so many bytes.
+/// Returns the first so many bytes.
 fn front_of(bytes: &[u8], count: usize) -> &[u8]
     requires { count ≤ length bytes.now }
     ensures { result.now ≡ take count bytes.now }
@@ -303,7 +307,7 @@ fn front_of(bytes: &[u8], count: usize) -> &[u8]
     &bytes[..count]
 }
 
-/// The bytes behind so many.
+/// Returns the bytes after the first so many.
 fn rest_of(bytes: &[u8], count: usize) -> &[u8]
     requires { count ≤ length bytes.now }
     ensures { result.now ≡ drop count bytes.now }
@@ -311,7 +315,7 @@ fn rest_of(bytes: &[u8], count: usize) -> &[u8]
     &bytes[count..]
 }
 
-/// How far a dialogue is whose questions are to be answered anew.
+/// Returns how far a dialogue is whose questions are to be answered again.
 fn asking_again(phase: Phase) -> Phase
     ensures { result ≢ Phase.Gone → (phase ≢ Phase.Gone) × (result ≡ Phase.Asks) }
 {
@@ -321,7 +325,7 @@ fn asking_again(phase: Phase) -> Phase
     }
 }
 
-/// Lets the first so many questions go.
+/// Drops the first so many questions.
 fn let_go<Q: Drop>(questions: &mut VecDeque<Q>, count: usize)
     ensures { questions.new.items ≡ drop count questions.old.items }
 {

@@ -19,7 +19,7 @@ use std::alloc::{AllocError, Global};
 use std::io;
 use std::marker::Model;
 
-/// The greater of two numbers.
+/// Returns the greater of two numbers.
 fn greater_of(left: usize, right: usize) -> usize
     ensures left { left ≤ result }
     ensures right { right ≤ result }
@@ -36,7 +36,7 @@ pub struct Places<D: Dialogue + Drop, S: Stream + Drop> {
     connections: usize,
     /// The place with which the next round begins.
     first: usize,
-    /// From here on no place was ever taken.
+    /// From this place on, no place was ever taken.
     unused: usize,
 }
 
@@ -54,7 +54,7 @@ impl<D: Dialogue + Drop, S: Stream + Drop> Model for Places<D, S> {
 }
 
 impl<D: Dialogue + Drop, S: Stream + Drop> Places<D, S> {
-    /// So many places, at which nobody is.
+    /// Returns so many places, at which nobody is.
     pub fn new(alloc: Global, places: usize) -> Result<Places<D, S>, AllocError>
         ensures reached { IfOk result (λ p. (start : Snapshot)
             → IsReached (speaks D.Dialogue S.Stream) None start start [] p) }
@@ -72,21 +72,21 @@ impl<D: Dialogue + Drop, S: Stream + Drop> Places<D, S> {
         })
     }
 
-    /// How many places there are.
+    /// Returns how many places there are.
     pub fn len(&self) -> usize
         ensures { result ≡ length self.now.lines }
     {
         self.lines.len()
     }
 
-    /// How many connections have come.
+    /// Returns how many connections have come.
     pub fn connections(&self) -> usize
         ensures { result ≡ self.now.connections }
     {
         self.connections
     }
 
-    /// How a place stands.
+    /// Returns how a place stands.
     pub fn standing(&self, place: usize) -> Standing
         requires { place < length self.now.lines }
         ensures { IfSome (slice_get self.now.lines place) (λ line. result ≡ standing_at line) }
@@ -94,7 +94,7 @@ impl<D: Dialogue + Drop, S: Stream + Drop> Places<D, S> {
         standing_at(&self.lines[place])
     }
 
-    /// A place at which nobody is.
+    /// Returns a place at which nobody is, if there is one.
     pub fn free_place(&self) -> Option<usize>
         ensures free { IfSome result (λ place. slice_get self.now.lines place ≡ Some None) }
         ensures within { IfSome result (λ place. place < length self.now.lines) }
@@ -128,7 +128,7 @@ impl<D: Dialogue + Drop, S: Stream + Drop> Places<D, S> {
         self.unused = greater_of(self.unused, place + 1);
     }
 
-    /// Ends the dialogue at a place, where somebody is, and gives the stream back.
+    /// Ends the dialogue at a place, if somebody is there, and returns its stream.
     pub fn leave(&mut self, place: usize) -> Option<S>
         requires place { place < length self.old.lines }
         ensures left { IfSome result (λ stream. (loss : Option Loss) (start now : Snapshot) (visits : List (Visit S))
@@ -146,8 +146,8 @@ impl<D: Dialogue + Drop, S: Stream + Drop> Places<D, S> {
         stream_of(line)
     }
 
-    /// Reads a piece at a place, where more is wanted there: how many bytes these are, none only at the end of what there is.
-    /// A failing read brings nothing.
+    /// Reads a piece at a place. Returns how many bytes came, 0 at the end of what there is; `None` where no more is
+    /// wanted there. A read that fails brings nothing.
     pub fn read(
         &mut self,
         alloc: Global,
@@ -167,7 +167,8 @@ impl<D: Dialogue + Drop, S: Stream + Drop> Places<D, S> {
         read_at(alloc, &mut self.lines[place], piece)
     }
 
-    /// Writes what is to be written at a place, as far as it is taken: how many bytes these are. A failing write takes nothing.
+    /// Writes what is to be written at a place, as far as it is taken. Returns how many bytes were written; `None`
+    /// where nothing is to be written there. A write that fails takes nothing.
     pub fn write(&mut self, place: usize) -> io::Result<Option<usize>>
         requires place { place < length self.old.lines }
         ensures written { IsWritten (speaks D.Dialogue S.Stream) result
@@ -181,7 +182,7 @@ impl<D: Dialogue + Drop, S: Stream + Drop> Places<D, S> {
         write_at(&mut self.lines[place])
     }
 
-    /// Looks for a question in what has come at a place, where none waits there; whether one waits then.
+    /// Looks for a question in what has come at a place, where none waits there. Returns whether one waits then.
     pub fn look(&mut self, alloc: Global, place: usize) -> bool
         requires place { place < length self.old.lines }
         ensures looked { IsLooked (speaks D.Dialogue S.Stream)
@@ -197,9 +198,9 @@ impl<D: Dialogue + Drop, S: Stream + Drop> Places<D, S> {
         look_at(alloc, &mut self.lines[place])
     }
 
-    /// Answers questions of the connections in turn, up to `most` of them, and keeps in one transaction what they change; only
-    /// then are the answers shown. Where they could not be kept none is, and the questions are asked anew in the next round, of
-    /// a desk that is stopped.
+    /// Answers questions of the connections in turn, up to `most` of them, and keeps in one transaction what they
+    /// change; only then are the answers shown. Where they could not be kept, no answer is shown, and the questions
+    /// are asked again in the next round, of a desk that is stopped.
     pub fn round<K: Keep>(
         &mut self,
         alloc: Global,
@@ -219,17 +220,19 @@ impl<D: Dialogue + Drop, S: Stream + Drop> Places<D, S> {
         ensures seats { AtEach SameAt self.old.lines self.new.lines }
         ensures settled { desk.new.keep.changes ≡ [] }
         ensures honest { K.is_honest desk.new.keep.keep → K.is_honest desk.old.keep.keep }
-        // what is shown is kept: a stop leaves the rows of the ledger behind it
+        // what is shown is kept: a stop of the program leaves the rows of the ledger after the round
         ensures kept { OnOk result (desk.old.keep.stopped ≡ false → (desk.new.keep.stopped ≡ false)
             × (K.is_honest desk.new.keep.keep
             → IsStored (K.holds desk.new.keep.keep) (K.leaves desk.new.keep.keep) desk.new.ledger)) }
-        // where it could not be kept, a stop leaves the rows before the round, or those of the ledger that is shown
+        // where it could not be kept, a stop of the program leaves the rows before the round, or those of the ledger
+        // that is shown
         ensures lost { OnErr result ((desk.old.keep.stopped ≡ false) × IsTrue desk.new.keep.stopped
             × IsLeftBy K.Keep desk.new.keep.keep (lost_between (snapshot_off desk.old) (snapshot_off desk.new))) }
         ensures halts { IsTrue desk.old.keep.stopped → (desk.new.ledger ≡ desk.old.ledger) × IsTrue desk.new.keep.stopped
             × (desk.new.keep.keep ≡ desk.old.keep.keep) }
         ensures same { (length self.new.lines ≡ length self.old.lines) × (self.new.connections ≡ self.old.connections) }
     {
+        // does nothing when run; the prover learns that the desk is in order
         desk.is_kept();
         let was_stopped = desk.is_stopped();
         self.first = ask_all(alloc, &mut self.lines, self.first, self.unused, most, desk);

@@ -1,4 +1,4 @@
-//! A service of so many connections, in rounds.
+//! A service of many connections, in rounds.
 
 ghost use Rattle.std.specs.Prelude.{◌≡◌, ◌<◌, ◌≤◌, ◌^◌, [], false, length, Err, Option, OnErr, OnOk, IsTrue, ℕ};
 ghost use Rattle.desk.specs.Deferred.{snapshot_off};
@@ -21,18 +21,18 @@ use thiserror::Error;
 /// How many bytes are read at a time, at the most.
 const PIECE: usize = 32 * 1024;
 
-/// How many turns go by behind the one that stopped the desk, so that connections are told.
+/// How many turns follow the one that stopped the desk, so that connections learn of it.
 const LAST_TURNS: u32 = 3;
 
-/// How often memory is asked for in vain for somebody who waits, while nobody is there who could give some back.
+/// How often in a row memory may be refused for somebody who waits, while nobody is there who could give some back.
 const REFUSED: u32 = 20;
 
-/// What a service is asked for.
+/// The terms of a service.
 #[derive(Clone, Copy)]
 pub struct Terms {
     /// How many connections are served.
     pub connections: usize,
-    /// How many may be there at once, at least one.
+    /// How many may be there at once; at least one.
     pub clients: usize,
     /// How many questions are answered in a round, at the most.
     pub together: usize,
@@ -53,7 +53,7 @@ pub enum ServiceFault {
 }
 
 impl<D: Begin + Drop, C: Crowd + Drop> Hub<D, C> {
-    /// Lets in all who wait, up to so many in all.
+    /// Lets in all who wait, until `most` have come in all.
     fn let_in_all(&mut self, alloc: Global, most: usize)
         requires some { 1 ≤ length self.old.places.lines }
         requires within { self.old.places.connections ≤ most }
@@ -70,8 +70,8 @@ impl<D: Begin + Drop, C: Crowd + Drop> Hub<D, C> {
         }
     }
 
-    /// A turn: whoever waits is let in, what has come is read, a round is held and its answers are written. Whether anybody is
-    /// there, and whether something can be done before the crowd tells more.
+    /// Makes a turn: whoever waits is let in, what has come is read, a round is held, and its answers are written.
+    /// Returns whether anybody is there, and whether something can be done before the crowd says more.
     fn turn<K: Keep>(
         &mut self,
         rt: &HostRuntime,
@@ -104,7 +104,8 @@ impl<D: Begin + Drop, C: Crowd + Drop> Hub<D, C> {
         Ok(self.tell_all(rt.alloc()))
     }
 
-    /// Turn by turn, until so many have come and all have left again, or, where the desk is stopped, some turns behind that.
+    /// Makes turns until so many connections have come and all have left again, or, where the desk is stopped, some
+    /// turns more.
     fn serve<K: Keep>(
         &mut self,
         rt: &HostRuntime,
@@ -148,12 +149,14 @@ impl<D: Begin + Drop, C: Crowd + Drop> Hub<D, C> {
     }
 }
 
-/// Serves so many connections, many at once, on a desk whose commits are put off: in rounds, each of which is kept in one
-/// transaction before its answers are written. All connections are closed at the end, and the crowd comes back.
+/// Serves as many connections as the terms say, many at once, on a desk whose commits are put off. It serves them in
+/// rounds; each round is kept in one transaction before its answers are written. At the end all connections are closed,
+/// and the crowd is given back.
 ///
-/// `Memory` where memory is refused before anything is begun, or again and again for somebody who waits while nobody is there; `Crowd` where the crowd fails; `Stopped` where a round could not
-/// be kept, which stops the desk. Of that round nothing is told but `stopped`: a stop then leaves the rows before it, or those
-/// behind it.
+/// `Memory` is returned where memory is refused before anything is begun, or again and again for somebody who waits
+/// while nobody is there; `Crowd` where the crowd fails; `Stopped` where a round could not be kept, which stops the
+/// desk. Nothing of that round is answered but `stopped`. While the disk is honest, a stop of the program then leaves
+/// the rows before that round, or those after it.
 pub fn serve_rounds<D: Begin + Drop, C: Crowd + Drop, K: Keep>(
     rt: &HostRuntime,
     desk: &mut Desk<Deferred<K>>,
@@ -173,6 +176,7 @@ pub fn serve_rounds<D: Begin + Drop, C: Crowd + Drop, K: Keep>(
     ensures stop { result.1 ≡ Err ServiceFault.Stopped → IsTrue desk.new.keep.stopped }
     ensures honest { K.is_honest desk.new.keep.keep → K.is_honest desk.old.keep.keep }
 {
+    // does nothing when run; the prover learns that the desk is in order
     desk.is_kept();
     let mut hub = match Hub::<D, C>::new(rt.alloc(), crowd, terms.clients) {
         Ok(hub) => hub,

@@ -11,6 +11,6 @@ pub enum Standing {
     Asks,
     /// Something is to be written.
     Writes,
-    /// Nothing more comes of it: it is over, or memory was refused for it.
+    /// Nothing more comes of it: the dialogue is over, or memory was refused for it.
     Over,
 }

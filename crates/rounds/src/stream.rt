@@ -14,13 +14,13 @@ pub trait Stream {
     // The bytes that were written, where they are known.
     ghost contents: { Self → Option (List ℕ) };
 
-    /// Reads into a piece: how many bytes these are, none only at the end.
+    /// Reads into a piece. Returns how many bytes came, 0 only at the end.
     fn read_piece(&mut self, piece: &mut [u8]) -> io::Result<usize>
         ensures bound { ReadsAtMost result piece.new }
         ensures bytes { ReadConsumes (remaining self.old) (remaining self.new) result piece.new }
         ensures others { Keeps (contents self.old) (contents self.new) };
 
-    /// Writes a beginning of the bytes: how many these are.
+    /// Writes a beginning of the bytes. Returns how many bytes that has.
     fn write_some(&mut self, bytes: &[u8]) -> io::Result<usize>
         ensures bound { WritesAtMost result bytes.now }
         ensures bytes { WriteAppends (contents self.old) (contents self.new) result bytes.now }
@@ -41,7 +41,7 @@ impl<R: Read, W: Write> Stream for (R, W) {
     }
 }
 
-/// Whether a call failed only since there was nothing to do.
+/// Returns whether a call failed only because there was nothing to do.
 pub fn would_block(error: &io::Error) -> bool {
     matches!(error.kind(), ErrorKind::WouldBlock | ErrorKind::Interrupted)
 }

@@ -16,7 +16,7 @@ use keep::Keep;
 use std::alloc::Global;
 use std::io;
 
-/// The stream at a place that somebody left.
+/// Returns the stream of whoever was at a place.
 pub fn stream_of<D: Dialogue + Drop, S: Stream + Drop>(line: Option<Line<D, S>>) -> Option<S>
     ensures { result ≡ option_map (λ l. l.stream) line }
 {
@@ -26,7 +26,7 @@ pub fn stream_of<D: Dialogue + Drop, S: Stream + Drop>(line: Option<Line<D, S>>)
     }
 }
 
-/// How a place stands.
+/// Returns how a place stands.
 pub fn standing_at<D: Dialogue + Drop, S: Stream + Drop>(line: &Option<Line<D, S>>) -> Standing
     ensures { result ≡ standing_at line.now }
 {
@@ -36,7 +36,7 @@ pub fn standing_at<D: Dialogue + Drop, S: Stream + Drop>(line: &Option<Line<D, S
     }
 }
 
-/// Looks for a question at a place, where none waits; whether one waits then.
+/// Looks for a question at a place, where none waits there. Returns whether one waits then.
 pub fn look_at<D: Dialogue + Drop, S: Stream + Drop>(
     alloc: Global,
     line: &mut Option<Line<D, S>>,
@@ -90,7 +90,7 @@ pub fn write_at<D: Dialogue + Drop, S: Stream + Drop>(
     }
 }
 
-/// One place has its turn. Whether a question was answered.
+/// Has one place make its turn. Returns whether a question was answered.
 fn turn_at<D: Dialogue + Drop, S: Stream + Drop, K: Keep>(
     alloc: Global,
     line: &mut Option<Line<D, S>>,
@@ -101,6 +101,7 @@ fn turn_at<D: Dialogue + Drop, S: Stream + Drop, K: Keep>(
         (snapshot_off desk.old) (snapshot_off desk.new) }
     ensures off { OnlyPutsOff desk.old desk.new }
 {
+    // does nothing when run; the prover learns that the desk is in order
     desk.is_stopped();
     match line {
         Some(line) => line.turn(alloc, desk),
@@ -108,7 +109,7 @@ fn turn_at<D: Dialogue + Drop, S: Stream + Drop, K: Keep>(
     }
 }
 
-/// How many more may be answered.
+/// Returns how many more questions may be answered.
 fn left_of(left: usize, is_answered: bool) -> usize {
     if is_answered {
         left.saturating_sub(1)
@@ -117,8 +118,8 @@ fn left_of(left: usize, is_answered: bool) -> usize {
     }
 }
 
-/// Answers a question of each connection from a place on and before the place `taken`, up to `most` of them: how many more may
-/// be answered, and the place behind the last.
+/// Answers a question of each connection from the place `first` on and before the place `taken`, up to `most` of them.
+/// Returns how many more may be answered, and the place after the last that was asked.
 fn ask_from<D: Dialogue + Drop, S: Stream + Drop, K: Keep>(
     alloc: Global,
     lines: &mut [Option<Line<D, S>>],
@@ -135,6 +136,7 @@ fn ask_from<D: Dialogue + Drop, S: Stream + Drop, K: Keep>(
         → InRound (speaks D.Dialogue S.Stream) start (snapshot_off desk.new) lines.new heard }
     ensures off { OnlyPutsOff desk.old desk.new }
 {
+    // does nothing when run; the prover learns that the desk is in order
     desk.is_stopped();
     let mut left = most;
     for place in first..taken {
@@ -147,8 +149,8 @@ fn ask_from<D: Dialogue + Drop, S: Stream + Drop, K: Keep>(
     (left, taken)
 }
 
-/// Answers questions of all connections before the place `taken` in turn, one of each from a place on, and then more of those
-/// that have more, up to `most` of them: the place with which the next round begins.
+/// Answers questions of all connections before the place `taken` in turn, up to `most` of them: one of each, from the
+/// place `first` on, and then more of those that have more. Returns the place with which the next round begins.
 pub fn ask_all<D: Dialogue + Drop, S: Stream + Drop, K: Keep>(
     alloc: Global,
     lines: &mut [Option<Line<D, S>>],
@@ -165,6 +167,7 @@ pub fn ask_all<D: Dialogue + Drop, S: Stream + Drop, K: Keep>(
         → InRound (speaks D.Dialogue S.Stream) start (snapshot_off desk.new) lines.new heard }
     ensures off { OnlyPutsOff desk.old desk.new }
 {
+    // does nothing when run; the prover learns that the desk is in order
     desk.is_stopped();
     let mut left = most;
     let mut from = first;
@@ -191,7 +194,7 @@ fn show_at<D: Dialogue + Drop, S: Stream + Drop>(alloc: Global, line: &mut Optio
     }
 }
 
-/// Shows what is hidden at each place, where nobody is from the place `taken` on.
+/// Shows what is hidden at each place. Nobody must be at the place `taken` or after it.
 pub fn show_all<D: Dialogue + Drop, S: Stream + Drop>(
     alloc: Global,
     lines: &mut [Option<Line<D, S>>],
@@ -206,7 +209,7 @@ pub fn show_all<D: Dialogue + Drop, S: Stream + Drop>(
     }
 }
 
-/// Forgets what is hidden at a place.
+/// Drops what is hidden at a place.
 fn forget_at<D: Dialogue + Drop, S: Stream + Drop>(line: &mut Option<Line<D, S>>)
     ensures { IsForgotten (speaks D.Dialogue S.Stream) line.old line.new }
 {
@@ -215,7 +218,7 @@ fn forget_at<D: Dialogue + Drop, S: Stream + Drop>(line: &mut Option<Line<D, S>>
     }
 }
 
-/// Forgets what is hidden at each place, where nobody is from the place `taken` on.
+/// Drops what is hidden at each place. Nobody must be at the place `taken` or after it.
 pub fn forget_all<D: Dialogue + Drop, S: Stream + Drop>(
     lines: &mut [Option<Line<D, S>>],
     taken: usize,
@@ -229,8 +232,8 @@ pub fn forget_all<D: Dialogue + Drop, S: Stream + Drop>(
     }
 }
 
-/// Keeps what was put off in a round of a desk that was stopped before it, or not. Where it is stopped by the round, nothing of
-/// that is told.
+/// Keeps what was put off in a round; `was_stopped` says whether the desk was stopped before the round. Where the
+/// round stops the desk, that is an error, and nothing of the round may be answered.
 pub fn settle_round<K: Keep>(
     desk: &mut Desk<Deferred<K>>,
     was_stopped: bool,

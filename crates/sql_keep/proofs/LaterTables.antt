@@ -1,5 +1,6 @@
 -- The rows of an older version in the tables of the newest: those that later versions have brought have none.
-use Rattle.std.proofs.Common.{◌≡◌, ◌∙◌, ◌<◌, ◌≤◌, ◌++◌, ◌⊎◌, Bool, false, true, inl, inr, arith, ℕ, zero, suc, List, [], ap, map, nat_le, refl, subst, sym}
+use Rattle.std.proofs.Common.{◌≡◌, ◌∙◌, ◌<◌, ◌≤◌, ◌++◌, ◌⊎◌, Bool, false, true, inl, inr, arith, ℕ, zero, suc, List, [],
+    ap, map, nat_le, refl, subst, sym}
 use Rattle.std.specs.List.Sorted.{IsStrictlySortedBy}
 use Rattle.sqlite.specs.Effect.{Database}
 use Rattle.sqlite.specs.Order.{Row}
@@ -21,7 +22,8 @@ use Rattle.sql_keep.proofs.Versions.{brought, in_version, is_late, upto-false, u
 use Rattle.keep.proofs.Among.{of_each}
 
 -- what the catalog lists and the tables hold now is the content
-pub content_now : (trees : Trees) (x : Content) → Lists (trees catalog_tree) desk_schema → ((t : TableName) → Stores t (trees (declared t).tree) (rows_of t x)) → IsContent trees x
+pub content_now : (trees : Trees) (x : Content) → Lists (trees catalog_tree) desk_schema
+    → ((t : TableName) → Stores t (trees (declared t).tree) (rows_of t x)) → IsContent trees x
 content_now trees x lists rows = record {
   lists = lists;
   has = record { rows = λ t now. rows t; none = λ t late. absurd (let now = is_now t in omega (arith, now, late)) };
@@ -30,7 +32,11 @@ content_now trees x lists rows = record {
 -- of a table with no rows
 none : (t : TableName) (rows : List Row) → rows ≡ [] → Stores t rows []
 unfolding IsStrictlySortedBy
-none t rows is = record { same = IsPermutation-same _ _ (ap (map (stored t)) is); sorted = tt; numbers = subst HaveNumbers (sym is) tt }
+none t rows is = record {
+  same = IsPermutation-same _ _ (ap (map (stored t)) is);
+  sorted = tt;
+  numbers = subst HaveNumbers (sym is) tt
+}
 
 no_rows : (t : TableName) → rows_of t no_content ≡ []
 no_rows table.Desk = refl
@@ -46,7 +52,10 @@ not_earlier t = grind arith
 
 -- before the first version there is nothing
 pub nothing : (trees : Trees) → HasRowsOf 0 trees no_content
-nothing trees = record { rows = λ t early. absurd (let some = not_earlier t in omega (arith, early, some)); none = λ t late. no_rows t }
+nothing trees = record {
+  rows = λ t early. absurd (let some = not_earlier t in omega (arith, early, some));
+  none = λ t late. no_rows t
+}
 
 -- each version's tables and those that came later are the tables of the newest
 all_of : (v : ℕ) → v ≤ newest → tables_of v ++ tables_after v ≡ tables_of newest
@@ -62,16 +71,29 @@ module _ (v : ℕ) (old new : Database) (adds : AddsTables (tables_of v) (tables
       by : (b : Bool) → nat_le (since t) v ≡ b → Stores t (new.trees (declared t).tree) (rows_of t x)
       by true is =
           let early : since t ≤ v = upto-true (since t) v is in
-          subst (λ rows. Stores t rows (rows_of t x)) (sym (of_each (λ u. new.trees u.tree ≡ old.trees u.tree) (schema_of v).tables (declared t) adds.others (in_version v t early))) (has.rows t early)
+          subst (λ rows. Stores t rows (rows_of t x))
+              (sym (of_each (λ u. new.trees u.tree ≡ old.trees u.tree) (schema_of v).tables (declared t) adds.others
+                  (in_version v t early))) (has.rows t early)
       by false is =
           let late : v < since t = upto-false (since t) v is in
-          subst (Stores t (new.trees (declared t).tree)) (sym (has.none t late)) (none t _ (of_each (λ u. new.trees (declared u).tree ≡ []) (tables_after v) t adds.empty (is_late v t late)))
+          subst (Stores t (new.trees (declared t).tree)) (sym (has.none t late))
+              (none t _
+                  (of_each (λ u. new.trees (declared u).tree ≡ []) (tables_after v) t adds.empty (is_late v t late)))
 
-  listed : v < newest → (tables_after v ≡ []) ⊎ Lists (new.trees catalog_tree) (schema_with (tables_of v ++ tables_after v)) → Lists (new.trees catalog_tree) (schema_with (tables_of v ++ tables_after v))
-  listed late (inl nothing) = let t = brought newest (omega arith) (omega arith) in absurd (subst (λ tables. IsAmong tables t.0) nothing (is_late v t.0 (omega (arith, late, t.1))))
+  listed : v < newest
+      → (tables_after v ≡ []) ⊎ Lists (new.trees catalog_tree) (schema_with (tables_of v ++ tables_after v))
+      → Lists (new.trees catalog_tree) (schema_with (tables_of v ++ tables_after v))
+  listed late (inl nothing) =
+      let t = brought newest (omega arith) (omega arith) in
+      absurd (subst (λ tables. IsAmong tables t.0) nothing (is_late v t.0 (omega (arith, late, t.1))))
   listed late (inr lists) = lists
 
   pub holds_later : v < newest → (x : Content) → HasRowsOf v old.trees x → Holds new x
   holds_later late x has =
       let all = ap schema_with (all_of v (omega (arith, late))) in
-      record { schema_is = adds.schema_is ∙ all; content = content_now new.trees x (subst (Lists (new.trees catalog_tree)) all (listed late adds.lists)) (rows_later x has) }
+      record {
+        schema_is = adds.schema_is ∙ all;
+        content =
+            content_now new.trees x (subst (Lists (new.trees catalog_tree)) all (listed late adds.lists))
+                (rows_later x has)
+      }

@@ -31,7 +31,8 @@ module _ {R : Type 0} (t : TableName) (cells : R → Cells t) where
   read (answer ∷ answers) [] h = absurd h
   read (answer ∷ answers) (row ∷ rows) h = ap₂ ◌∷◌ h.0.0 (read answers rows h.1)
 
-  are_numbers : (answers : List Row) (rows : List R) → AllZip Is answers rows → AllByRecursion (λ a. IsTrue (is_int (column a (rowid_at t)))) answers
+  are_numbers : (answers : List Row) (rows : List R) → AllZip Is answers rows
+      → AllByRecursion (λ a. IsTrue (is_int (column a (rowid_at t)))) answers
   are_numbers [] [] h = tt
   are_numbers [] (row ∷ rows) h = absurd h
   are_numbers (answer ∷ answers) [] h = absurd h
@@ -41,11 +42,18 @@ module _ {R : Type 0} (t : TableName) (cells : R → Cells t) where
   as_stored [] = refl
   as_stored (r ∷ tree) = ap₂ ◌∷◌ (shows t r) (as_stored tree)
 
-  pub loaded : (tree answers : List Row) (rows : List R) → IsPermutation (map (selected t) tree) answers → AllZip Is answers rows → IsStrictlySortedBy (key_cmp t) (map cells rows) → Stores t tree (map cells rows)
+  pub loaded : (tree answers : List Row) (rows : List R) → IsPermutation (map (selected t) tree) answers
+      → AllZip Is answers rows → IsStrictlySortedBy (key_cmp t) (map cells rows) → Stores t tree (map cells rows)
   loaded tree answers rows same is sorted = record {
-    same = subst (IsPermutation (map (stored t) tree)) (read answers rows is) (subst (λ l. IsPermutation l (map (shown t) answers)) (as_stored tree) (IsPermutation-map (shown t) _ _ same));
+    same =
+        subst (IsPermutation (map (stored t) tree)) (read answers rows is)
+            (subst (λ l. IsPermutation l (map (shown t) answers)) (as_stored tree)
+                (IsPermutation-map (shown t) _ _ same));
     sorted = sorted;
-    numbers = all_weaker (λ r. IsTrue (is_int (column (selected t r) (rowid_at t)))) (λ r. IsTrue (is_int (rowid r))) (λ r h. subst (λ v. IsTrue (is_int v)) (number t r) h) tree
+    numbers = all_weaker (λ r. IsTrue (is_int (column (selected t r) (rowid_at t)))) (λ r. IsTrue (is_int (rowid r)))
+        (λ r h. subst (λ v. IsTrue (is_int v)) (number t r) h) tree
         (all_unmap (λ a. IsTrue (is_int (column a (rowid_at t)))) (selected t) tree
-        (recursion_from_All _ _ (All-permutation (λ a. IsTrue (is_int (column a (rowid_at t)))) answers (map (selected t) tree) (IsPermutation-sym _ _ same) (All-from_recursion _ answers (are_numbers answers rows is)))));
+        (recursion_from_All _ _ (All-permutation (λ a. IsTrue (is_int (column a (rowid_at t)))) answers
+            (map (selected t) tree) (IsPermutation-sym _ _ same)
+            (All-from_recursion _ answers (are_numbers answers rows is)))));
   }

@@ -1,5 +1,6 @@
 -- What a statement INSERT .. VALUES of one row ON CONFLICT does is what it does with that row, for a table with no reference and no counter.
-use Rattle.std.proofs.Common.{◌≡◌, ℕ, ℤ, List, [], ◌∷◌, Bool, true, false, not, Some, None, Option, Ok, refl, sym, ap, subst, ◌∙◌, ◌/◌, length, slice_get, ◌&&◌}
+use Rattle.std.proofs.Common.{◌≡◌, ℕ, ℤ, List, [], ◌∷◌, Bool, true, false, not, Some, None, Option, Ok, refl, sym, ap,
+    subst, ◌∙◌, ◌/◌, length, slice_get, ◌&&◌}
 use Rattle.sqlite.specs.Order.{Row}
 use Rattle.sqlite.specs.Term.{Term}
 use Rattle.sqlite_schema.specs.declared.schema.Table.{Table}
@@ -28,22 +29,28 @@ pub freed : (b c : Bool) → (not b && c) ≡ true → b ≡ false
 freed true c h = sym h
 freed false c h = refl
 
-module _ (limit : Option ℕ) (mode : Mode) (params : Row) (schema : Schema) (at : ℕ) (table : Table) (is : slice_get schema.tables at ≡ Some table) (uncounted : table.is_counted ≡ false) where
+module _ (limit : Option ℕ) (mode : Mode) (params : Row) (schema : Schema) (at : ℕ) (table : Table)
+    (is : slice_get schema.tables at ≡ Some table) (uncounted : table.is_counted ≡ false) where
   abbrev task : Task
   task = record { limit = limit; keys = mode.keys; schema = schema; table = table; params = params }
 
   -- the row goes in where none has its key
-  pub added : (idle : (gone : List Row) (news : List Row) → works schema mode.keys 0 table.tree gone news ≡ []) (target : List ℕ) (new : Row) (steady : cast_row table new ≡ new) (db : Trees) (w : Written)
-      → ((r : Row) → Has (db table.tree) r → conflicts (Some target) schema.indexes table new r ≡ false) → Puts task new db (Ok w) → IsAlone schema table target new db w.trees
+  pub added : (idle : (gone : List Row) (news : List Row) → works schema mode.keys 0 table.tree gone news ≡ [])
+      (target : List ℕ) (new : Row) (steady : cast_row table new ≡ new) (db : Trees) (w : Written)
+      → ((r : Row) → Has (db table.tree) r → conflicts (Some target) schema.indexes table new r ≡ false)
+      → Puts task new db (Ok w) → IsAlone schema table target new db w.trees
   added idle target new steady db w none h =
       let wrote = went h in
       let same : w ≡ _ = same_value wrote.2 in
       let edit = edit_of db table [] Given 0 (new ∷ []) in
-      let a : Applies schema mode.keys db edit w.trees = rw same (one_step schema mode.keys db wrote.0 edit (idle (taken_by db edit) edit.news) wrote.1) in
+      let a : Applies schema mode.keys db edit w.trees =
+          rw same (one_step schema mode.keys db wrote.0 edit (idle (taken_by db edit) edit.news) wrote.1) in
       let b = subst (λ n. Applies schema mode.keys db (record { table = table; gone = []; news = n ∷ [] }) w.trees) steady a in
       record { added = record { none = none; fresh = freed _ _ b.fresh; rows = b.rows }; others = b.tables }
 
-  module _ (terms : List Term) (width : ℕ) (source : Row) (reads : value_rows (stamped table params) width (length terms / width) terms ≡ source ∷ []) (clauses : List Upsert) (Is : Trees → Type 0) where
+  module _ (terms : List Term) (width : ℕ) (source : Row)
+      (reads : value_rows (stamped table params) width (length terms / width) terms ≡ source ∷ [])
+      (clauses : List Upsert) (Is : Trees → Type 0) where
     abbrev new_in : Trees → Row
     new_in db = with_rowid Chosen (db table.tree) (cast_row table source)
 
@@ -52,7 +59,8 @@ module _ (limit : Option ℕ) (mode : Mode) (params : Row) (schema : Schema) (at
 
     module _ (db : Trees) (tries : (w : Written) → Tries task Abort clauses (new_in db) db (Ok w) → Is w.trees) where
       -- the one row that VALUES gives
-      each : (all : List Row) → all ≡ source ∷ [] → (top : ℤ) (out : Written × ℤ) → TriesEach task Abort clauses all top (nothing db) (Ok out) → Is out.0.trees
+      each : (all : List Row) → all ≡ source ∷ [] → (top : ℤ) (out : Written × ℤ)
+          → TriesEach task Abort clauses all top (nothing db) (Ok out) → Is out.0.trees
       each all is_one top out h =
           let first = went (subst (λ rows. TriesEach task Abort clauses rows top (nothing db) (Ok out)) is_one h) in
           let plain : rowids_for table top ≡ Chosen = rw uncounted refl in
@@ -69,15 +77,29 @@ module _ (limit : Option ℕ) (mode : Mode) (params : Row) (schema : Schema) (at
           let counter = went rows.2 in
           let tried = went counter.2 in
           let counted = went tried.2 in
-          let same : w.trees ≡ tried.0.0.trees = ap (λ (it : Written). it.trees) (same_value counted.2) ∙ counts tried.0.0.trees counted.0 counter.0 tried.0.1 counted.1 in
+          let same : w.trees ≡ tried.0.0.trees =
+              ap (λ (it : Written). it.trees) (same_value counted.2)
+              ∙ counts tried.0.0.trees counted.0 counter.0 tried.0.1 counted.1 in
           subst Is (sym same) (each rows.0 (rows.1.1 ∙ reads) _ tried.0 tried.1)
 
-    pub puts_one : (text : List ℕ) (db : Database) (has : db.schema ≡ schema) (tally : Tally) (after : Database) → ((w : Written) → Tries task Abort clauses (new_in db.trees) db.trees (Ok w) → Is w.trees)
-        → Does limit mode params db text None (InsertOr at Abort (Values terms width) clauses) (Ok (tally, after)) → (after.schema ≡ schema) × Is after.trees
+    pub puts_one : (text : List ℕ) (db : Database) (has : db.schema ≡ schema) (tally : Tally) (after : Database)
+        → ((w : Written) → Tries task Abort clauses (new_in db.trees) db.trees (Ok w) → Is w.trees)
+        → Does limit mode params db text None (InsertOr at Abort (Values terms width) clauses) (Ok (tally, after))
+        → (after.schema ≡ schema) × Is after.trees
     puts_one text db has tally after tries h =
-        let own : AtPlace (λ t. OnRows (record { limit = limit; keys = mode.keys; schema = schema; table = t; params = params }) mode None (InsertOr at Abort (Values terms width) clauses) db.trees) (slice_get schema.tables at) (Ok (tally, after)) =
-        subst (λ s. Does limit mode params (record db { schema = s }) text None (InsertOr at Abort (Values terms width) clauses) (Ok (tally, after))) has h in
-        let ran : OnRows task mode None (InsertOr at Abort (Values terms width) clauses) db.trees (Ok (tally, after)) = rw is at own in
+        let own : AtPlace (λ t. OnRows (record {
+          limit = limit;
+          keys = mode.keys;
+          schema = schema;
+          table = t;
+          params = params
+        }) mode None (InsertOr at Abort (Values terms width) clauses) db.trees) (slice_get schema.tables at)
+            (Ok (tally, after)) =
+        subst (λ s. Does limit mode params (record db { schema = s }) text None
+            (InsertOr at Abort (Values terms width) clauses) (Ok (tally, after))) has h in
+        let ran : OnRows task mode None (InsertOr at Abort (Values terms width) clauses) db.trees (Ok (tally, after)) =
+            rw is at own in
         let done = went ran in
         let now = ap (λ (p : Tally × Database). p.1) (same_value (went (went done.2).2).2) in
-        (ap (λ (d : Database). d.schema) now, subst Is (sym (ap (λ (d : Database). d.trees) now)) (inserts db.trees tries done.0 done.1))
+        (ap (λ (d : Database). d.schema) now,
+            subst Is (sym (ap (λ (d : Database). d.trees) now)) (inserts db.trees tries done.0 done.1))

@@ -24,9 +24,15 @@ use Rattle.keep.proofs.Among.{of_each}
 use Rattle.sql_keep.proofs.Upserts.{PutsIntoTable, puts_into}
 
 -- where the statement has put them in, the transaction goes on
-upserted : (text : List ℕ) (columns : Row) (changes : List Change) (old new : State) → ((count : ℕ) → Executes text columns old new (Ok count) → (x : Content) → Holds old.now x → Holds new.now (with_changes changes x))
+upserted : (text : List ℕ) (columns : Row) (changes : List Change) (old new : State)
+    → ((count : ℕ) → Executes text columns old new (Ok count) → (x : Content) → Holds old.now x
+        → Holds new.now (with_changes changes x))
     → (r : Result ℕ Error) → ExecutesInside 0 text columns old new r → OnOk r (PutsIn old new changes)
-upserted text columns changes old new holds (Ok count) h = record { mode = h.1.mode; committed = h.1.committed_is; is = holds count h.0 }
+upserted text columns changes old new holds (Ok count) h = record {
+  mode = h.1.mode;
+  committed = h.1.committed_is;
+  is = holds count h.0
+}
 upserted text columns changes old new holds (Err e) h = tt
 
 -- ---- a row put into its table
@@ -50,7 +56,9 @@ cells_of (change.Line row) = line_cells row
 cells_of (change.Kept row) = kept_cells row
 cells_of (change.Firm row) = firm_cells row
 
-rows_put : (c : Change) (t : TableName) (old new : Database) (x : Content) → PutsIntoTable (table_of c) (cells_of c) old new → Stores t (old.trees (declared t).tree) (rows_of t x) → Stores t (new.trees (declared t).tree) (rows_of t (with_changes (c ∷ []) x))
+rows_put : (c : Change) (t : TableName) (old new : Database) (x : Content)
+    → PutsIntoTable (table_of c) (cells_of c) old new → Stores t (old.trees (declared t).tree) (rows_of t x)
+    → Stores t (new.trees (declared t).tree) (rows_of t (with_changes (c ∷ []) x))
 rows_put (change.Desk row) table.Desk old new x puts was = puts.own x.desk was
 rows_put (change.Field row) table.Field old new x puts was = puts.own x.fields was
 rows_put (change.Move row) table.Move old new x puts was = puts.own x.moves was
@@ -58,18 +66,27 @@ rows_put (change.Order row) table.Orders old new x puts was = puts.own x.orders 
 rows_put (change.Line row) table.Line old new x puts was = puts.own x.lines was
 rows_put (change.Kept row) table.Kept old new x puts was = puts.own x.kept was
 rows_put (change.Firm row) table.Firm old new x puts was = puts.own x.firms was
-rows_put c t old new x puts was = subst (λ rows. Stores t rows (rows_of t x)) (sym (of_each (λ u. u.tree ≢ (declared (table_of c)).tree → new.trees u.tree ≡ old.trees u.tree) desk_schema.tables (declared t) puts.others (is_among t) (λ e. omega (arith, e)))) was
+rows_put c t old new x puts was =
+    subst (λ rows. Stores t rows (rows_of t x))
+        (sym (of_each (λ u. u.tree ≢ (declared (table_of c)).tree → new.trees u.tree ≡ old.trees u.tree)
+            desk_schema.tables (declared t) puts.others (is_among t) (λ e. omega (arith, e)))) was
 
-pub holds_put : (c : Change) (old new : Database) (x : Content) → PutsIntoTable (table_of c) (cells_of c) old new → Holds old x → Holds new (with_changes (c ∷ []) x)
+pub holds_put : (c : Change) (old new : Database) (x : Content) → PutsIntoTable (table_of c) (cells_of c) old new
+    → Holds old x → Holds new (with_changes (c ∷ []) x)
 holds_put c old new x puts held = record {
   schema_is = puts.schema_is;
-  content = content_now new.trees (with_changes (c ∷ []) x) puts.lists (λ t. rows_put c t old new x puts (held.content.has.rows t (is_now t)));
+  content =
+      content_now new.trees (with_changes (c ∷ []) x) puts.lists
+          (λ t. rows_put c t old new x puts (held.content.has.rows t (is_now t)));
 }
 
 -- what the statement of a row's table does
-pub row_upserted : (c : Change) (text : List ℕ) → PutsRow (table_of c) text → (old new : State) (r : Result ℕ Error) → ExecutesInside 0 text (columns (table_of c) (cells_of c)) old new r → OnOk r (PutsIn old new (c ∷ []))
+pub row_upserted : (c : Change) (text : List ℕ) → PutsRow (table_of c) text → (old new : State) (r : Result ℕ Error)
+    → ExecutesInside 0 text (columns (table_of c) (cells_of c)) old new r → OnOk r (PutsIn old new (c ∷ []))
 row_upserted c text means old new = upserted text (columns (table_of c) (cells_of c)) (c ∷ []) old new (λ count h x held.
-    holds_put c old.now new.now x (puts_into (table_of c) text means old new (cells_of c) count held.schema_is h (rows_of (table_of c) x) (held.content.has.rows (table_of c) (is_now (table_of c)))) held)
+    holds_put c old.now new.now x
+        (puts_into (table_of c) text means old new (cells_of c) count held.schema_is h (rows_of (table_of c) x)
+            (held.content.has.rows (table_of c) (is_now (table_of c)))) held)
 
 -- ---- rows put in one after another
 
@@ -82,9 +99,11 @@ first (change.Line r) cs x = refl
 first (change.Kept r) cs x = refl
 first (change.Firm r) cs x = refl
 
-one_more : (cs : List Change) (c : Change) (x : Content) → with_changes (cs ++ c ∷ []) x ≡ with_changes (c ∷ []) (with_changes cs x)
+one_more : (cs : List Change) (c : Change) (x : Content)
+    → with_changes (cs ++ c ∷ []) x ≡ with_changes (c ∷ []) (with_changes cs x)
 one_more [] c x = refl
-one_more (d ∷ cs) c x = first d (cs ++ c ∷ []) x ∙ one_more cs c (with_changes (d ∷ []) x) ∙ ap (with_changes (c ∷ [])) (sym (first d cs x))
+one_more (d ∷ cs) c x =
+    first d (cs ++ c ∷ []) x ∙ one_more cs c (with_changes (d ∷ []) x) ∙ ap (with_changes (c ∷ [])) (sym (first d cs x))
 
 pub puts_none : (s : State) → IsTrue s.in_transaction → PutsIn s s []
 puts_none s begun = record { mode = begun; committed = refl; is = λ x held. held }

@@ -47,22 +47,30 @@ lacks_one db x v old is has =
 
 -- what has the schema of the newest version is of no older one
 pub not_older : (db : Database) → db.schema ≡ desk_schema → IsOld db → ⊥
-not_older db is old = let same = is_of db old.0 newest (omega arith) is (omega (arith, old.1.1)) old.2 in omega (arith, same, old.1.1)
+not_older db is old =
+    let same = is_of db old.0 newest (omega arith) is (omega (arith, old.1.1)) old.2 in omega (arith, same, old.1.1)
 
 -- of the schema of a version nothing is told as of another
-pub of_a_version : {T : Type 0} (schema : Schema) (v : ℕ) (answer : Result T KeepFault) (is_left : Type 0) → HasNames schema → 1 ≤ v → v ≤ newest → schema ≡ schema_of v → TellsOtherSchema schema answer is_left
-of_a_version schema v answer is_left names some late is = record { nameless = λ none. absurd (none names); other = λ _ none. absurd (none (v, some, late, is)) }
+pub of_a_version : {T : Type 0} (schema : Schema) (v : ℕ) (answer : Result T KeepFault) (is_left : Type 0)
+    → HasNames schema → 1 ≤ v → v ≤ newest → schema ≡ schema_of v → TellsOtherSchema schema answer is_left
+of_a_version schema v answer is_left names some late is = record {
+  nameless = λ none. absurd (none names);
+  other = λ _ none. absurd (none (v, some, late, is))
+}
 
 -- the rows of a table lie where the version has it
-pub rows_there : (db : Database) (v : ℕ) (t : TableName) (Are : List Row → Type 0) → db.schema ≡ schema_of v → HasTable db.schema db.trees (declared t) Are → Are (db.trees (declared t).tree)
+pub rows_there : (db : Database) (v : ℕ) (t : TableName) (Are : List Row → Type 0) → db.schema ≡ schema_of v
+    → HasTable db.schema db.trees (declared t) Are → Are (db.trees (declared t).tree)
 rows_there db v t Are is has =
     let among = subst (λ (s : Schema). IsAmong s.tables (record (declared t) { tree = has.0 })) is has.1 in
     subst (λ tree. Are (db.trees tree)) (lies v t has.0 among).1 has.2
 
 -- a store with the schema of a version and one row of that version is of it
-pub is_of_version : (db : Database) (v : ℕ) (row : DeskCells) → 1 ≤ v → db.schema ≡ schema_of v → Stores table.Desk (db.trees desk_table.tree) (row ∷ []) → row.version ≡ pos v → IsOfVersion v db
+pub is_of_version : (db : Database) (v : ℕ) (row : DeskCells) → 1 ≤ v → db.schema ≡ schema_of v
+    → Stores table.Desk (db.trees desk_table.tree) (row ∷ []) → row.version ≡ pos v → IsOfVersion v db
 is_of_version db v row some is are version =
-    let there : (t : TableName) → since t ≤ v → IsAmong db.schema.tables (declared t) = λ t early. subst (λ (s : Schema). IsAmong s.tables (declared t)) (sym is) (in_version v t early) in
+    let there : (t : TableName) → since t ≤ v → IsAmong db.schema.tables (declared t) =
+        λ t early. subst (λ (s : Schema). IsAmong s.tables (declared t)) (sym is) (in_version v t early) in
     record {
       desk = (row, (desk_table.tree, there table.Desk some, are), version);
       tables = λ t early. ((declared t).tree, there t early, tt);
@@ -70,7 +78,11 @@ is_of_version db v row some is are version =
     }
 
 -- what holds a content of a version, with one row of `desk` of that version, is of it
-pub holds_one_row : (db : Database) (v : ℕ) (x : Content) (row : DeskCells) → HoldsOf v db x → x.desk ≡ row ∷ [] → row.version ≡ pos v → IsOfVersion v db
-holds_one_row db zero x row held one version = absurd (let none = sym (held.content.has.none table.Desk (omega arith)) ∙ one in cc)
+pub holds_one_row : (db : Database) (v : ℕ) (x : Content) (row : DeskCells) → HoldsOf v db x → x.desk ≡ row ∷ []
+    → row.version ≡ pos v → IsOfVersion v db
+holds_one_row db zero x row held one version =
+    absurd (let none = sym (held.content.has.none table.Desk (omega arith)) ∙ one in cc)
 holds_one_row db (suc v) x row held one version =
-    is_of_version db (suc v) row (omega arith) held.schema_is (subst (Stores table.Desk (db.trees desk_table.tree)) one (held.content.has.rows table.Desk (omega arith))) version
+    is_of_version db (suc v) row (omega arith) held.schema_is
+        (subst (Stores table.Desk (db.trees desk_table.tree)) one (held.content.has.rows table.Desk (omega arith)))
+        version

@@ -6,13 +6,21 @@ use Rattle.sqlite.proofs.Callers.{unchanged_then}
 use Rattle.sqlite.proofs.StateLemmas.{survives_then}
 use Rattle.sqlite_trees.specs.Tree.{Trees}
 use Rattle.sql_keep.specs.Description.{desk_schema}
-use Rattle.sql_keep.specs.Loads.{Finds}
+use Rattle.sql_keep.specs.Loads.{FindsTrees}
 
 pub survives_itself : (s : State) (P : Trees → Type 0) → Survives s s P
-survives_itself s P = record { clean = omega arith; shield = λ h. h; counts = omega arith; limit = refl; closes = λ clean h. inl h; crash = λ clean db h. inl h }
+survives_itself s P = record {
+  clean = omega arith;
+  shield = λ h. h;
+  counts = omega arith;
+  limit = refl;
+  closes = λ clean h. inl h;
+  crash = λ clean db h. inl h
+}
 
 -- one read after another
-pub finds_then : (a b c : State) (P Q : Trees → Type 0) (R : Trees → Type 0) → Survives b c R → Finds a b P → Finds b c Q → Finds a c (λ trees. P trees × Q trees)
+pub finds_then : (a b c : State) (P Q : Trees → Type 0) (R : Trees → Type 0) → Survives b c R → FindsTrees a b P
+    → FindsTrees b c Q → FindsTrees a c (λ trees. P trees × Q trees)
 finds_then a b c P Q R survives first second clean has =
     let before : HasCleanDisk b = omega (arith, clean, survives.clean) in
     let p = first before has in
@@ -21,7 +29,10 @@ finds_then a b c P Q R survives first second clean has =
     (unchanged_then a b c p.0 q.0, (p.1, subst (λ (d : Database). Q d.trees) now q.1))
 
 -- what a failing read may commit, where the schema is that of a desk as it is made, is nothing
-pub reads_only : (a b c : State) → Survives b c (λ _. ¬ (b.now.schema ≡ desk_schema)) → (HasCleanDisk b → a.now.schema ≡ desk_schema → IsUnchanged a b)
+pub reads_only : (a b c : State) → Survives b c (λ _. ¬ (b.now.schema ≡ desk_schema))
+    → (HasCleanDisk b → a.now.schema ≡ desk_schema → IsUnchanged a b)
     → Survives a b (λ _. ¬ (a.now.schema ≡ desk_schema)) → Survives a c (λ _. ¬ (a.now.schema ≡ desk_schema))
 reads_only a b c second same first =
-    survives_then a b c _ _ _ (λ _ db h. h) (λ clean db other has. other (ap (λ d. d.schema) (same (omega (arith, clean, second.clean)) has).0.now_is ∙ has)) first second
+    survives_then a b c _ _ _ (λ _ db h. h)
+        (λ clean db other has.
+            other (ap (λ d. d.schema) (same (omega (arith, clean, second.clean)) has).0.now_is ∙ has)) first second

@@ -1,5 +1,7 @@
 -- What a statement INSERT .. VALUES of one row ON CONFLICT (key) DO UPDATE does, for a table with no reference and no counter.
-use Rattle.std.proofs.Common.{◌≡◌, inl, inr, ℕ, ℤ, pos, negsuc, List, [], ◌∷◌, ◌++◌, map, filter, flat_map, cond, Bool, true, false, not, Some, None, Option, Ok, refl, sym, ap, subst, ◌∙◌, ◌/◌, length, slice_get, ◌&&◌, IsTrue, IsPermutation, true≢false, arith, drop}
+use Rattle.std.proofs.Common.{◌≡◌, inl, inr, ℕ, ℤ, pos, negsuc, List, [], ◌∷◌, ◌++◌, map, filter, flat_map, cond, Bool,
+    true, false, not, Some, None, Option, Ok, refl, sym, ap, subst, ◌∙◌, ◌/◌, length, slice_get, ◌&&◌, IsTrue,
+    IsPermutation, true≢false, arith, drop}
 use Rattle.std.specs.List.{list_all}
 use Rattle.std.specs.Ordering.{is_eq}
 use Rattle.std.proofs.lemmas.Cmp.{tied_itself}
@@ -63,10 +65,13 @@ numbered_given rows [] = refl
 numbered_given rows (n ∷ news) = ap (λ l. n ∷ l) (numbered_given (put_row n rows) news)
 
 matched : (p : Row → Bool) (given : Row) (q : Query) (rows : List Row)
-    → map (λ (o : Output). o.1) (map (output q) (flat_map (λ r. cond (p r) ((given ∷ r ∷ []) ∷ []) []) rows)) ≡ map (λ r. eval_all q.project (given ∷ r ∷ [])) (filter p rows)
+    → map (λ (o : Output). o.1) (map (output q) (flat_map (λ r. cond (p r) ((given ∷ r ∷ []) ∷ []) []) rows))
+        ≡ map (λ r. eval_all q.project (given ∷ r ∷ [])) (filter p rows)
 matched p given q [] = refl
 matched p given q (r ∷ rows) =
-    elim (p r) as (λ b. map (λ (o : Output). o.1) (map (output q) (cond b ((given ∷ r ∷ []) ∷ []) [] ++ flat_map (λ r. cond (p r) ((given ∷ r ∷ []) ∷ []) []) rows))
+    elim (p r) as (λ b. map (λ (o : Output). o.1)
+        (map (output q)
+            (cond b ((given ∷ r ∷ []) ∷ []) [] ++ flat_map (λ r. cond (p r) ((given ∷ r ∷ []) ∷ []) []) rows))
     ≡ map (λ r. eval_all q.project (given ∷ r ∷ [])) (cond b (r ∷ filter p rows) (filter p rows)))
     [ true ↦ ap (λ l. eval_all q.project (given ∷ r ∷ []) ∷ l) (matched p given q rows) | false ↦ matched p given q rows ]
 
@@ -85,13 +90,19 @@ false_unless true h = absurd (h refl)
 false_unless false h = refl
 
 has_permuted : {X : Type 0} (xs ys : List X) (x : X) → IsPermutation xs ys → Has ys x → Has xs x
-has_permuted xs ys x same h = all_has (Has xs) ys x (recursion_from_All (Has xs) ys (All-permutation (Has xs) xs ys same (All-from_recursion (Has xs) xs (all_from (Has xs) xs (λ e k. k))))) h
+has_permuted xs ys x same h =
+    all_has (Has xs) ys x (recursion_from_All (Has xs) ys
+        (All-permutation (Has xs) xs ys same (All-from_recursion (Has xs) xs (all_from (Has xs) xs (λ e k. k))))) h
 
-module _ (limit : Option ℕ) (mode : Mode) (params : Row) (schema : Schema) (at : ℕ) (table : Table) (is : slice_get schema.tables at ≡ Some table)
-    (uncounted : table.is_counted ≡ false) (idle : (gone : List Row) (news : List Row) → works schema mode.keys 0 table.tree gone news ≡ [])
+module _ (limit : Option ℕ) (mode : Mode) (params : Row) (schema : Schema) (at : ℕ) (table : Table)
+    (is : slice_get schema.tables at ≡ Some table)
+    (uncounted : table.is_counted ≡ false)
+    (idle : (gone : List Row) (news : List Row) → works schema mode.keys 0 table.tree gone news ≡ [])
     (low : (db : Trees) → overlay db [] table.tree ≡ db table.tree)
-    (terms : List Term) (width : ℕ) (source : Row) (reads : value_rows (stamped table params) width (length terms / width) terms ≡ source ∷ [])
-    (target : List ℕ) (place : ℕ) (placed : (v : Value) (more : Row) → column (params ++ v ∷ more) place ≡ v) (sets : List Term) where
+    (terms : List Term) (width : ℕ) (source : Row)
+    (reads : value_rows (stamped table params) width (length terms / width) terms ≡ source ∷ [])
+    (target : List ℕ) (place : ℕ) (placed : (v : Value) (more : Row) → column (params ++ v ∷ more) place ≡ v)
+    (sets : List Term) where
   abbrev task : Task
   task = record { limit = limit; keys = mode.keys; schema = schema; table = table; params = params }
 
@@ -125,24 +136,34 @@ module _ (limit : Option ℕ) (mode : Mode) (params : Row) (schema : Schema) (at
   abbrev pub set_row : Row → Row → Row → Row
   set_row new there r = eval_all (col 1 0 ∷ sets) (given new there ∷ r ∷ [])
 
-  passes : (new there r : Row) (id : ℤ) → rowid there ≡ Int id → list_all (holds (given new there ∷ r ∷ [])) query.filter ≡ has_rowid id r
+  passes : (new there r : Row) (id : ℤ) → rowid there ≡ Int id
+      → list_all (holds (given new there ∷ r ∷ [])) query.filter ≡ has_rowid id r
   passes new there r id known =
-      and_true _ ∙ ap (λ v. is_true (binary (Compare Eq Binary) (rowid r) v)) (placed (rowid there) (shown table new) ∙ known) ∙ equal_int (rowid r) id
+      and_true _
+      ∙ ap (λ v. is_true (binary (Compare Eq Binary) (rowid r) v)) (placed (rowid there) (shown table new) ∙ known)
+      ∙ equal_int (rowid r) id
 
-  answered : (db : Trees) (new there : Row) (id : ℤ) → rowid there ≡ Int id → (rows : List Row) → Answers (record { schema = schema; trees = db }) program (given new there) rows
+  answered : (db : Trees) (new there : Row) (id : ℤ) → rowid there ≡ Int id → (rows : List Row)
+      → Answers (record { schema = schema; trees = db }) program (given new there) rows
       → IsPermutation (map (λ r. rowid r ∷ set_row new there r) (filter (has_rowid id) (db table.tree))) rows
   answered db new there id known rows h =
       let a : IsAnswer query (overlay db []) (given new there) rows = h.answer Null in
       let test = λ (r : Row). list_all (holds (given new there ∷ r ∷ [])) query.filter in
       let staged : a.staged ≡ flat_map (λ r. cond (test r) ((given new there ∷ r ∷ []) ∷ []) []) (db table.tree) =
       a.grouped ∙ ap (flat_map (λ r. cond (test r) ((given new there ∷ r ∷ []) ∷ []) [])) (low db) in
-      let kept : map (λ (o : Output). o.1) a.kept ≡ map (λ r. rowid r ∷ set_row new there r) (filter (has_rowid id) (db table.tree)) =
-      ap (map (λ (o : Output). o.1)) (a.distinct ∙ ap (map (output query)) staged) ∙ matched test (given new there) query (db table.tree)
-      ∙ ap (map (λ r. rowid r ∷ set_row new there r)) (filter_same test (has_rowid id) (λ r. passes new there r id known) (db table.tree)) in
-      IsPermutation-trans _ _ _ (IsPermutation-same _ _ (sym kept)) (IsPermutation-trans _ _ _ (IsPermutation-map (λ (o : Output). o.1) _ _ a.same) (IsPermutation-same _ _ (sym a.shown)))
+      let kept : map (λ (o : Output). o.1) a.kept
+          ≡ map (λ r. rowid r ∷ set_row new there r) (filter (has_rowid id) (db table.tree)) =
+      ap (map (λ (o : Output). o.1)) (a.distinct ∙ ap (map (output query)) staged)
+      ∙ matched test (given new there) query (db table.tree)
+      ∙ ap (map (λ r. rowid r ∷ set_row new there r))
+          (filter_same test (has_rowid id) (λ r. passes new there r id known) (db table.tree)) in
+      IsPermutation-trans _ _ _ (IsPermutation-same _ _ (sym kept))
+          (IsPermutation-trans _ _ _ (IsPermutation-map (λ (o : Output). o.1) _ _ a.same)
+              (IsPermutation-same _ _ (sym a.shown)))
 
   -- a row that is updated keeps its rowid, so a second one of the same rowid would be refused
-  module _ (new : Row) (db : Trees) (was : Row) (id : ℤ) (known : rowid was ≡ Int id) (keyed : HaveNumbers (db table.tree)) (there : Has (db table.tree) was) where
+  module _ (new : Row) (db : Trees) (was : Row) (id : ℤ) (known : rowid was ≡ Int id)
+      (keyed : HaveNumbers (db table.tree)) (there : Has (db table.tree) was) where
     abbrev before : List Row
     before = filter (has_rowid id) (db table.tree)
 
@@ -152,7 +173,8 @@ module _ (limit : Option ℕ) (mode : Mode) (params : Row) (schema : Schema) (at
     found_there : Has before was
     found_there = has_kept (has_rowid id) (db table.tree) was there (rw known (ap is_eq (tied_itself value_cmp_total (Int id))))
 
-    id_of : (rows : List Row) → IsPermutation (map made before) rows → (a : Row) → Has rows a → rowid (cast_row table (drop 1 a)) ≡ Int id
+    id_of : (rows : List Row) → IsPermutation (map made before) rows → (a : Row) → Has rows a
+        → rowid (cast_row table (drop 1 a)) ≡ Int id
     id_of rows perm a h =
         let from = has_mapped made before a (has_permuted (map made before) rows a perm h) in
         let kept = has_filtered (has_rowid id) (db table.tree) from.0 from.1 in
@@ -160,68 +182,106 @@ module _ (limit : Option ℕ) (mode : Mode) (params : Row) (schema : Schema) (at
         let same : id_in (rowid from.0) ≡ id = same_number _ _ (subst (λ v. is_eq (value_cmp v (Int id)) ≡ true) int kept.1) in
         ap (λ (r : Row). cast Integer (column (drop 1 r) 0)) from.2 ∙ ap (cast Integer) (int ∙ ap Int same) ∙ cast_int id
 
-    only : (rows : List Row) → IsPermutation (map made before) rows → (left : List Row) → are_fresh left (numbered Given left (map (λ s. cast_row table (drop 1 s)) rows)) ≡ true → length rows ≡ 1
-    only [] perm left fresh = absurd (none_there was before found_there (sym (length-map before made) ∙ sym (length_permutation (map made before) [] perm)))
+    only : (rows : List Row) → IsPermutation (map made before) rows → (left : List Row)
+        → are_fresh left (numbered Given left (map (λ s. cast_row table (drop 1 s)) rows)) ≡ true → length rows ≡ 1
+    only [] perm left fresh =
+        absurd (none_there was before found_there
+            (sym (length-map before made) ∙ sym (length_permutation (map made before) [] perm)))
     only (a ∷ []) perm left fresh = refl
     only (a ∷ b ∷ more) perm left fresh =
         let free = freed _ _ (later_freed _ _ fresh) in
         let first = id_of (a ∷ b ∷ more) perm a (inl refl) in
         let second = id_of (a ∷ b ∷ more) perm b (inr (inl refl)) in
-        let tied : is_eq (value_cmp (rowid (cast_row table (drop 1 a))) (rowid (cast_row table (drop 1 b)))) ≡ true = rw (first, second) (ap is_eq (tied_itself value_cmp_total (Int id))) in
-        absurd (true≢false (sym (some_from (λ r. is_eq (value_cmp (rowid r) (rowid (cast_row table (drop 1 b))))) (put_row (cast_row table (drop 1 a)) left) (cast_row table (drop 1 a)) (has_put _ left) tied) ∙ free))
+        let tied : is_eq (value_cmp (rowid (cast_row table (drop 1 a))) (rowid (cast_row table (drop 1 b)))) ≡ true =
+            rw (first, second) (ap is_eq (tied_itself value_cmp_total (Int id))) in
+        absurd (true≢false (sym (some_from (λ r. is_eq (value_cmp (rowid r) (rowid (cast_row table (drop 1 b)))))
+            (put_row (cast_row table (drop 1 a)) left) (cast_row table (drop 1 a)) (has_put _ left) tied) ∙ free))
 
-  resolves : (new : Row) (db : Trees) (w : Written) (keyed : HaveNumbers (db table.tree)) (cells was : Row) (there : Has (db table.tree) was) (has_key : conflicts (Some target) schema.indexes table new was ≡ true)
-      → cast_row table (set_row new (rowid was ∷ []) was) ≡ rowid was ∷ cells → Updates task program (given new (rowid was ∷ [])) db (Ok w) → Upserted schema table target new db w.trees cells
+  resolves : (new : Row) (db : Trees) (w : Written) (keyed : HaveNumbers (db table.tree)) (cells was : Row)
+      (there : Has (db table.tree) was) (has_key : conflicts (Some target) schema.indexes table new was ≡ true)
+      → cast_row table (set_row new (rowid was ∷ []) was) ≡ rowid was ∷ cells
+      → Updates task program (given new (rowid was ∷ [])) db (Ok w) → Upserted schema table target new db w.trees cells
   resolves new db w keyed cells was there has_key remakes h =
       let queried = went h in
       let rows = queried.0 in
       let wrote = went queried.2 in
       let edit = edit_of db table (ids_of rows) Given 1 rows in
       let same : w.trees ≡ wrote.0 = ap (λ (it : Written). it.trees) (same_value wrote.2) in
-      let a : Applies schema mode.keys db edit w.trees = subst (Applies schema mode.keys db edit) (sym same) (one_step schema mode.keys db wrote.0 edit (idle (taken_by db edit) edit.news) wrote.1) in
+      let a : Applies schema mode.keys db edit w.trees =
+          subst (Applies schema mode.keys db edit) (sym same)
+              (one_step schema mode.keys db wrote.0 edit (idle (taken_by db edit) edit.news) wrote.1) in
       let id = id_in (rowid was) in
       let known = int_is (rowid was) (all_has (λ s. IsTrue (is_int (rowid s))) (db table.tree) was keyed there) in
       let perm = answered db new (rowid was ∷ []) id known rows queried.1 in
       let once = only new db was id known keyed there rows perm (without_all (db table.tree) (ids_of rows)) a.fresh in
-      let alone : filter (has_rowid id) (db table.tree) ≡ was ∷ [] = one_element _ was (found_there new db was id known keyed there) (sym (length-map _ _) ∙ sym (length_permutation _ rows perm) ∙ once) in
+      let alone : filter (has_rowid id) (db table.tree) ≡ was ∷ [] =
+          one_element _ was (found_there new db was id known keyed there)
+              (sym (length-map _ _) ∙ sym (length_permutation _ rows perm) ∙ once) in
       let exact : rows ≡ (rowid was ∷ set_row new (rowid was ∷ []) was) ∷ [] =
-      one_permutation _ rows (subst (λ l. IsPermutation (map (λ r. rowid r ∷ set_row new (rowid was ∷ []) r) l) rows) alone perm) in
+      one_permutation _ rows
+          (subst (λ l. IsPermutation (map (λ r. rowid r ∷ set_row new (rowid was ∷ []) r) l) rows) alone perm) in
       let b = subst (λ l. Applies schema mode.keys db (edit_of db table (ids_of l) Given 1 l) w.trees) exact a in
-      let c = subst (λ n. Applies schema mode.keys db (record { table = table; gone = id ∷ []; news = n ∷ [] }) w.trees) remakes b in
-      record { made = inr (record { was = was; there = there; has_key = has_key; alone = alone; fresh = freed _ _ c.fresh; rows = c.rows }); others = c.tables }
+      let c =
+          subst (λ n. Applies schema mode.keys db (record { table = table; gone = id ∷ []; news = n ∷ [] }) w.trees)
+              remakes b in
+      record {
+        made =
+            inr (record {
+              was = was;
+              there = there;
+              has_key = has_key;
+              alone = alone;
+              fresh = freed _ _ c.fresh;
+              rows = c.rows
+            });
+        others = c.tables
+      }
 
   -- what the SET list has to make of the row that has the key
   abbrev pub Remakes : Trees → Row → Row → Type 0
-  Remakes db new cells = (was : Row) → Has (db table.tree) was → conflicts (Some target) schema.indexes table new was ≡ true → cast_row table (set_row new (rowid was ∷ []) was) ≡ rowid was ∷ cells
+  Remakes db new cells =
+      (was : Row) → Has (db table.tree) was → conflicts (Some target) schema.indexes table new was ≡ true
+      → cast_row table (set_row new (rowid was ∷ []) was) ≡ rowid was ∷ cells
 
   module _ (db : Trees) (keyed : HaveNumbers (db table.tree)) (cells : Row) where
-    puts : (new : Row) (steady : cast_row table new ≡ new) (w : Written) → ((r : Row) → Has (db table.tree) r → conflicts (Some target) schema.indexes table new r ≡ false)
+    puts : (new : Row) (steady : cast_row table new ≡ new) (w : Written)
+        → ((r : Row) → Has (db table.tree) r → conflicts (Some target) schema.indexes table new r ≡ false)
         → Puts task new db (Ok w) → Upserted schema table target new db w.trees cells
-    puts new steady w none h = let made = added limit mode params schema at table is uncounted idle target new steady db w none h in record { made = inl made.added; others = made.others }
+    puts new steady w none h =
+        let made = added limit mode params schema at table is uncounted idle target new steady db w none h in
+        record { made = inl made.added; others = made.others }
 
-    clears : (new : Row) (steady : cast_row table new ≡ new) (w : Written) → ((r : Row) → Has (db table.tree) r → conflicts (Some target) schema.indexes table new r ≡ false)
+    clears : (new : Row) (steady : cast_row table new ≡ new) (w : Written)
+        → ((r : Row) → Has (db table.tree) r → conflicts (Some target) schema.indexes table new r ≡ false)
         → (found : List Row) → Clears task Abort new db found (Ok w) → Upserted schema table target new db w.trees cells
     clears new steady w none [] h = puts new steady w none h
     clears new steady w none (x ∷ more) h = puts new steady w none h
 
-    tries : (new : Row) (steady : cast_row table new ≡ new) (remakes : Remakes db new cells) (w : Written) → Tries task Abort clauses new db (Ok w) → Upserted schema table target new db w.trees cells
+    tries : (new : Row) (steady : cast_row table new ≡ new) (remakes : Remakes db new cells) (w : Written)
+        → Tries task Abort clauses new db (Ok w) → Upserted schema table target new db w.trees cells
     tries new steady remakes w (inl refused) = absurd (let e = refused.1 in cc)
     tries new steady remakes w (inr it) = judged it.0 it.2
       where
         meets : (found : List Row) → AreConflicts (Some target) schema.indexes table (db table.tree) new found
-            → Meets task (Upserts task Abort new db []) new db (record { target = Some target; update = Some program }) found (Ok w) → Upserted schema table target new db w.trees cells
+            → Meets task (Upserts task Abort new db []) new db (record { target = Some target; update = Some program })
+                found (Ok w) → Upserted schema table target new db w.trees cells
         meets [] are h = clears new steady w (λ r r_in. false_unless _ (λ e. are.complete r r_in e)) h.0 h.2
         meets (x ∷ more) are h =
             let s = are.sound x (inl refl) in
-            resolves new db w keyed cells s.0 s.1 s.2 (remakes s.0 s.1 s.2) (subst (λ t. Updates task program (given new t) db (Ok w)) s.3 h)
+            resolves new db w keyed cells s.0 s.1 s.2 (remakes s.0 s.1 s.2)
+                (subst (λ t. Updates task program (given new t) db (Ok w)) s.3 h)
 
-        judged : (verdict : Option Refusal) → Judged task Abort clauses new db verdict (Ok w) → Upserted schema table target new db w.trees cells
+        judged : (verdict : Option Refusal) → Judged task Abort clauses new db verdict (Ok w)
+            → Upserted schema table target new db w.trees cells
         judged None h = meets h.0 h.1 h.2
         judged (Some why) h = absurd (let e = h in cc)
 
-  pub upserts : (text : List ℕ) (db : Database) (has : db.schema ≡ schema) (tally : Tally) (after : Database) (keyed : HaveNumbers (db.trees table.tree)) (cells : Row)
-      → cast_row table (new_in db.trees) ≡ new_in db.trees → Remakes db.trees (new_in db.trees) cells → Does limit mode params db text None (InsertOr at Abort (Values terms width) clauses) (Ok (tally, after))
+  pub upserts : (text : List ℕ) (db : Database) (has : db.schema ≡ schema) (tally : Tally) (after : Database)
+      (keyed : HaveNumbers (db.trees table.tree)) (cells : Row)
+      → cast_row table (new_in db.trees) ≡ new_in db.trees → Remakes db.trees (new_in db.trees) cells
+      → Does limit mode params db text None (InsertOr at Abort (Values terms width) clauses) (Ok (tally, after))
       → (after.schema ≡ schema) × Upserted schema table target (new_in db.trees) db.trees after.trees cells
   upserts text db has tally after keyed cells steady remakes h =
-      puts_one limit mode params schema at table is uncounted terms width source reads clauses (λ next. Upserted schema table target (new_in db.trees) db.trees next cells) text db has tally after
+      puts_one limit mode params schema at table is uncounted terms width source reads clauses
+      (λ next. Upserted schema table target (new_in db.trees) db.trees next cells) text db has tally after
       (tries db.trees keyed cells (new_in db.trees) steady remakes) h

@@ -1,5 +1,6 @@
 -- Which tables a version has, and which schema is that of which version.
-use Rattle.std.proofs.Common.{◌≡◌, ◌<◌, ◌≤◌, ◌∙◌, Bool, false, true, if◌then◌else◌, inl, inr, ℕ, zero, suc, List, [], ◌∷◌, ap, arith, filter, get_or, length, map, nat_eq, nat_le, nat_lt, refl, subst, sym}
+use Rattle.std.proofs.Common.{◌≡◌, ◌<◌, ◌≤◌, ◌∙◌, Bool, false, true, if◌then◌else◌, inl, inr, ℕ, zero, suc, List, [],
+    ◌∷◌, ap, arith, filter, get_or, length, map, nat_eq, nat_le, nat_lt, refl, subst, sym}
 use Rattle.std.specs.List.{AllByRecursion as Each, Any}
 use Rattle.sqlite.specs.Schema.{Schema}
 use Rattle.sqlite.specs.Table.{Table}
@@ -27,7 +28,8 @@ kept : {X : Type 0} (P : X → Bool) (xs : List X) (x : X) → IsAmong xs x → 
 kept P [] x among chosen = absurd among
 kept {X} P (y ∷ ys) x among chosen = by (P y) refl (λ more. kept P ys x more chosen) among
   where
-    by : (b : Bool) → P y ≡ b → (IsAmong ys x → IsAmong (filter P ys) x) → IsAmong (y ∷ ys) x → IsAmong (if b then y ∷ filter P ys else filter P ys) x
+    by : (b : Bool) → P y ≡ b → (IsAmong ys x → IsAmong (filter P ys) x) → IsAmong (y ∷ ys) x
+        → IsAmong (if b then y ∷ filter P ys else filter P ys) x
     by true is more (inl first) = inl first
     by true is more (inr later) = inr (more later)
     by false is more (inl first) = absurd (let no = sym is ∙ ap P (sym first) ∙ chosen in cc)
@@ -37,7 +39,8 @@ chosen : {X : Type 0} (P : X → Bool) (xs : List X) (x : X) → IsAmong (filter
 chosen P [] x among = absurd among
 chosen {X} P (y ∷ ys) x among = by (P y) refl (chosen P ys x) among
   where
-    by : (b : Bool) → P y ≡ b → (IsAmong (filter P ys) x → P x ≡ true) → IsAmong (if b then y ∷ filter P ys else filter P ys) x → P x ≡ true
+    by : (b : Bool) → P y ≡ b → (IsAmong (filter P ys) x → P x ≡ true)
+        → IsAmong (if b then y ∷ filter P ys else filter P ys) x → P x ≡ true
     by true is more (inl first) = ap P first ∙ is
     by true is more (inr later) = more later
     by false is more later = more later
@@ -94,7 +97,10 @@ in_version v t early = mapped declared (tables_of v) t (is_early v t early)
 
 -- the third letters of their names differ
 abbrev by_letter : ℕ → TableName
-by_letter letter = if nat_eq letter 115 then table.Desk else (if nat_eq letter 101 then table.Field else (if nat_eq letter 118 then table.Move else (if nat_eq letter 100 then table.Orders
+by_letter letter =
+    if nat_eq letter 115 then table.Desk
+    else (if nat_eq letter 101 then table.Field
+        else (if nat_eq letter 118 then table.Move else (if nat_eq letter 100 then table.Orders
     else (if nat_eq letter 110 then table.Line else (if nat_eq letter 112 then table.Kept else table.Firm)))))
 
 by_its_letter : (t : TableName) → by_letter (get_or (declared t).name 2 0) ≡ t
@@ -109,15 +115,18 @@ by_its_letter table.Firm = refl
 alike : (t u : TableName) → (declared t).name ≡ (declared u).name → t ≡ u
 alike t u same = sym (by_its_letter t) ∙ ap (λ (name : List ℕ). by_letter (get_or name 2 0)) same ∙ by_its_letter u
 
-is_since : (v : ℕ) (t : TableName) (found : Table) → found.name ≡ (declared t).name → IsAmong (schema_of v).tables found → (since t ≤ v) × (found ≡ declared t)
+is_since : (v : ℕ) (t : TableName) (found : Table) → found.name ≡ (declared t).name → IsAmong (schema_of v).tables found
+    → (since t ≤ v) × (found ≡ declared t)
 is_since v t found is among =
     let u = from_map declared (tables_of v) found among in
     let same : u.0 ≡ t = alike u.0 t (sym (ap (λ (t : Table). t.name) u.2) ∙ is) in
-    let early : nat_le (since t) v ≡ true = subst (λ t. nat_le (since t) v ≡ true) same (chosen (λ t. nat_le (since t) v) all_tables u.0 u.1) in
+    let early : nat_le (since t) v ≡ true =
+        subst (λ t. nat_le (since t) v ≡ true) same (chosen (λ t. nat_le (since t) v) all_tables u.0 u.1) in
     (upto-true (since t) v early, u.2 ∙ ap declared same)
 
 -- a table lies in the schema of a version where it says
-pub lies : (v : ℕ) (t : TableName) (tree : ℕ) → IsAmong (schema_of v).tables (record (declared t) { tree = tree }) → (since t ≤ v) × (tree ≡ (declared t).tree)
+pub lies : (v : ℕ) (t : TableName) (tree : ℕ) → IsAmong (schema_of v).tables (record (declared t) { tree = tree })
+    → (since t ≤ v) × (tree ≡ (declared t).tree)
 lies v t tree among =
     let found = is_since v t (record (declared t) { tree = tree }) refl among in
     (found.0, ap (λ (t : Table). t.tree) found.1)

@@ -1,6 +1,7 @@
--- How SQL keeps the tables of a desk, of each version. A table more is a line in each definition here, and its declaration
--- in the schema.
-use Rattle.std.specs.Prelude.{ℕ, ◌≡◌, ◌<◌, ◌≤◌, List, [], ◌∷◌, ◌++◌, ◌-◌, Option, None, Some, flat_map, length, map, nat_le, nat_lt}
+-- How SQL keeps the tables of a desk, of each version. For one table more, each definition here gets a line more, and
+-- the schema the table's declaration.
+use Rattle.std.specs.Prelude.{ℕ, ◌≡◌, ◌<◌, ◌≤◌, List, [], ◌∷◌, ◌++◌, ◌-◌, Option, None, Some, flat_map, length, map,
+    nat_le, nat_lt}
 use Rattle.std.specs.List.{filter, range_with_len}
 use Rattle.sqlite.specs.declared.types.Value.TheVariants.{Int, Text}
 use Rattle.sqlite.specs.Order.{Row, bytes, column}
@@ -9,15 +10,16 @@ use Rattle.sqlite_rules.specs.Edit.{id_in}
 use Rattle.sqlite.specs.Schema.{Schema}
 use Rattle.keep.specs.Content.{newest}
 use Rattle.keep.specs.TableRows.{Cells}
-use Rattle.sql_keep.specs.Schema.{desk_table, field_table, firm_table, key_indexes, kept_table, line_table, move_table, orders_table}
+use Rattle.sql_keep.specs.Schema.{desk_table, field_table, firm_table, key_indexes, kept_table, line_table, move_table,
+    orders_table}
 use Rattle.keep.specs.declared.table_row.TableName.{TableName}
 use Rattle.keep.specs.declared.table_row.TableName.TheVariants as table
 
--- in the order in which they are made
+-- the tables, in the order in which they are made
 abbrev pub all_tables : List TableName
 all_tables = table.Desk ∷ table.Field ∷ table.Move ∷ table.Orders ∷ table.Line ∷ table.Kept ∷ table.Firm ∷ []
 
--- the version of the schema that brought it
+-- the version of the schema that brought the table
 abbrev pub since : TableName → ℕ
 since table.Desk = 1
 since table.Field = 1
@@ -27,7 +29,7 @@ since table.Line = 1
 since table.Kept = 1
 since table.Firm = 2
 
--- as SQL declares it
+-- the table as SQL declares it
 abbrev pub declared : TableName → Table
 declared table.Desk = desk_table
 declared table.Field = field_table
@@ -49,7 +51,7 @@ columns table.Line x =
 columns table.Kept x = Text x.reqkey ∷ Int x.place ∷ Text x.words ∷ []
 columns table.Firm x = Int x.number ∷ []
 
--- a row from its columns
+-- the row that these columns make
 abbrev pub from_columns : (t : TableName) → Row → Cells t
 from_columns table.Desk c = record {
   one = id_in (column c 0);
@@ -103,7 +105,7 @@ stored_places (Some key) count = 0 ∷ range_with_len 2 (count - 1)
 abbrev pub stored : (t : TableName) → Row → Row
 stored t r = map (column r) (stored_places (declared t).key (length (declared t).columns))
 
--- where the key is not the rowid, a SELECT shows the rowid too, last
+-- where the rowid is not the key, a SELECT shows the rowid, too, at the end
 abbrev pub rowid_shown : Option ℕ → List ℕ
 rowid_shown None = 0 ∷ []
 rowid_shown (Some key) = []
@@ -112,7 +114,7 @@ rowid_shown (Some key) = []
 abbrev pub selected : (t : TableName) → Row → Row
 selected t r = stored t r ++ map (column r) (rowid_shown (declared t).key)
 
--- those columns of an answer that are of the table
+-- the columns of an answer that are columns of the table
 abbrev pub shown : (t : TableName) → Row → Row
 shown t answer = map (column answer) (range_with_len 0 (length (declared t).columns))
 
@@ -126,7 +128,7 @@ rowid_at t = rowid_place (declared t).key (length (declared t).columns)
 
 -- ---- versions
 
--- a version before it
+-- a version before the newest
 abbrev pub IsOlder : ℕ → Type 0
 IsOlder version = (1 ≤ version) × (version < newest)
 
@@ -134,7 +136,7 @@ IsOlder version = (1 ≤ version) × (version < newest)
 abbrev pub tables_of : ℕ → List TableName
 tables_of version = filter (λ t. nat_le (since t) version) all_tables
 
--- those that the versions after it have brought
+-- the tables that the versions after it have brought
 abbrev pub tables_after : ℕ → List TableName
 tables_after version = filter (λ t. nat_lt version (since t)) all_tables
 
@@ -146,7 +148,7 @@ schema_with tables = record {
   views = [];
 }
 
--- the tables that are made before it
+-- the tables that are made before this one
 abbrev pub before : TableName → List TableName
 before t = filter (λ u. nat_lt (declared u).tree (declared t).tree) all_tables
 
@@ -154,7 +156,7 @@ before t = filter (λ u. nat_lt (declared u).tree (declared t).tree) all_tables
 abbrev pub schema_of : ℕ → Schema
 schema_of version = schema_with (tables_of version)
 
--- that of a desk as it is made now
+-- the schema of a desk as it is made now
 abbrev pub desk_schema : Schema
 desk_schema = schema_of newest
 
@@ -162,6 +164,6 @@ desk_schema = schema_of newest
 abbrev pub IsSchemaWith : TableName → Schema → Type 0
 IsSchemaWith t schema = (version : ℕ) × (since t ≤ version) × (version ≤ newest) × (schema ≡ schema_of version)
 
--- the same, of whatever version
+-- the schema is that of a desk as it is made, of whatever version
 abbrev pub IsOfAVersion : Schema → Type 0
 IsOfAVersion schema = IsSchemaWith table.Desk schema

@@ -1,6 +1,7 @@
--- What a keeper over SQLite shows of itself, as every keeper does. An implementation's laws are proved by what stands in
--- `specs`, so these proofs are here.
-use Rattle.std.proofs.Common.{◌≡◌, ◌≤◌, ◌∙◌, ◌-◌, ℕ, nat_eq, if◌then◌else◌, get_or, length, inl, inr, zero, suc, [], ◌∷◌, List, map, ap, arith, refl, subst, sym}
+-- What a keeper over SQLite proves about itself, as every keeper does. What the laws of an implementation need must
+-- stand in `specs`; so these proofs are here.
+use Rattle.std.proofs.Common.{◌≡◌, ◌≤◌, ◌∙◌, ◌-◌, ℕ, nat_eq, if◌then◌else◌, get_or, length, inl, inr, zero, suc, [],
+    ◌∷◌, List, map, ap, arith, refl, subst, sym}
 use Rattle.std.specs.List.{Any}
 use Rattle.std.proofs.Math.Logic.{∥∥₁_map}
 use Rattle.sqlite.specs.Order.{Row}
@@ -20,7 +21,7 @@ use Rattle.sql_keep.specs.StoreContent.{HasTables, Holds, IsContent, LeavesOnly,
 use Rattle.keep.proofs.KeyOrders.{key_cmp_total}
 use Rattle.keep.proofs.OneContent.{one_list, same_content}
 
--- a row is told by its columns
+-- a row is determined by its columns
 pub there_and_back : (t : TableName) (x : Cells t) → from_columns t (columns t x) ≡ x
 there_and_back table.Desk x = refl
 there_and_back table.Field x = refl
@@ -30,37 +31,37 @@ there_and_back table.Line x = refl
 there_and_back table.Kept x = refl
 there_and_back table.Firm x = refl
 
--- the rows of a table are one list
+-- rows that a table stores are stored as one list
 pub rows_once : (t : TableName) (rows : List Row) (xs ys : List (Cells t)) → Stores t rows xs → Stores t rows ys
     → ys ≡ xs
 rows_once t rows xs ys one other =
     one_list (key_cmp t) (key_cmp_total t) (columns t) (from_columns t) (there_and_back t) (map (stored t) rows) xs ys one.same
     other.same one.sorted other.sorted
 
--- each table is there now
+-- each table is there in the newest version
 pub is_now : (t : TableName) → since t ≤ newest
 is_now t = grind arith
 
--- trees have one content
+-- trees have at most one content
 pub only_content : (trees : Trees) (x y : Content) → IsContent trees x → IsContent trees y → y ≡ x
 only_content trees x y p q = same_content y x (λ t. rows_once t (trees (declared t).tree) (rows_of t x) (rows_of t y)
     (p.has.rows t (is_now t)) (q.has.rows t (is_now t)))
 
--- what it may leave is in every list of which it leaves nothing else, since trees have one content
+-- what a stop may leave stands in each list of all that it may leave, since trees have at most one content
 pub is_in_these : (may_leave : Trees → Type 0) (these : List Content) (x : Content) → LeavesOnly may_leave these
     → MayLeave may_leave x → IsAmong these x
 is_in_these may_leave these x only left =
     let found = only left.0 left.1 in
     subst (IsAmong these) (only_content left.0 x found.0 left.2 found.1) found.2
 
--- where there is such a list, it may leave a content
+-- where there is such a list, a stop may leave some content
 pub leaves_a_content : (may_leave : Trees → Type 0) (these : List Content) → ∥ ((trees : Trees) × may_leave trees) ∥₁
     → LeavesOnly may_leave these → ∥ ((x : Content) × MayLeave may_leave x) ∥₁
 leaves_a_content may_leave these some only =
     ∥∥₁_map some (λ left. let found = only left.0 left.1 in let r : ((x : Content)
     × MayLeave may_leave x) = (found.0, (left.0, left.1, found.1)) in r)
 
--- a table that is declared has its name there
+-- where a table is declared, there is a table of its name
 pub named : (tables : List Table) (t : Table) → IsAmong tables t → Any (λ u. u.name ≡ t.name) tables
 named [] t h = absurd h
 named (u ∷ us) t (inl e) = (0, u, omega arith, refl, sym (ap (λ v. v.name) e))
@@ -70,7 +71,7 @@ named (u ∷ us) t (inr h) = let more = named us t h in (suc more.0, more.1, ome
 brought_last : (t : TableName) × (since t ≡ newest)
 brought_last = (get_or all_tables (length all_tables - 1) table.Desk, refl)
 
--- a store of an older version lacks that
+-- a store of an older version lacks the table that is made last
 pub old_is_apart : (db : Database) (x : Content) → IsOld db → HasTables db x → ⊥
 old_is_apart db x old has =
     let t = brought_last in old.2.no_later t.0 (omega (arith, old.1.1, t.1)) (named _ _ (has t.0).1)
@@ -87,7 +88,7 @@ holds_tables db x held t = (
   held.content.has.rows t (is_now t),
 )
 
--- what is so of each version, and of no tables before the first
+-- what holds for each version holds for all, and 0 stands for no tables before the first
 each_version : (P : ℕ → Type 0) → P 0 → P 1 → P 2 → (version : ℕ) → version ≤ newest → P version
 each_version P none one two zero late = none
 each_version P none one two (suc zero) late = one

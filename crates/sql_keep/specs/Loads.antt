@@ -12,15 +12,15 @@ use Rattle.keep.specs.Content.{IsVersion}
 use Rattle.keep.specs.declared.table_row.TableName.{TableName}
 use Rattle.keep.specs.declared.table_row.TableName.TheVariants as table
 
--- where the disk was honest nothing is changed, and the trees are such
+-- where the disk was honest, nothing has changed, and the trees have this property
 abbrev pub Reads : State → State → (Trees → Type 0) → Type 0
 Reads old new Are = HasCleanDisk new → IsUnchanged old new × Are old.now.trees
 
--- the same where the schema is that of a desk as it is made now
-abbrev pub Finds : State → State → (Trees → Type 0) → Type 0
-Finds old new Are = HasCleanDisk new → old.now.schema ≡ desk_schema → IsUnchanged old new × Are old.now.trees
+-- the same, where the schema is that of a desk as it is made now
+abbrev pub FindsTrees : State → State → (Trees → Type 0) → Type 0
+FindsTrees old new Are = HasCleanDisk new → old.now.schema ≡ desk_schema → IsUnchanged old new × Are old.now.trees
 
--- the store is open and such, all of it committed, and the read has changed nothing
+-- the store is open, has this property, and shows what is committed; and the read has changed nothing
 pub record IsRead (Is : Database → Type 0) (old new : State) : Type 0 where
   pub is : Is old.now
   pub same : IsUnchanged old new

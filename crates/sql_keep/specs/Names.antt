@@ -1,4 +1,4 @@
--- The names of the tables that each version has, among those of a schema, and what is told of a schema of no version.
+-- The names of the tables that each version has, among those of a schema, and how a schema of no version is refused.
 use Rattle.std.specs.Prelude.{◌≡◌, ◌≤◌, ℕ, List, Any, Result}
 use Rattle.sqlite.specs.Schema.{Schema}
 use Rattle.sql_keep.specs.Description.{declared, schema_of, since}
@@ -14,6 +14,6 @@ HasTableNamed schema name = Any (λ t. t.name ≡ name) schema.tables
 abbrev pub HasNames : Schema → Type 0
 HasNames schema = (t : TableName) → since t ≤ 1 → HasTableNamed schema (declared t).name
 
--- a store with a schema that is that of no version is told and left as it is
+-- a store whose schema is that of no version is refused and stays as it is
 abbrev pub TellsOtherSchema : {T : Type 0} → Schema → Result T KeepFault → Type 0 → Type 0
 TellsOtherSchema schema answer is_left = TellsOther (HasNames schema) (λ version. schema ≡ schema_of version) answer is_left

@@ -12,19 +12,19 @@ use Rattle.sql_keep.specs.Names.{HasTableNamed}
 use Rattle.keep.specs.declared.table_row.TableName.{TableName}
 use Rattle.keep.specs.declared.table_row.TableName.TheVariants as table
 
--- the row of `desk` is of that version, and the table lies anywhere
+-- the row of `desk` has that version, and the table lies anywhere
 abbrev pub HasDesk : ℤ → Database → Type 0
 HasDesk version db = (row : DeskCells) × HasTable db.schema db.trees desk_table (λ rows. Stores table.Desk rows (row ∷ []))
     × IsVersion version row
 
--- The tables of that version are declared, in whatever order and beside whatever others, and hold whatever rows; none is
--- named as a later one; and `desk` has one row, of that version.
+-- The tables of that version are declared, in whatever order and beside whatever others, and hold whatever rows. None
+-- of the tables has the name of one that a later version brought. And `desk` has one row, of that version.
 pub record IsOfVersion (version : ℕ) (db : Database) : Type 0 where
   pub desk : HasDesk (pos version) db
   pub tables : (t : TableName) → since t ≤ version → HasTable db.schema db.trees (declared t) (λ _. ⊤)
   pub no_later : (t : TableName) → version < since t → ¬ HasTableNamed db.schema (declared t).name
 
--- it is of an older version
+-- the database is of an older version
 abbrev pub IsOld : Database → Type 0
 IsOld db = (version : ℕ) × IsOlder version × IsOfVersion version db
 
@@ -33,7 +33,7 @@ pub record IsCurrent (db : Database) : Type 0 where
   pub schema_is : db.schema ≡ desk_schema
   pub desk : (row : DeskCells) × Stores table.Desk (db.trees desk_table.tree) (row ∷ []) × IsVersion (pos newest) row
 
--- this is the content, of such a version
+-- the trees have this content, of an older version
 abbrev pub IsOldContent : Trees → Content → Type 0
 IsOldContent trees x = (version : ℕ) × IsOlder version × IsContentOf version trees x
 
@@ -49,27 +49,28 @@ raised row = record row { version = pos newest }
 abbrev pub upgraded : Content → Content
 upgraded x = record x { desk = map raised x.desk }
 
--- the database was of an older version, and these trees have all of it, and are of the newest
+-- the database was of an older version; these trees have all of it, and are of the newest version
 pub record AreUpgraded (db : Database) (trees : Trees) : Type 0 where
   pub was : IsOld db
   pub whole : (x : Content) → HoldsOld db x → IsContent trees (upgraded x)
 
--- the store was of an older version, and is of the newest, all of it, and committed
+-- the store was of an older version; now all of it is of the newest version, and is committed
 pub record IsUpgraded (old new : State) : Type 0 where
   pub was : IsOld old.now
   pub is_open : IsTrue new.is_open
   pub settled : new.committed ≡ new.now
   pub whole : (x : Content) → HoldsOld old.now x → Holds new.now (upgraded x)
 
--- The store was of an older version or the newest, holds the newest of all its rows, and a stop leaves that alone.
+-- The store was of an older version or of the newest. It holds all its rows in the newest version, and a stop leaves
+-- that and nothing else.
 pub record IsMadeNewest (old new : State) : Type 0 where
   pub version : IsOld old.now ⊎ IsCurrent old.now
   pub made : (x : Content) → HoldsOld old.now x → Holds new.now (upgraded x)
   pub same : (x : Content) → Holds old.now x → Holds new.now x
   pub alone : (x : Content) → Holds new.now x → LeavesOnly new.may_leave (x ∷ [])
 
--- It is done, or it is told that the store is no desk: then that is so, and it is as it was. Whatever is answered, a stop
--- leaves what was before or the whole of the newest version.
+-- Either it is done; or the answer is that the store is no desk: then that is so, and the store is as it was.
+-- Whatever is answered, a stop leaves what was there before, or the whole of the newest version.
 pub record Upgrades {E : Type 0} (no_desk : E) (old new : State) (ended : Result (Unit {0}) E) : Type 0 where
   pub done : OnOk ended (IsMadeNewest old new)
   pub desk : ended ≡ Err no_desk → (¬ IsOld old.now) × ((x : Content) → HasTables old.now x → ¬ IsDesk x)

@@ -24,14 +24,14 @@ text = column Text
 abbrev pub plain_order : Order
 plain_order = record { digits = 0 }
 
--- Its key is the columns at these places, counted from 1 past the rowid; or it is the one at place 0, a whole number,
--- which SQLite keeps as the rowid.
+-- The table's key is the columns at these places, counted from 1 behind the rowid; or it is the column at place 0, a
+-- whole number, which SQLite keeps as the rowid.
 abbrev pub with_key : List ℕ → Table → Table
 with_key (zero ∷ places) table = record table { key = Some 0; primary = 0 ∷ []; uniques = []; orders = [] }
 with_key places table =
     record table { key = None; primary = places; uniques = places ∷ []; orders = plain_order ∷ [] }
 
--- it has no rule but its key and its columns
+-- the table has no rules but its key and its columns
 abbrev pub without_rules : Table → Table
 without_rules table = record table {
   checks = [];
@@ -57,7 +57,7 @@ plain_table name tree places columns = with_key places (record {
   is_counted = false;
 })
 
--- the index that SQLite makes for the key of such a table, next to it
+-- the index that SQLite makes for the key of such a table, in the tree behind the table's
 abbrev pub key_index : Table → List ℕ → Index
 key_index table places = record {
   name = codes "sqlite_autoindex_" ++ table.name ++ codes "_1";

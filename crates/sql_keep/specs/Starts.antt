@@ -1,4 +1,4 @@
--- What the files of a store hold as it is opened.
+-- What the files of a store hold when the store is opened.
 use Rattle.std.specs.Prelude.{ℕ}
 use Rattle.sqlite_trees.specs.Tree.{Trees}
 use Rattle.sqlite_wal.specs.Recovery.{Image}
@@ -12,10 +12,10 @@ use Rattle.sql_keep.specs.Description.{IsOlder}
 abbrev pub StartsOf : ℕ → Image → Content → Type 0
 StartsOf version image x = (trees : Trees) × HoldsDatabase image trees × IsContentOf version trees x
 
--- of the version that is written here
+-- the same, of the version that is written here
 abbrev pub StartsWith : Image → Content → Type 0
 StartsWith = StartsOf newest
 
--- of an older one
+-- the same, of an older version
 abbrev pub StartsOld : Image → Content → Type 0
 StartsOld image x = (version : ℕ) × IsOlder version × StartsOf version image x

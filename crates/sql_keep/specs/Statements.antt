@@ -1,5 +1,6 @@
--- What the texts of a table's statements mean. SQLite's reading of a text over a schema is computed.
-use Rattle.std.specs.Prelude.{◌≡◌, ◌+◌, ◌-◌, ◌++◌, ℕ, List, [], ◌∷◌, false, Option, None, Some, Ok, codes, length, map, negsuc, pos}
+-- What the texts of a table's statements mean. How SQLite reads a text over a schema is computed.
+use Rattle.std.specs.Prelude.{◌≡◌, ◌+◌, ◌-◌, ◌++◌, ℕ, List, [], ◌∷◌, false, Option, None, Some, Ok, codes, length, map,
+    negsuc, pos}
 use Rattle.std.specs.List.{range_with_len}
 use Rattle.sqlite.specs.Change.{created}
 use Rattle.sqlite.specs.Command.{Command}
@@ -22,8 +23,8 @@ use Rattle.sqlite_value.specs.declared.keys.Key.{Key}
 use Rattle.sql_keep.specs.Description.{before, declared, desk_schema, rowid_shown, schema_with, stored_places}
 use Rattle.keep.specs.declared.table_row.TableName.{TableName}
 
--- The text, over the schema of the tables before it, makes the table and nothing else. A table gets its tree where it is
--- made.
+-- The text, over the schema of the tables before this one, makes the table and nothing else. A table gets the number
+-- of its tree where it is made.
 pub record MakesTable (t : TableName) (text : List ℕ) : Type 0 where
   pub command : command_of (understood (schema_with (before t)) text) ≡ CreateTable
   pub whole : statement_of text (understood (schema_with (before t)) text) ≡ text
@@ -33,7 +34,7 @@ pub record MakesTable (t : TableName) (text : List ℕ) : Type 0 where
 
 -- ---- all rows of a table
 
--- the columns that it shows of a stored row
+-- the columns of a stored row that the statement shows
 abbrev pub project : Table → List Term
 project table = map (col 1) (stored_places table.key (length table.columns) ++ rowid_shown table.key)
 
@@ -67,14 +68,17 @@ pub record ListsTable (schema : Schema) (t : TableName) (text : List ℕ) : Type
 
 -- ---- a row put in
 
--- the row that goes in, its rowid first: a key that is not the rowid leaves that to SQLite
+-- the terms of a row that goes in, its rowid first; where the key is not the rowid, SQLite chooses the rowid
 abbrev pub new_terms : Option ℕ → ℕ → List Term
 new_terms None count = lit Null ∷ map (col 0) (range_with_len 0 count)
 new_terms (Some key) count = col 0 0 ∷ lit Null ∷ map (col 0) (range_with_len 1 (count - 1))
 
--- what a row that has the key becomes, but for its rowid: its key stays, and the other columns are the new ones
+-- what a row that has the key already becomes, but for its rowid: its key stays, and the other columns are the new
+-- ones
 abbrev pub set_terms : Table → List Term
-set_terms table = kept_key table.key ++ map (col 0) (range_with_len (length table.primary) (length table.columns - length table.primary))
+set_terms table =
+    kept_key table.key
+    ++ map (col 0) (range_with_len (length table.primary) (length table.columns - length table.primary))
   where
     kept_key : Option ℕ → List Term
     kept_key None = map (col 1) table.primary
@@ -94,7 +98,7 @@ updated table = record {
   offset = lit (Int (pos 0));
 }
 
--- nothing is updated where the key is all
+-- nothing is updated where the key is all of a row
 abbrev pub update_of : Table → List ℕ → Option Program
 update_of table [] = None
 update_of table (other ∷ others) = Some (record { lets = []; body = updated table })
@@ -102,7 +106,10 @@ update_of table (other ∷ others) = Some (record { lets = []; body = updated ta
 abbrev pub upsert : TableName → Command
 upsert t = let table = declared t in
     InsertOr (length (before t)) Abort (Values (new_terms table.key (length table.columns)) (length table.columns + 1))
-    (record { target = Some table.primary; update = update_of table (range_with_len 0 (length table.columns - length table.primary)) } ∷ [])
+    (record {
+      target = Some table.primary;
+      update = update_of table (range_with_len 0 (length table.columns - length table.primary))
+    } ∷ [])
 
 -- over the schema of a desk, the text puts a row in by the key of the table
 pub record PutsRow (t : TableName) (text : List ℕ) : Type 0 where

@@ -17,7 +17,7 @@ use Rattle.keep.specs.TableRows.{Cells, key_cmp, rows_of}
 use Rattle.sql_keep.specs.Description.{columns, declared, schema_of, since, stored}
 use Rattle.keep.specs.declared.table_row.TableName.{TableName}
 
--- each row has a whole number for its rowid
+-- each row has a whole number as its rowid
 abbrev pub HaveNumbers : List Row → Type 0
 HaveNumbers rows = AllByRecursion (λ r. IsTrue (is_int (rowid r))) rows
 
@@ -32,7 +32,7 @@ pub record AreRows {X : Type 0} (cmp : X → X → Ordering) (stored : Row → R
 abbrev pub Stores : (t : TableName) → List Row → List (Cells t) → Type 0
 Stores t rows xs = AreRows (key_cmp t) (stored t) (columns t) rows xs
 
--- the tables of that version have these rows, and there are none of another table
+-- the tables of that version have these rows, and the content has no rows of another table
 pub record HasRowsOf (version : ℕ) (trees : Trees) (x : Content) : Type 0 where
   pub rows : (t : TableName) → since t ≤ version → Stores t (trees (declared t).tree) (rows_of t x)
   pub none : (t : TableName) → version < since t → rows_of t x ≡ []
@@ -42,11 +42,12 @@ pub record IsContentOf (version : ℕ) (trees : Trees) (x : Content) : Type 0 wh
   pub lists : Lists (trees catalog_tree) (schema_of version)
   pub has : HasRowsOf version trees x
 
--- of the version that is written here
+-- the same, of the version that is written here
 abbrev pub IsContent : Trees → Content → Type 0
 IsContent = IsContentOf newest
 
--- the schema is that of a desk of that version, as it is made, and nothing else is declared; this is what the tables hold
+-- the schema is that of a desk of that version, as it is made; nothing else is declared; and this is what the tables
+-- hold
 pub record HoldsOf (version : ℕ) (db : Database) (x : Content) : Type 0 where
   pub schema_is : db.schema ≡ schema_of version
   pub content : IsContentOf version db.trees x
@@ -54,7 +55,7 @@ pub record HoldsOf (version : ℕ) (db : Database) (x : Content) : Type 0 where
 abbrev pub Holds : Database → Content → Type 0
 Holds = HoldsOf newest
 
--- a table that is declared so, in whatever tree it lies, and its rows are such
+-- a table is declared so, in whatever tree it lies, and its rows have this property
 abbrev pub HasTable : Schema → Trees → Table → (List Row → Type 0) → Type 0
 HasTable schema trees table Are = (tree : ℕ) × IsAmong schema.tables (record table { tree = tree }) × Are (trees tree)
 
@@ -62,7 +63,7 @@ HasTable schema trees table Are = (tree : ℕ) × IsAmong schema.tables (record 
 abbrev pub HasTables : Database → Content → Type 0
 HasTables db x = (t : TableName) → HasTable db.schema db.trees (declared t) (λ rows. Stores t rows (rows_of t x))
 
--- whatever a stop leaves, it is a desk's seven tables alone, and their content is one of these
+-- whatever a stop leaves is a desk's seven tables and nothing else, and their content is one of these
 abbrev pub LeavesOnly : (Trees → Type 0) → List Content → Type 0
 LeavesOnly may_leave these = (trees : Trees) → may_leave trees → (x : Content) × IsContent trees x × IsAmong these x
 

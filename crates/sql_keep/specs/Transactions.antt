@@ -8,27 +8,27 @@ use Rattle.ledger.specs.Rows.{Content}
 use Rattle.keep.specs.Content.{with_changes}
 use Rattle.sql_keep.specs.StoreContent.{Holds, IsContent}
 
--- the transaction goes on, and such is made in it
+-- the transaction goes on, and in it the database has this property
 pub record Makes (Is : Database → Type 0) (old new : State) : Type 0 where
   pub mode : IsTrue new.in_transaction
   pub committed : new.committed ≡ old.committed
   pub is : Is new.now
 
--- the store is open, and what it shows is committed
+-- the store is open, shows what is committed, and has this property
 pub record IsSettled (Is : Database → Type 0) (s : State) : Type 0 where
   pub is_open : IsTrue s.is_open
   pub settled : s.committed ≡ s.now
   pub is : Is s.now
 
--- the rows are put in
+-- the new database holds what the old one held, with the rows put in
 abbrev pub IsPut : List Change → Database → Database → Type 0
 IsPut changes old new = (x : Content) → Holds old x → Holds new (with_changes changes x)
 
--- the transaction goes on with them
+-- the transaction goes on, and the rows are put in
 abbrev pub PutsIn : State → State → List Change → Type 0
 PutsIn old new changes = Makes (IsPut changes old.now) old new
 
--- they are committed
+-- the rows are put in and committed
 abbrev pub Committed : State → State → List Change → Type 0
 Committed old new changes = IsSettled (IsPut changes old.now) new
 

@@ -1,4 +1,4 @@
--- What the statements do that make a desk, or make one of an older version new.
+-- What the statements do that make a new desk, or make a desk of an older version one of the newest.
 use Rattle.std.specs.Prelude.{◌≡◌, ℕ, [], ◌∷◌}
 use Rattle.sqlite.specs.Effect.{Database}
 use Rattle.sqlite_trees.specs.Tree.{Trees}
@@ -13,11 +13,11 @@ use Rattle.keep.specs.Content.{with_changes}
 abbrev pub with_row : DeskRow → Content → Content
 with_row row x = with_changes (change.Desk row ∷ []) x
 
--- the rows of that version are held in the tables of the newest, with this row
+-- the tables of the newest version hold the rows of that version, with this row of `desk`
 abbrev pub IsRaised : ℕ → DeskRow → Database → Database → Type 0
 IsRaised version row old new = (x : Content) → HasRowsOf version old.trees x → Holds new (with_row row x)
 
--- these trees have the rows of that version, if its schema was there, and this row
+-- if the schema of that version was there, these trees have the rows of that version, with this row of `desk`
 abbrev pub AreRaised : ℕ → DeskRow → Database → Trees → Type 0
 AreRaised version row db trees =
     db.schema ≡ schema_of version → (x : Content) → HasRowsOf version db.trees x → IsContent trees (with_row row x)

@@ -9,7 +9,7 @@ ghost use Rattle.sqlite.specs.State.{CommitsShowing, HasCleanDisk, Shown, Surviv
 use sqlite::{Alter, Connection, Error, ErrorCode, Row};
 use std::alloc::Global;
 
-/// All rows that a query shows, read one at a time: a connection keeps room for as many as it has read at once.
+/// Reads all rows that a query shows, one at a time, since a connection keeps room for as many as it has read at once.
 pub(crate) fn all_rows<S: Alter>(
     alloc: Global,
     conn: &mut Connection<S>,

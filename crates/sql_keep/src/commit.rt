@@ -27,7 +27,7 @@ fn put<S: Alter>(tx: &mut Transaction<'_, S>, change: &Change) -> Result<usize, 
     }
 }
 
-/// Puts the rows in, one after another. After each turn a stop leaves what it left before.
+/// Puts the rows in, one after another. After each of them a stop leaves what it left before.
 fn put_all<S: Alter>(tx: &mut Transaction<'_, S>, changes: &[Change]) -> Result<(), Error>
     ensures same_reference { tx.new.conn.ghost_name ≡ tx.old.conn.ghost_name }
     ensures put { HasCleanDisk (state S.Store tx.new.conn.now) → IsTrue (state S.Store tx.old.conn.now).in_transaction
@@ -40,7 +40,7 @@ fn put_all<S: Alter>(tx: &mut Transaction<'_, S>, changes: &[Change]) -> Result<
     Ok(())
 }
 
-/// Puts the rows in, all or none, whenever it stops.
+/// Puts the rows in, all or none, wherever a stop comes.
 pub(crate) fn commit_all<S: Alter>(
     conn: &mut Connection<S>,
     changes: &[Change],

@@ -21,7 +21,7 @@ use keep::{KeepFault, TableName, new_row};
 use ledger::DeskRow;
 use sqlite::{Alter, Connection, Error, Transaction};
 
-/// Makes the table, beside those before it.
+/// Makes the table, after those before it.
 fn create_table<S: Alter>(tx: &mut Transaction<'_, S>, table: TableName) -> Result<usize, Error>
     ensures same_reference { tx.new.conn.ghost_name ≡ tx.old.conn.ghost_name }
     ensures made { HasCleanDisk (state S.Store tx.new.conn.now) → IsTrue (state S.Store tx.old.conn.now).in_transaction
@@ -49,8 +49,8 @@ fn create_later<S: Alter>(tx: &mut Transaction<'_, S>, version: usize) -> Result
     Ok(())
 }
 
-/// Makes the tables that the versions after this one have brought and puts the row of `desk` in, all or nothing,
-/// whenever it stops.
+/// Makes the tables that the versions after this one have brought, and puts the row of `desk` in: all of it or
+/// nothing, wherever a stop comes.
 pub(crate) fn raise<S: Alter>(
     conn: &mut Connection<S>,
     version: usize,
@@ -84,9 +84,9 @@ fn create<S: Alter>(conn: &mut Connection<S>) -> Result<(), Error>
 }
 
 impl<S: Alter> SqlKeep<S> {
-    /// Makes the seven tables and the one row of `desk` in one transaction. A store in which a table or anything else
-    /// is declared already is refused with `Store` and left as it is. A stop leaves what was before or the whole new
-    /// desk. The connection is set as it was.
+    /// Makes the seven tables and the one row of `desk`, in one transaction. A store in which a table or anything
+    /// else is declared already is refused with `Store` and stays as it is. While the disk is honest, a stop leaves
+    /// what was there before, or the whole new desk. The connection stays set as it was.
     pub fn create_over(conn: &mut Connection<S>) -> Result<(), KeepFault>
         requires { conn.old.in_transaction ≡ false }
         ensures idle { conn.new.in_transaction ≡ false }

@@ -10,7 +10,7 @@ ghost use Rattle.sql_keep.specs.Statements.{ListsTable, MakesTable, PutsRow};
 use keep::TableName;
 use sqlite_schema::schema::Kind;
 
-/// Makes the table, beside those before it.
+/// Returns the text that makes the table, after those before it.
 pub(crate) fn create_text(table: TableName) -> &'static str
     ensures { MakesTable table result.now }
 {
@@ -37,7 +37,8 @@ pub(crate) fn create_text(table: TableName) -> &'static str
     }
 }
 
-/// Shows all rows of the table, by its key, with the rowid of each last where that is not the key.
+/// Returns the text that shows all rows of the table, by its key; where the rowid is not the key, it comes last in each
+/// row.
 pub(crate) fn select_text(table: TableName) -> &'static str
     ensures newest { ListsTable desk_schema table result.now }
     ensures desk { table ≡ TableName.Desk → (version : ℕ) → 1 ≤ version → version ≤ newest
@@ -58,7 +59,8 @@ pub(crate) fn select_text(table: TableName) -> &'static str
     }
 }
 
-/// Puts a row in by its key. A row that has the key gets the other columns, and stays where the key is all.
+/// Returns the text that puts a row in by its key. Where a row has the key already, it gets the other columns; where
+/// the key is all of a row, it stays as it is.
 pub(crate) fn upsert_text(table: TableName) -> &'static str
     ensures { PutsRow table result.now }
 {
@@ -85,7 +87,7 @@ pub(crate) fn upsert_text(table: TableName) -> &'static str
     }
 }
 
-/// The tables, in the order in which they are made.
+/// Returns the tables, in the order in which they are made.
 pub(crate) fn all_tables() -> &'static [TableName]
     ensures { result.now ≡ all_tables }
 {
@@ -100,7 +102,7 @@ pub(crate) fn all_tables() -> &'static [TableName]
     ]
 }
 
-/// The tables that the version has, in the order in which they are made.
+/// Returns the tables that the version has, in the order in which they are made.
 pub(crate) fn tables_of(version: usize) -> &'static [TableName]
     requires { version ≤ newest }
     ensures { result.now ≡ tables_of version }
@@ -112,7 +114,7 @@ pub(crate) fn tables_of(version: usize) -> &'static [TableName]
     }
 }
 
-/// Those that the versions after it have brought.
+/// Returns the tables that the versions after this one have brought.
 pub(crate) fn tables_after(version: usize) -> &'static [TableName]
     requires { version ≤ newest }
     ensures { result.now ≡ tables_after version }
@@ -120,7 +122,7 @@ pub(crate) fn tables_after(version: usize) -> &'static [TableName]
     &all_tables()[tables_of(version).len()..]
 }
 
-/// Its name.
+/// Returns the name of the table.
 pub(crate) fn name_of(table: TableName) -> &'static str
     ensures { result.now ≡ (declared table).name }
 {
@@ -135,7 +137,7 @@ pub(crate) fn name_of(table: TableName) -> &'static str
     }
 }
 
-/// The tree in which it lies.
+/// Returns the number of the tree in which the table lies.
 pub(crate) fn tree_of(table: TableName) -> u32
     ensures { result ≡ (declared table).tree }
 {
@@ -150,7 +152,7 @@ pub(crate) fn tree_of(table: TableName) -> u32
     }
 }
 
-/// Whether its key is a whole number, which SQLite keeps as the rowid.
+/// Returns whether the table's key is a whole number, which SQLite keeps as the rowid.
 pub(crate) fn is_numbered(table: TableName) -> bool
     ensures { result ≡ is_some (declared table).key }
 {
@@ -160,7 +162,7 @@ pub(crate) fn is_numbered(table: TableName) -> bool
     )
 }
 
-/// The places of the columns of its key, counted from 1; 0 where that is the rowid.
+/// Returns the places of the columns of the table's key, counted from 1; 0 where the key is the rowid.
 pub(crate) fn key_of(table: TableName) -> &'static [usize]
     ensures { result.now ≡ (declared table).primary }
 {
@@ -171,7 +173,7 @@ pub(crate) fn key_of(table: TableName) -> &'static [usize]
     }
 }
 
-/// Its columns, by name and kind.
+/// Returns the columns of the table, by name and kind.
 pub(crate) fn columns_of(table: TableName) -> &'static [(&'static str, Kind)]
     ensures { map (λ c. column c.1 c.0.now) result.now ≡ (declared table).columns }
 {

@@ -10,7 +10,7 @@ ghost use Rattle.sql_keep.specs.Description.{desk_schema};
 ghost use Rattle.keep.specs.Content.{IsDesk};
 ghost use Rattle.sql_keep.specs.StoreContent.{HasTables, Holds, Stores};
 ghost use Rattle.keep.specs.Keeping.{IsOrderedDesk};
-ghost use Rattle.sql_keep.specs.Loads.{Finds};
+ghost use Rattle.sql_keep.specs.Loads.{FindsTrees};
 ghost use Rattle.keep.specs.declared.table_row.TableName.TheVariants as table;
 
 use crate::table::load;
@@ -19,7 +19,7 @@ use ledger::{FieldRow, FirmRow, LineRow, MoveRow, OrderRow, Rows, SCHEMA_VERSION
 use sqlite::{Alter, Connection, Error};
 use std::alloc::Global;
 
-/// The fields, and the moves on them.
+/// Loads the fields and the moves on them.
 fn load_stock<S: Alter>(
     alloc: Global,
     conn: &mut Connection<S>,
@@ -27,7 +27,7 @@ fn load_stock<S: Alter>(
     ensures mode { conn.old.in_transaction ≡ false → conn.new.in_transaction ≡ false }
     ensures order { IfOk result (λ stock. IsStrictlySortedBy field_cmp (map field_cells stock.0.items)
         × IsStrictlySortedBy move_cmp (map move_cells stock.1.items)) }
-    ensures found { IfOk result (λ stock. Finds (state S.Store conn.old) (state S.Store conn.new)
+    ensures found { IfOk result (λ stock. FindsTrees (state S.Store conn.old) (state S.Store conn.new)
         (λ trees. Stores table.Field (trees 1) (map field_cells stock.0.items)
         × Stores table.Move (trees 3) (map move_cells stock.1.items))) }
     ensures survives { Survives (state S.Store conn.old) (state S.Store conn.new)
@@ -38,7 +38,7 @@ fn load_stock<S: Alter>(
     Ok((fields, moves))
 }
 
-/// The orders, their lines, and which of them are firm.
+/// Loads the orders, their lines, and which of them are firm.
 fn load_orders<S: Alter>(
     alloc: Global,
     conn: &mut Connection<S>,
@@ -47,7 +47,7 @@ fn load_orders<S: Alter>(
     ensures order { IfOk result (λ orders. IsStrictlySortedBy order_cmp (map order_cells orders.0.items)
         × IsStrictlySortedBy line_cmp (map line_cells orders.1.items)
         × IsStrictlySortedBy firm_cmp (map firm_cells orders.2.items)) }
-    ensures found { IfOk result (λ orders. Finds (state S.Store conn.old) (state S.Store conn.new)
+    ensures found { IfOk result (λ orders. FindsTrees (state S.Store conn.old) (state S.Store conn.new)
         (λ trees. (Stores table.Orders (trees 4) (map order_cells orders.0.items)
         × Stores table.Line (trees 5) (map line_cells orders.1.items))
         × Stores table.Firm (trees 9) (map firm_cells orders.2.items))) }
@@ -60,7 +60,8 @@ fn load_orders<S: Alter>(
     Ok((orders, lines, firms))
 }
 
-/// The content of a store with the schema of a desk, or None where `desk` has no one row of this version.
+/// Loads the content of a store with the schema of a desk, or returns `None` where `desk` does not have exactly one
+/// row, of this version.
 pub(crate) fn load_all<S: Alter>(
     alloc: Global,
     conn: &mut Connection<S>,

@@ -14,7 +14,7 @@ use crate::sql::SqlKeep;
 use sqlite::{Connection, Error, FileFrom, FileStore, Start};
 use sqlite_disk::Disk;
 
-/// A keeper over a connection to two files, in which no transaction is open.
+/// Returns a keeper over a connection to two files, in which no transaction is open.
 pub(crate) fn over_files<D: Disk + Drop>(conn: Connection<FileStore<D>>) -> SqlKeep<FileStore<D>>
     requires { conn.in_transaction ≡ false }
     ensures keeper { result ≡ record { connection = conn; stopped = false } }
@@ -26,9 +26,10 @@ pub(crate) fn over_files<D: Disk + Drop>(conn: Connection<FileStore<D>>) -> SqlK
     SqlKeep::over(conn)
 }
 
-/// A keeper over the file of this path, whose bytes at the start are named by `start`: it holds what they hold, and a
-/// stop leaves that alone; its connection is set as a new one. A file that is not there is made, without tables and
-/// without sums of its pages. The error is that of the open, and none of a statement.
+/// Opens a keeper over the file at this path; `start` names the bytes that the file has at the start. The keeper holds
+/// what these bytes hold, and a stop of the program leaves that and nothing else; the connection is set as a new one. A
+/// file that is not there is made, without tables and without sums of its pages. An error is one of opening, and never
+/// one of a statement.
 pub fn open_path<S: Start>(
     rt: &HostRuntime,
     path: &str,
@@ -36,7 +37,7 @@ pub fn open_path<S: Start>(
 ) -> Result<SqlKeep<FileStore<FileFrom<S>>>, Error>
     ensures going { IfOk result (λ keep. keep.stopped ≡ false) }
     ensures settings { IfOk result (λ keep. keep.connection.step_limit ≡ None) }
-    // of whatever version
+    // this holds for each version
     ensures found { IfOk result (λ keep. HasCleanDisk (file_state keep.connection) → (version : ℕ) (trees : Trees)
         (x : Content) → HoldsDatabase (image_at S.Start) trees → IsContentOf version trees x
         → HoldsOf version (file_state keep.connection).now x) }

@@ -54,7 +54,7 @@ fn is_unstamped(stamps: &Stamps) -> bool
     stamps.places.is_empty() && is_none(&stamps.terms) && stamps.formats.is_empty()
 }
 
-/// The table has no rule but its key and its columns.
+/// Returns whether the table has no rules but its key and its columns.
 fn is_plain(table: &Table) -> bool
     ensures { IsTrue result ↔ (table.now ≡ without_rules table.now) }
 {
@@ -65,7 +65,7 @@ fn is_plain(table: &Table) -> bool
         && !table.is_counted
 }
 
-/// The first column is the key.
+/// Returns whether the first column is the key.
 fn has_number(table: &Table) -> bool
     ensures { IsTrue result ↔ (table.now ≡ with_key (0 ∷ []) table.now) }
 {
@@ -99,7 +99,7 @@ fn is_one_plain_order(orders: &[Order]) -> bool
     *order == (Order { digits: 0 })
 }
 
-/// The columns at these places are the key.
+/// Returns whether the columns at these places are the key.
 fn has_places(table: &Table, places: &[usize]) -> bool
     ensures { IsTrue result ↔ (table.now ≡ record table.now {
       key = None;
@@ -114,7 +114,7 @@ fn has_places(table: &Table, places: &[usize]) -> bool
         && is_one_plain_order(table.orders.as_slice())
 }
 
-/// Its key is that of the table.
+/// Returns whether the key is that of the desk's table.
 fn has_key(found: &Table, table: TableName) -> bool
     ensures { IsTrue result ↔ (found.now ≡ with_key (declared table).primary found.now) }
 {
@@ -125,7 +125,7 @@ fn has_key(found: &Table, table: TableName) -> bool
     }
 }
 
-/// Its name, its tree and its columns are those of the table.
+/// Returns whether name, tree and columns are those of the desk's table.
 fn has_columns(found: &Table, table: TableName) -> bool
     ensures { IsTrue result ↔ ((found.now.name ≡ (declared table).name) × (found.now.tree ≡ (declared table).tree)
         × (found.now.columns ≡ (declared table).columns)) }
@@ -176,7 +176,7 @@ fn is_key_index(index: &Index, name: &str, table: TableName) -> bool
         && index.is_unique
 }
 
-/// The indexes that the three keys of texts and pairs make.
+/// Returns whether these are the indexes that the three keys of texts and of pairs make.
 fn are_key_indexes(indexes: &[Index]) -> bool
     ensures { IsTrue result ↔ (indexes.now ≡ desk_schema.indexes) }
 {
@@ -188,7 +188,7 @@ fn are_key_indexes(indexes: &[Index]) -> bool
         && is_key_index(kept, "sqlite_autoindex_kept_1", TableName::Kept)
 }
 
-/// Whether it has the tables of that version as they are made, and nothing else. Takes no memory.
+/// Returns whether the schema has the tables of that version as they are made, and nothing else. Takes no memory.
 pub(crate) fn is_schema_of(found: &Schema, version: usize) -> bool
     requires some { 1 ≤ version }
     requires old { version ≤ newest }
@@ -199,7 +199,7 @@ pub(crate) fn is_schema_of(found: &Schema, version: usize) -> bool
         && found.views.is_empty()
 }
 
-/// Whether there is nothing in it. Takes no memory.
+/// Returns whether there is nothing in the schema. Takes no memory.
 pub(crate) fn is_empty(found: &Schema) -> bool
     ensures { IsTrue result ↔ (found.now ≡ no_schema) }
 {
@@ -222,7 +222,7 @@ fn has_table(found: &Schema, name: &[u8]) -> bool
         .any(|table| is_named(table, name))
 }
 
-/// Whether each name of a table of version 1 is the name of a table. Takes no memory.
+/// Returns whether each name of a table of version 1 is the name of a table in the schema. Takes no memory.
 fn has_names(found: &Schema) -> bool
     ensures { IsTrue result ↔ HasNames found.now }
 {
@@ -231,20 +231,20 @@ fn has_names(found: &Schema) -> bool
         .all(|table| has_table(found, name_of(*table).as_bytes()))
 }
 
-/// Which schema of a desk it is.
+/// Which schema of a desk a schema is.
 #[derive(Clone, Copy)]
 pub(crate) enum Layout {
-    /// That of the newest version, as it is made.
+    /// The schema of the newest version, as it is made.
     Current,
-    /// That of this older version, as it was made.
+    /// The schema of this older version, as it was made.
     Old(usize),
-    /// Another one, in which each name of a table of version 1 is a table's.
+    /// Another schema, in which each name of a table of version 1 is the name of a table.
     Other,
-    /// One in which they are not.
+    /// A schema in which some name of a table of version 1 is the name of no table.
     Nameless,
 }
 
-/// Which schema of a desk it is. Takes no memory.
+/// Returns which schema of a desk this is. Takes no memory.
 pub(crate) fn layout_of(found: &Schema) -> Layout
     ensures current { result ≡ Layout.Current → HasNames found.now × (found.now ≡ desk_schema) }
     ensures old { (version : ℕ) → result ≡ Layout.Old version → HasNames found.now × (1 ≤ version) × (version < newest)

@@ -26,7 +26,7 @@ use sqlite::{Alter, Connection};
 use std::alloc::Global;
 use std::marker::Model;
 
-/// A keeper over a connection to SQLite, which is in no transaction between the calls.
+/// A keeper over a connection to SQLite. Between two calls the connection is in no transaction.
 #[derive(Drop)]
 pub struct SqlKeep<S: Alter> {
     conn: Connection<S>,
@@ -51,13 +51,13 @@ impl<S: Alter> SqlKeep<S> {
     pub fn over(conn: Connection<S>) -> SqlKeep<S>
         requires { conn.in_transaction ≡ false }
         ensures keeper { result ≡ record { connection = conn; stopped = false } }
-        // what a stop leaves of an open store is what it shows, and its content alone
+        // what a stop leaves of an open store is what the store shows, and so its content and nothing else
         ensures shown { IsTrue (state S.Store conn).is_open → (trees : Trees) → (state S.Store conn).may_leave trees
             → trees ≡ (state S.Store conn).now.trees }
         ensures alone { IsTrue (state S.Store conn).is_open → (x : Content) → Holds (state S.Store conn).now x
             → LeavesOnly (state S.Store conn).may_leave (x ∷ []) }
     {
-        // between transactions an open store shows what is committed
+        // does nothing when run; the prover learns that between transactions an open store shows what is committed
         let _settled = conn.is_autocommit();
         SqlKeep {
             conn,
@@ -65,7 +65,7 @@ impl<S: Alter> SqlKeep<S> {
         }
     }
 
-    /// The connection, as it stands. Changes nothing, and takes no memory.
+    /// Returns the connection, as it stands. Changes nothing, and takes no memory.
     pub fn into_connection(self) -> Connection<S>
         ensures connection { result ≡ self.connection }
         ensures idle { result.in_transaction ≡ false }
@@ -86,7 +86,7 @@ impl<S: Alter> SqlKeep<S> {
     }
 }
 
-/// The content of a store with the schema of a desk as it is made.
+/// Loads the content of a store with the schema of a desk as it is made.
 fn load_current<S: Alter>(alloc: Global, conn: &mut Connection<S>) -> Result<Tables, KeepFault>
     requires idle { conn.old.in_transaction ≡ false }
     requires schema { (state S.Store conn.old).now.schema ≡ desk_schema }
@@ -100,7 +100,7 @@ fn load_current<S: Alter>(alloc: Global, conn: &mut Connection<S>) -> Result<Tab
         → HasTables (state S.Store conn.old).now x → ¬ IsDesk x }
     ensures survives { Survives (state S.Store conn.old) (state S.Store conn.new) (λ _. ⊥) }
 {
-    // between transactions an open store shows what is committed
+    // does nothing when run; the prover learns that between transactions an open store shows what is committed
     let _settled = conn.is_autocommit();
     match load_all(alloc, conn) {
         Ok(Some(tables)) => Ok(tables),
@@ -109,7 +109,7 @@ fn load_current<S: Alter>(alloc: Global, conn: &mut Connection<S>) -> Result<Tab
     }
 }
 
-/// Why a store with the schema of that version is not loaded.
+/// Returns why a store with the schema of that version is not loaded.
 fn old_fault<S: Alter>(conn: &mut Connection<S>, version: usize) -> KeepFault
     requires idle { conn.old.in_transaction ≡ false }
     requires some { 1 ≤ version }
@@ -130,7 +130,7 @@ fn old_fault<S: Alter>(conn: &mut Connection<S>, version: usize) -> KeepFault
     }
 }
 
-/// The content of a store that is a desk, read by a connection in no transaction.
+/// Loads the content of a store that is a desk, by a connection in no transaction.
 fn load_from<S: Alter>(alloc: Global, conn: &mut Connection<S>) -> Result<Tables, KeepFault>
     requires { conn.old.in_transaction ≡ false }
     ensures idle { conn.new.in_transaction ≡ false }
@@ -202,7 +202,7 @@ impl<S: Alter> Keep for SqlKeep<S> {
 
     ghost stopped = { λ k. k.stopped };
 
-    // how many steps a statement may take
+    // what is set is how many steps a statement may take
     ghost same_settings = { λ old new. new.connection.step_limit ≡ old.connection.step_limit };
 
     ghost has_names = { λ k. HasNames (state S.Store k.connection).now.schema };

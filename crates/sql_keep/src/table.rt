@@ -8,7 +8,7 @@ ghost use Rattle.sqlite.specs.State.{HasCleanDisk, IsUnchanged, Survives};
 ghost use Rattle.sql_keep.specs.StoreContent.{Stores};
 ghost use Rattle.keep.specs.TableRows.{key_cmp};
 ghost use Rattle.sql_keep.specs.Description.{declared, desk_schema, selected};
-ghost use Rattle.sql_keep.specs.Loads.{Finds, IsShown};
+ghost use Rattle.sql_keep.specs.Loads.{FindsTrees, IsShown};
 
 use crate::answers::all_rows;
 use crate::description::select_text;
@@ -25,10 +25,10 @@ pub(crate) trait SqlRow: TableRow {
     ghost use Rattle.sql_keep.specs.Loads.{IsShown};
     ghost use Rattle.sql_keep.specs.Transactions.{PutsIn};
 
-    // The change that puts it in.
+    // The change that puts the row in.
     ghost change_of: { Self → Change };
 
-    /// Which table it is of.
+    /// Returns the table to which the row belongs.
     fn name() -> TableName
         ensures { result ≡ Self.TableRow.which };
 
@@ -41,12 +41,12 @@ pub(crate) trait SqlRow: TableRow {
             (change_of self.now ∷ [])) }
         ensures survives { Survives (state S.Store tx.old.conn.now) (state S.Store tx.new.conn.now) (λ _. ⊥) };
 
-    /// The row that the answer shows.
+    /// Returns the row that the answer shows.
     fn read(row: &Row) -> Result<Self, Error>
         ensures { IfOk result (λ found. IsShown Self.TableRow.which row.now (Self.TableRow.cells found)) };
 }
 
-/// All rows of the table, by its key, with the rowid of each last where that is not the key.
+/// Selects all rows of the table, by its key; where the rowid is not the key, it comes last in each row.
 fn select<R: SqlRow, S: Alter>(alloc: Global, conn: &mut Connection<S>) -> Result<Vec<Row>, Error>
     ensures mode { conn.old.in_transaction ≡ false → conn.new.in_transaction ≡ false }
     ensures rows { HasCleanDisk (state S.Store conn.new) → (state S.Store conn.old).now.schema ≡ desk_schema
@@ -60,7 +60,7 @@ fn select<R: SqlRow, S: Alter>(alloc: Global, conn: &mut Connection<S>) -> Resul
     all_rows(alloc, conn, select_text(R::name()))
 }
 
-/// The rows that the answers show.
+/// Returns the rows that the answers show.
 fn read_all<R: SqlRow>(alloc: Global, answers: &[Row]) -> Result<Vec<R>, Error>
     ensures { IfOk result (λ rows. AllZip (λ answer row. IsShown R.which answer (R.cells row))
         answers.now rows.items) }
@@ -72,21 +72,21 @@ fn read_all<R: SqlRow>(alloc: Global, answers: &[Row]) -> Result<Vec<R>, Error>
     Ok(rows)
 }
 
-/// Whether the rows stand in the order of their keys, each once.
+/// Returns whether the rows stand in the order of their keys, each once.
 fn are_in_order<R: SqlRow>(rows: &[R]) -> bool
     ensures { IsTrue result ↔ IsStrictlySortedBy (key_cmp R.which) (map R.cells rows.now) }
 {
     rows.is_sorted_by(|one, other| one.compare(other).is_lt())
 }
 
-/// The rows of the table, in the order of their keys. Rows out of order are an error.
+/// Loads the rows of the table, in the order of their keys. Rows out of order are an error.
 pub(crate) fn load<R: SqlRow, S: Alter>(
     alloc: Global,
     conn: &mut Connection<S>,
 ) -> Result<Vec<R>, Error>
     ensures mode { conn.old.in_transaction ≡ false → conn.new.in_transaction ≡ false }
     ensures order { IfOk result (λ rows. IsStrictlySortedBy (key_cmp R.which) (map R.cells rows.items)) }
-    ensures found { IfOk result (λ rows. Finds (state S.Store conn.old) (state S.Store conn.new)
+    ensures found { IfOk result (λ rows. FindsTrees (state S.Store conn.old) (state S.Store conn.new)
         (λ trees. Stores R.which (trees (declared R.which).tree) (map R.cells rows.items))) }
     ensures survives { Survives (state S.Store conn.old) (state S.Store conn.new)
         (λ _. ¬ ((state S.Store conn.old).now.schema ≡ desk_schema)) }

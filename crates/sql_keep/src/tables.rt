@@ -1,4 +1,4 @@
-//! The seven tables, a file a table: how its rows are put in and read.
+//! The seven tables, one file for each: how its rows are put in and read.
 
 pub(crate) mod desk;
 pub(crate) mod field;

@@ -1,5 +1,5 @@
-//! What keepers are tried by and what is proved of them together: stops and the next open, laws. The program uses none of
-//! it.
+//! Ways to try keepers, and what is proved of all of them: stops and the next opening, and laws. The program uses
+//! none of it.
 
 mod laws;
 mod recovery;

@@ -21,7 +21,7 @@ use keep::KeepFault;
 use ledger::{DeskRow, SCHEMA_VERSION};
 use sqlite::{Alter, Connection};
 
-/// The row with the newest version.
+/// Returns the row with the newest version.
 fn raised(row: &DeskRow) -> DeskRow
     ensures { desk_cells result ≡ raised (desk_cells row.now) }
 {
@@ -33,7 +33,7 @@ fn raised(row: &DeskRow) -> DeskRow
     }
 }
 
-/// Upgrades a store with the schema of that version, where its row of `desk` is of that version too.
+/// Upgrades a store with the schema of that version, if its row of `desk` is of that version, too.
 fn upgrade<S: Alter>(conn: &mut Connection<S>, version: usize) -> Result<(), KeepFault>
     requires idle { conn.old.in_transaction ≡ false }
     requires some { 1 ≤ version }
@@ -74,7 +74,7 @@ fn expect_current<S: Alter>(conn: &mut Connection<S>) -> Result<(), KeepFault>
         × IsUnchanged (state S.Store conn.old) (state S.Store conn.new) }
     ensures survives { Survives (state S.Store conn.old) (state S.Store conn.new) (λ _. ⊥) }
 {
-    // between transactions an open store shows what is committed
+    // does nothing when run; the prover learns that between transactions an open store shows what is committed
     let _settled = conn.is_autocommit();
     match load_desk(conn, SCHEMA_VERSION) {
         Ok(Some(_)) => Ok(()),
@@ -84,11 +84,12 @@ fn expect_current<S: Alter>(conn: &mut Connection<S>) -> Result<(), KeepFault>
 }
 
 impl<S: Alter> SqlKeep<S> {
-    /// Makes a store of the newest version of one of an older one, in one transaction: the tables that the versions
-    /// after that have brought, empty, and the newest version in the row of `desk`. All other rows are as they were, and
-    /// are not checked. A store of the newest version is left alone. Any other is `NotADesk` and left as it is; `Store`
-    /// where its tables are not laid out as they were made. A stop leaves what was before or the whole of the newest
-    /// version. The connection is set as it was.
+    /// Makes a store of an older version one of the newest version, in one transaction. The tables that the versions
+    /// after the older one have brought are added, empty, and the row of `desk` gets the newest version. All other
+    /// rows stay as they were, and are not checked. A store of the newest version stays as it is. Any other store is
+    /// refused and stays as it is: with `NotADesk`, or with `Store` where its tables are not laid out as they were
+    /// made. While the disk is honest, a stop leaves what was there before, or the whole of the newest version. The
+    /// connection stays set as it was.
     pub fn upgrade_over(conn: &mut Connection<S>) -> Result<(), KeepFault>
         requires { conn.old.in_transaction ≡ false }
         ensures idle { conn.new.in_transaction ≡ false }

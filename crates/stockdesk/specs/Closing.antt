@@ -13,7 +13,7 @@ abbrev pub StartsAlone : ℕ → Image → Content → Type 0
 StartsAlone version image x =
     ∥ StartsOf version image x ∥₁ × ∥ StartsOf version (record image { log = [] }) x ∥₁
 
--- The file holds the content alone, and a stop leaves nothing else of it.
+-- The file alone holds the content, and a stop leaves nothing else of it.
 pub record LeavesInFile {D : Type 0} (g : Ghosts D) (files : Files D) (version : ℕ) (x : Content) : Type 0 where
   pub read : StartsAlone version (image_of g files) x
   pub left : (image : Image) → outcomes g files.log files.db image → StartsAlone version image x

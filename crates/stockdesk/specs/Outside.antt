@@ -1,4 +1,4 @@
--- What a session meets outside: files of requests, and what listens at a port.
+-- What a session meets outside: files of requests, and listeners at ports.
 use Rattle.std.specs.Prelude.{ℕ, List, Option}
 use Rattle.std.specs.declared.io.Read.{Ghosts as Read}
 use Rattle.std.specs.declared.io.Write.{Ghosts as Write}
@@ -7,8 +7,8 @@ use Rattle.rounds.specs.declared.crowd.Crowd.{Ghosts as Crowd}
 use Rattle.rounds.specs.declared.stream.Stream.{Ghosts as Stream}
 use Rattle.stockdesk.specs.declared.listener.Listen.{Ghosts as Listen}
 
--- What listens: a connection that may come, and one that is closed, each with what listens after that; and what is left
--- to read of it, and was written to it.
+-- A listener: which connection may come, and which is closed, each with the listener after that; and what is left to
+-- read from a connection, and was written to it.
 pub record Listening (L R W : Type 0) : Type 1 where
   pub comes : L → R → W → L → Type 0
   pub closes : L → R → W → L → Type 0
@@ -20,7 +20,7 @@ abbrev pub listening : {L R W : Type 0} → (comes closes : L → R → W → L 
 listening comes closes remaining contents =
     record { comes = comes; closes = closes; remaining = remaining; contents = contents }
 
--- What paths name: a file that may open there, and what is left to read of it.
+-- What paths name: which file may open there, and what is left to read from it.
 pub record Paths (C : Type 0) : Type 1 where
   pub opens : List ℕ → C → Type 0
   pub remaining : C → Option (List ℕ)
@@ -28,7 +28,8 @@ pub record Paths (C : Type 0) : Type 1 where
 abbrev pub paths : {C : Type 0} → (opens : List ℕ → C → Type 0) → (C → Option (List ℕ)) → Paths C
 paths opens remaining = record { opens = opens; remaining = remaining }
 
--- What many come to at once: who comes and is closed, and what is left to read of a connection, and was written to it.
+-- A crowd, out of which many connections come at once: who comes and is closed, and what is left to read from a
+-- connection, and was written to it.
 pub record Gathering (G T : Type 0) : Type 1 where
   pub doors : Doors G T
   pub remaining : T → Option (List ℕ)
@@ -39,8 +40,9 @@ abbrev pub gathering : {G T : Type 0} → Crowd G T → Stream T → Gathering G
 gathering crowd stream =
     record { doors = listening_to crowd; remaining = stream.remaining; contents = stream.contents }
 
--- What is outside: the files at paths; what may listen where a port was asked for, at the one that it got; the
--- connections that come to that, one after the other; and likewise what many may come to at once, and they.
+-- What is outside: the files at paths; which listener may be had where a port was asked for, at the port that it got;
+-- the connections that come to it one after the other; and in the same way which crowd may be had, and the
+-- connections out of it.
 pub record Outside (C L R W G T : Type 0) : Type 1 where
   pub files : Paths C
   pub listens : (asked got : ℕ) → L → Type 0

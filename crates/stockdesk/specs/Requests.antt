@@ -28,13 +28,13 @@ IsFileOf Orders bytes requests = IsFile order_header SayOrders bytes requests
 IsFileOf Deliveries bytes requests = IsFile delivery_header SayDeliveries bytes requests
 IsFileOf Bounds bytes requests = IsFile bounds_header SayBounds bytes requests
 
--- a fault that names a record names the first one at fault in a file of that kind
+-- where a fault names a record, it is the first at fault in a file of that kind
 abbrev pub NamesFirstOf : Kind → List ℕ → FileFault → Type 0
 NamesFirstOf Orders bytes fault = NamesFirst order_header SayOrders bytes fault
 NamesFirstOf Deliveries bytes fault = NamesFirst delivery_header SayDeliveries bytes fault
 NamesFirstOf Bounds bytes fault = NamesFirst bounds_header SayBounds bytes fault
 
--- a fault of the file is told as the program's
+-- a fault of the file becomes this fault of the program
 pub record IsFileFault (cause : FileFault) (fault : Fault) : Type 0 where
   pub record_at_fault : (number : ℕ) → fault ≡ Fault.BadRecord number ↔ cause ≡ FileFault.BadRecord number
   pub memory : fault ≡ Fault.Memory ↔ cause ≡ FileFault.Memory
@@ -45,7 +45,7 @@ abbrev pub IsFileAt : {C : Type 0} → Paths C → Kind → List ℕ → List Re
 IsFileAt {C} files kind path requests =
     (file : C) × files.opens path file × IfSome (files.remaining file) (λ bytes. IsFileOf kind bytes requests)
 
--- a fault that names a record names the first one at fault in the file that opened at the path, which is of that kind
+-- where a fault names a record, it is the first at fault in the file that opened at the path, which is of that kind
 abbrev pub BlamesFileAt : {C : Type 0} → Paths C → Kind → List ℕ → Fault → Type 0
 BlamesFileAt {C} files kind path fault = (number : ℕ) → fault ≡ Fault.BadRecord number
     → (file : C) × files.opens path file
@@ -62,7 +62,7 @@ abbrev pub FileUnread : Fault → (old new : DeskState) → Streams → Type 0
 FileUnread fault old new s = ((fault ≡ Fault.Memory) ⊎ IsBadFile fault) × (new.ledger ≡ old.ledger)
     × Keeps s.writer_old s.writer_new
 
--- the file was not read, and nothing is done; or its requests were, and the answers to them are cut
+-- the file was not read, and nothing is done; or these are its requests, and the answers to them are cut
 abbrev pub FileCut : (AreIts : List Request → Type 0) → Option NonZeroUsize → Fault → (old new : DeskState) → Streams
     → Type 0
 FileCut AreIts together fault old new s = FileUnread fault old new s

@@ -1,4 +1,5 @@
--- What a script reads and writes on a desk of some ledger, where the reader and the writer tell their bytes.
+-- What a script reads and writes on a desk of some ledger, where contracts know the bytes of the reader and of the
+-- writer.
 use Rattle.std.specs.Prelude.{ℕ, List, [], ◌++◌, Option, Some}
 use Rattle.std.specs.Io.KnownBytes.{Appends, Consumes}
 use Rattle.words.specs.Stream.{Feeds}
@@ -10,8 +11,8 @@ use Rattle.desk.specs.Script.{WritesText, lines}
 use Rattle.desk.specs.Streams.{Streams}
 use Rattle.desk.specs.Text.{IsText, RepliesAll}
 
--- Some of it was read, and a beginning was written of the text for that from this ledger on; the answers to all but the
--- last piece were written whole.
+-- A part of the input was read, and a beginning was written of the text for that part, from this ledger on. The
+-- answers to all but the last piece are written whole.
 pub record BeginsText (first : Ledger) (s : Streams) : Type 0 where
   pub read : List ℕ
   pub written : List ℕ
@@ -22,7 +23,7 @@ pub record BeginsText (first : Ledger) (s : Streams) : Type 0 where
   pub text : IsText first read (written ++ unwritten) last
   pub prompt : IsPrompt lines (going_at first) read written
 
--- some of it was read, and what was written is the answer to every line that ended in that
+-- a part of the input was read, and what was written is the answer to every line that ended in that part
 pub record AnswersLines (first : Ledger) (s : Streams) : Type 0 where
   pub read : List ℕ
   pub written : List ℕ
@@ -34,6 +35,6 @@ pub record AnswersLines (first : Ledger) (s : Streams) : Type 0 where
   pub feeds : Feeds (Some []) read ended rest
   pub replies : RepliesAll first ended written ledger
 
--- all that was there was read, and the text for that from this ledger on was written
+-- the whole input was read, and the text for it, from this ledger on, was written
 abbrev pub AnswersText : Ledger → Streams → Type 0
 AnswersText first s = (last : Ledger) × WritesText first last s

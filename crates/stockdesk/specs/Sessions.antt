@@ -1,4 +1,4 @@
--- What a session does with a desk that is held, and with what it reads and writes.
+-- What a session does with a desk that a keeper holds, and with what it reads and writes.
 use Rattle.std.specs.Prelude.{◌≡◌, ◌≢◌, ◌≤◌, ◌⊎◌, ◌↔◌, ℕ, pos, [], ◌∷◌, IsTrue, false}
 use Rattle.sqlite_wal.specs.Recovery.{Image}
 use Rattle.ledger.specs.Good.{Good}
@@ -16,33 +16,33 @@ use Rattle.desk.specs.declared.fault.OpenFault.{OpenFault}
 use Rattle.desk.specs.declared.fault.ScriptFault.{ScriptFault}
 use Rattle.stockdesk.specs.declared.session.Fault.{Fault}
 
--- ---- keepers, by what they are seen as
+-- ---- keepers, as contracts see them
 
--- it goes on, and if the disk is honest it holds a new desk, which alone a stop leaves
+-- the keeper goes on; where the disk is honest, it holds a new desk, and a stop leaves that and nothing else
 pub record IsNewDesk {K : Type 0} (g : Ghosts K) (keep : K) : Type 0 where
   pub going : g.stopped keep ≡ false
   pub held : g.is_honest keep → g.holds keep new_content
   pub alone : g.is_honest keep → g.leaves keep (new_content ∷ [])
 
--- it goes on, and if the disk is honest it holds what was there, which alone a stop leaves
+-- the keeper goes on; where the disk is honest, it holds what was there, and a stop leaves that and nothing else
 pub record HoldsOnly {K : Type 0} (g : Ghosts K) (was : Content → Type 0) (keep : K) : Type 0 where
   pub going : g.stopped keep ≡ false
   pub held : g.is_honest keep → (x : Content) → was x → g.holds keep x
   pub alone : g.is_honest keep → (x : Content) → was x → g.leaves keep (x ∷ [])
 
--- while it goes on it holds what was there, and a stop leaves that alone
+-- while the keeper goes on, it holds what was there; and a stop leaves that and nothing else
 pub record StillHolds {K : Type 0} (g : Ghosts K) (was : Content → Type 0) (keep : K) : Type 0 where
   pub held : g.stopped keep ≡ false → (x : Content) → was x → g.holds keep x
   pub alone : (x : Content) → was x → g.leaves keep (x ∷ [])
 
--- the bytes hold a desk, of the version that is written here or an older one
+-- the bytes hold a desk, of the version that is written here or of an older one
 abbrev pub StartsAsDesk : Image → Type 0
 StartsAsDesk image = (version : ℕ) × (x : Content) × (1 ≤ version) × (version ≤ newest) × StartsOf version image x
     × IsOneRow (pos version) x.desk
 
 -- ---- faults
 
--- a fault of the script is told as the program's
+-- a fault of the script becomes this fault of the program
 pub record IsToldAs (cause : ScriptFault) (fault : Fault) : Type 0 where
   pub memory : fault ≡ Fault.Memory ↔ cause ≡ ScriptFault.Memory
   pub store : fault ≡ Fault.Store ↔ cause ≡ ScriptFault.Stopped
@@ -65,7 +65,7 @@ IsBadFile fault = (fault ≡ Fault.Csv) ⊎ ((number : ℕ) × (fault ≡ Fault.
 abbrev pub IsUnbegun : Fault → Type 0
 IsUnbegun fault = IsNoDesk fault ⊎ IsBadFile fault
 
--- a fault of the opening is told as the program's
+-- a fault of the opening becomes this fault of the program
 pub record IsOpenFault (cause : OpenFault) (fault : Fault) : Type 0 where
   pub not_a_desk : fault ≡ Fault.NotADesk ↔ cause ≡ OpenFault.NotADesk
   pub old_version : fault ≡ Fault.OldVersion ↔ cause ≡ OpenFault.OldVersion
@@ -76,8 +76,8 @@ pub record IsOpenFault (cause : OpenFault) (fault : Fault) : Type 0 where
 
 -- ---- sessions, whatever is done on the desk from its first state to its last
 
--- A session as definitions see it: the keeper that it leaves, what was held when it began and what the tables held, and
--- that the keeper is left so.
+-- A session, as definitions see it: the keeper that it leaves, what was held when it began, what the tables held
+-- then, and in which state the keeper is left.
 pub record Session (K : Type 0) : Type 1 where
   pub ghosts : Ghosts K
   pub keep : K
@@ -85,7 +85,7 @@ pub record Session (K : Type 0) : Type 1 where
   pub tables : Content → Type 0
   pub is_left : Type 0
 
--- one that begins with a keeper
+-- a session that begins with a keeper
 abbrev pub session_on : {K : Type 0} → Ghosts K → (old new : K) → Session K
 session_on g old new = record {
   ghosts = g;
@@ -95,7 +95,7 @@ session_on g old new = record {
   is_left = IsLeft g old new;
 }
 
--- one that begins with what a file holds
+-- a session that begins with what a file holds
 abbrev pub session_in : {K : Type 0} → Ghosts K → (was : Content → Type 0) → K → Session K
 session_in g was keep = record { ghosts = g; keep = keep; held = was; tables = was; is_left = StillHolds g was keep }
 
@@ -103,7 +103,7 @@ session_in g was keep = record { ghosts = g; keep = keep; held = was; tables = w
 abbrev pub desk_left : {K : Type 0} → Session K → Ledger → DeskState
 desk_left s A = desk_state s.ghosts (record { ledger = A; keep = s.keep })
 
--- the desk whose rows were held was opened, and so much was done on it
+-- the desk whose rows were held was opened, and this was done on it
 pub record OpensAndDoes {K : Type 0} (s : Session K) (Done : DeskState → DeskState → Type 0) : Type 0 where
   pub first : DeskView K
   pub last : Ledger
@@ -112,15 +112,15 @@ pub record OpensAndDoes {K : Type 0} (s : Session K) (Done : DeskState → DeskS
   pub rows : s.ghosts.is_honest s.keep → (x : Content) → s.held x → IsRowsOf first.ledger x
   pub done : Done (desk_state s.ghosts first) (desk_left s last)
 
--- All was done on it. The keeper goes on; if the disk is honest, it keeps the rows of the last ledger, and a stop leaves
--- these alone.
+-- All was done on the desk. The keeper goes on; where the disk is honest, it keeps the rows of the last ledger, and a
+-- stop leaves these and nothing else.
 pub record SessionWhole {K : Type 0} (s : Session K) (AllDone : DeskState → DeskState → Type 0) : Type 0 where
   pub on : OpensAndDoes s AllDone
   pub going : s.ghosts.stopped s.keep ≡ false
   pub kept : s.ghosts.is_honest s.keep → IsStored (s.ghosts.holds s.keep) (s.ghosts.leaves s.keep) on.last
 
--- No desk was opened. If the disk is honest, what is held is no desk, of another version or damaged where that is told,
--- and the keeper is left so.
+-- No desk was opened. Where the disk is honest, what is held is no desk, of another version, or damaged, as the fault
+-- says; and the keeper is left as the session says.
 pub record SessionRefused {K : Type 0} (s : Session K) (fault : Fault) : Type 0 where
   pub not_a_desk : fault ≡ Fault.NotADesk → s.ghosts.is_honest s.keep → (x : Content) → s.tables x → ¬ IsDesk x
   pub old_version : fault ≡ Fault.OldVersion → s.ghosts.is_honest s.keep → (x : Content) → s.tables x → ⊥
@@ -131,8 +131,9 @@ pub record SessionRefused {K : Type 0} (s : Session K) (fault : Fault) : Type 0 
   pub going : fault ≡ Fault.Damaged → s.ghosts.stopped s.keep ≡ false
   pub left : s.ghosts.is_honest s.keep → s.is_left
 
--- What was done on it is cut. A fault of the store has stopped the keeper; after any other it goes on, and if the disk is
--- honest it keeps the rows of the last ledger, which alone a stop leaves.
+-- What was done on the desk is cut. A fault of the store has stopped the keeper. After any other fault the keeper
+-- goes on, and where the disk is honest, it keeps the rows of the last ledger, and a stop leaves these and nothing
+-- else.
 pub record SessionCut {K : Type 0} (s : Session K) (fault : Fault) (PartDone : DeskState → DeskState → Type 0)
     : Type 0 where
   pub on : OpensAndDoes s PartDone
@@ -142,14 +143,14 @@ pub record SessionCut {K : Type 0} (s : Session K) (fault : Fault) (PartDone : D
   pub kept : fault ≢ Fault.Store → s.ghosts.is_honest s.keep
       → IsStored (s.ghosts.holds s.keep) (s.ghosts.leaves s.keep) on.last
 
--- no desk was opened, and so much is untouched; or one was, and what was done cut
+-- no desk was opened, and this much is untouched; or one was, and what was done is cut
 abbrev pub SessionInPart : {K : Type 0} → Session K → Fault → (Untouched : Type 0) → (DeskState → DeskState → Type 0)
     → Type 0
 SessionInPart s fault Untouched PartDone = (SessionRefused s fault × Untouched) ⊎ SessionCut s fault PartDone
 
 -- ---- scripts
 
--- what a desk does was cut, by a fault that is told so
+-- what a desk did was cut, by a fault that becomes this one
 abbrev pub IsCutAs : Fault → (ScriptFault → Type 0) → Type 0
 IsCutAs fault Cut = (cause : ScriptFault) × IsToldAs cause fault × Cut cause
 

@@ -1,4 +1,4 @@
--- What is shown of a desk: a stock sheet.
+-- A stock sheet of a desk, and how it is written.
 use Rattle.std.specs.Prelude.{◌≡◌, ◌≤◌, ◌⊎◌, ℕ, List, [], Option, length, take}
 use Rattle.std.specs.Io.KnownBytes.{Appends}
 use Rattle.ledger.specs.Ledger.{Ledger}

@@ -15,15 +15,15 @@ use Rattle.stockdesk.specs.declared.work.Work.TheVariants.{Requests, Script, Ser
 use Rattle.stockdesk.specs.declared.requests.Kind.{Kind}
 use Rattle.stockdesk.specs.declared.requests.Kind.TheVariants.{Bounds, Deliveries, Orders}
 
--- a word of that name
+-- a word with that name
 abbrev pub word : Text → Rule
 word name = record (new_rule name) { action = Some Set }
 
--- a word of that name that is always there
+-- a word with that name, which must be given
 abbrev pub needed : Text → Rule
 needed name = record (word name) { required = true }
 
--- an option of that name, with a word; it is always there, or may be left out
+-- an option with that name, and a word behind it; it must be given, or may be left out
 abbrev pub option : Bool → Text → Rule
 option required name = record (word name) { long = Some name; value_names = 1; required = required }
 
@@ -90,7 +90,7 @@ scripts = let named =
     new_app (codes "stockdesk") in with_both
     (record named { top = record named.top { subcommand_required = true } }) init run
 
--- one of the nine
+-- the program with all nine commands
 abbrev pub stockdesk : App
 stockdesk = with_subcommand (with_subcommand
     (with_both (with_subcommand (with_both scripts orders deliveries) bounds.top) sheet article) serve.top) upgrade.top
@@ -103,17 +103,17 @@ pub record IsService (port connections : Text) (service : Service) : Type 0 wher
   pub some : 1 ≤ service.connections
   pub not_many : service.connections ≤ 1000000
 
--- the word, where there is one, says how many, so many at the most
+-- where there is a word, it says how many, at most so many as the limit
 abbrev pub AsksAtMost : ℕ → Option Text → Option NonZeroUsize → Type 0
 AsksAtMost limit None most = most ≡ None
 AsksAtMost limit (Some word) most = (count : NonZeroUsize) × (most ≡ Some count)
     × (word ≡ decimal (non_zero_usize_get count)) × (non_zero_usize_get count ≤ limit)
 
--- so many are carried out together, at most a thousand; without a word each is alone
+-- so many are carried out together, at most a thousand; without a word, each is alone
 abbrev pub AsksTogether : Option Text → Option NonZeroUsize → Type 0
 AsksTogether word together = AsksAtMost 1000 word together
 
--- the words are the numbers of a service of many at once, which are in their ranges
+-- the words are the numbers of a service of many connections at once, and are in their ranges
 pub record IsAtOnce (together : Text) (clients : Option Text) (at_once : AtOnce) : Type 0 where
   pub together_is : AsksAtMost 1000 (Some together) (Some at_once.together)
   pub clients_are : AsksAtMost 4000 clients at_once.clients
@@ -130,7 +130,7 @@ AsksForService rows service = (port : Text) × (connections : Text)
     × (first_of (codes "port") rows ≡ Some port) × (first_of (codes "connections") rows ≡ Some connections)
     × IsService port connections service
 
--- a command, and what was found behind it beside the file of a desk, ask for this work
+-- a command, with what was found behind it but for the file of a desk, asks for this work
 abbrev pub AsksForWork : Text → List Row → Work → Type 0
 AsksForWork name rows Script = name ≡ codes "run"
 AsksForWork name rows (Requests kind csv together) = (name ≡ command_of kind)
@@ -145,14 +145,14 @@ AsksForWork name rows (ServeAtOnce service at_once) = (name ≡ codes "serve") �
     × (first_of (codes "together") rows ≡ Some together)
     × IsAtOnce together (first_of (codes "clients") rows) at_once) × AsksForService rows service
 
--- the first word behind the program's name, and what was found behind it, ask for this task
+-- the first word behind the program's name, with what was found behind that, asks for this task
 abbrev pub AsksFor : Text → List Row → Task → Type 0
 AsksFor name rows (Init path) = (name ≡ codes "init") × (first_of (codes "FILE") rows ≡ Some path.now)
 AsksFor name rows (Upgrade path) = (name ≡ codes "upgrade") × (first_of (codes "FILE") rows ≡ Some path.now)
 AsksFor name rows InMemory = (name ≡ codes "run") × (first_of (codes "FILE") rows ≡ None)
 AsksFor name rows (InFile path work) = (first_of (codes "FILE") rows ≡ Some path.now) × AsksForWork name rows work
 
--- what was found of the words asks for this task
+-- what was found among the words asks for this task
 abbrev pub Asks : Option (Text × List Row) → Task → Type 0
 Asks found task = (name : Text) × (rows : List Row) × (found ≡ Some (name, rows)) × AsksFor name rows task
 
@@ -163,12 +163,12 @@ abbrev pub IsNoOption : Text → Type 0
 IsNoOption [] = Unit {0}
 IsNoOption (first ∷ rest) = first ≢ 45
 
--- so many together
+-- the words that say how many together
 abbrev pub together_words : Option NonZeroUsize → List Text
 together_words None = []
 together_words (Some most) = codes "--together" ∷ decimal (non_zero_usize_get most) ∷ []
 
--- so many at once
+-- the words that say how many at once
 abbrev pub clients_words : Option NonZeroUsize → List Text
 clients_words None = []
 clients_words (Some most) = codes "--clients" ∷ decimal (non_zero_usize_get most) ∷ []
@@ -192,12 +192,12 @@ task_words (Upgrade path) = codes "upgrade" ∷ path.now ∷ []
 task_words InMemory = codes "run" ∷ []
 task_words (InFile path work) = work_words path.now work
 
--- from 1 to the limit, where it is said how many
+-- where it is said how many, that is from 1 to the limit
 abbrev pub AreAtMost : ℕ → Option NonZeroUsize → Type 0
 AreAtMost limit None = Unit {0}
 AreAtMost limit (Some most) = (1 ≤ non_zero_usize_get most) × (non_zero_usize_get most ≤ limit)
 
--- from 1 to a thousand
+-- where it is said how many, that is from 1 to a thousand
 abbrev pub IsFew : Option NonZeroUsize → Type 0
 IsFew most = AreAtMost 1000 most
 
@@ -215,7 +215,7 @@ IsWorkToAsk (Serve service) = IsServiceToAsk service
 IsWorkToAsk (ServeAtOnce service at_once) = IsServiceToAsk service × IsFew (Some at_once.together)
     × AreAtMost 4000 at_once.clients
 
--- the task can be asked for, likewise
+-- the task can be asked for: the name of its file is no option, and its work can be asked for
 abbrev pub IsToAsk : Task → Type 0
 IsToAsk (Init path) = IsNoOption path.now
 IsToAsk (Upgrade path) = IsNoOption path.now
@@ -236,7 +236,7 @@ pub record TakesService (rows : List Row) (Taken : Type 0) : Type 0 where
       → IsAtOnce together (first_of (codes "clients") rows) at_once → IsFew (Some at_once.together)
       → AreAtMost 4000 at_once.clients → AsksForService rows service → Taken
 
--- a command, and what was found behind it, give work
+-- a command, with what was found behind it, gives work
 pub record TakesWork (name : Text) (rows : List Row) (Taken : Type 0) : Type 0 where
   pub of_script : name ≡ codes "run" → Taken
   pub of_requests : (kind : Kind) (csv : Text) (together : Option NonZeroUsize) → name ≡ command_of kind

@@ -22,9 +22,10 @@ use Rattle.stockdesk.specs.declared.work.Work.TheVariants.{Requests, Script, Ser
 
 -- ---- what is done
 
--- The work is done, on a desk that was so before and is so after it: all of the input was read, and its text written;
--- the requests of the file are answered; the sheet was written, and the ledger is as it was; the port was told, and so
--- many of the connections that came there were served, one after the other or many at once.
+-- The work is done, on a desk that was `old` before it and is `new` after it. All of the input was read, and its text
+-- written; or the requests of the file are answered; or the sheet was written, and the ledger is as it was; or the
+-- port was written, and as many connections as asked for that came there were served, one after the other or many at
+-- once.
 abbrev pub WorkDone : {C L R W G T : Type 0} → Outside C L R W G T → Work → (old new : DeskState) → Streams → Type 0
 WorkDone out Script old new s = EndsWhole lines old new s
 WorkDone out (Requests kind csv together) old new s = Keeps s.reader_old s.reader_new
@@ -49,7 +50,7 @@ WorkCut out (Serve service) fault old new s =
 WorkCut out (ServeAtOnce service at_once) fault old new s =
     Keeps s.reader_old s.reader_new × ManyCut out service fault old new s.writer_old s.writer_new
 
--- However work ends, on a desk that comes back as the keeper of its rows: the whole is done, or a part.
+-- However work ends, on a desk of which the keeper comes back: the whole is done, or a part.
 pub record EndsWork {K : Type 0} (k : Ghosts K) (ended : Result (Unit {0}) Fault) (old new : DeskView K)
     (Whole : (old new : DeskState) → Type 0) (Part : Fault → (old new : DeskState) → Type 0) : Type 0 where
   pub whole : OnOk ended (Whole (desk_state k old) (desk_state k new))
@@ -58,7 +59,7 @@ pub record EndsWork {K : Type 0} (k : Ghosts K) (ended : Result (Unit {0}) Fault
   pub stop : TellsStop (ended ≡ Err Fault.Store) (desk_state k old) (desk_state k new)
   pub goes : Goes k old new
 
--- it ends so at some ledger
+-- the work ends so, at some ledger
 abbrev pub Ends : {K : Type 0} → Ghosts K → K × Result (Unit {0}) Fault → DeskView K
     → (Whole : (old new : DeskState) → Type 0) → (Part : Fault → (old new : DeskState) → Type 0) → Type 0
 Ends k ended old Whole Part =
@@ -73,15 +74,16 @@ IsOnOneDesk _ = Unit {0}
 abbrev pub WorkWhole : {K C L R W G T : Type 0} → Outside C L R W G T → Session K → Work → Streams → Type 0
 WorkWhole out on work s = SessionWhole on (λ old new. WorkDone out work old new s)
 
--- no desk was opened, and nothing read or written; or one was, and the work cut
+-- no desk was opened, and nothing is read or written; or one was, and the work is cut
 abbrev pub WorkInPart : {K C L R W G T : Type 0} → Outside C L R W G T → Session K → Work → Fault → Streams → Type 0
 WorkInPart out on work fault s = SessionInPart on fault (IsSilent s) (λ old new. WorkCut out work fault old new s)
 
 -- ---- what is found after a session
 
--- B is the ledger after a prefix of what the work did from A, which holds all that was told of it whole, and at most one
--- accepted request more, or so many as are carried out together; A is the ledger of `first`, which says of the disk what
--- is so at the end
+-- B is the ledger after a prefix of what such work may do from the ledger of `first`. After a script, or a file of some
+-- requests, the prefix holds all whose answer was written whole, and at most one accepted request more, or as many as are
+-- carried out together. After a service it is a prefix for some connections, or some messages, and the definition ties
+-- these neither to the session nor to what was written there. What `first` says about the disk holds at the end.
 abbrev pub IsFoundAfterWork : Work → (first : DeskState) → Streams → Ledger → Type 0
 IsFoundAfterWork Script first s B = IsFoundAfterLines first.ledger s B
 IsFoundAfterWork (Requests kind csv together) first s B =
@@ -91,8 +93,8 @@ IsFoundAfterWork (Sheet of) first s B = B ≡ first.ledger
 IsFoundAfterWork (Serve service) first s B = IsFoundAfterService service.connections first B
 IsFoundAfterWork (ServeAtOnce service at_once) first s B = IsFoundAfterMany first.ledger B
 
--- A session on the rows of the ledger A opens its desk, or fails for memory or by the store; and a stop leaves nothing
--- but what is found after its work.
+-- A session on the rows of the ledger A opens its desk, or fails for want of memory or by the store; and a stop
+-- leaves nothing but what is found after its work.
 pub record GoesOnFrom {K : Type 0} (on : Session K) (work : Work) (ended : Result (Unit {0}) Fault) (A : Ledger)
     (s : Streams) : Type 0 where
   pub opens : IfErr ended (λ fault. ¬ IsNoDesk fault)

@@ -16,20 +16,20 @@ use std::io::Write;
 use std::num::NonZeroUsize;
 use web::HttpDialogue;
 
-/// How many are served at once.
+/// How many connections are served at once.
 #[derive(Clone, Copy)]
 pub struct AtOnce {
     /// How many questions are answered in a round, at the most.
     pub together: NonZeroUsize,
-    /// How many connections may be there at once, where that is said.
+    /// How many connections may be open at once, where the words say that.
     pub clients: Option<NonZeroUsize>,
 }
 
-/// How many connections may be there at once where nobody says.
+/// How many connections may be open at once where the words say nothing.
 const CLIENTS: usize = 1_000;
 
 impl AtOnce {
-    /// How many connections may be there at once.
+    /// Returns how many connections may be open at once.
     fn most_clients(&self) -> usize
         ensures said { IfSome self.now.clients (λ clients. result ≡ non_zero_usize_get clients) }
         ensures unsaid { IfNone self.now.clients (result ≡ 1000) }
@@ -42,8 +42,8 @@ impl AtOnce {
     }
 }
 
-/// What the end of a service is told as: a fault of the store where the keeper is stopped, and else want of memory where the desk
-/// is.
+/// Returns how the end of a service is reported: as a fault of the store where the keeper is stopped, and else as want
+/// of memory where the desk is stopped.
 fn told_as(ended: Result<(), ServiceFault>, desk_stops: bool, keep_stops: bool) -> Result<(), Fault>
     ensures whole { OnOk result (OnErr ended ⊥) }
     ensures cut { OnErr result (OnOk ended ⊥) }
@@ -59,7 +59,7 @@ fn told_as(ended: Result<(), ServiceFault>, desk_stops: bool, keep_stops: bool) 
     }
 }
 
-/// Serves a crowd in rounds, on a desk that comes back as its keeper.
+/// Serves a crowd in rounds, on a desk of which the keeper comes back.
 fn serve_crowd<K: Keep, C: Crowd + Drop>(
     rt: &HostRuntime,
     desk: Desk<K>,
@@ -78,6 +78,7 @@ fn serve_crowd<K: Keep, C: Crowd + Drop>(
     let mut desk = desk.defer(rt.alloc());
     let (crowd, ended) = serve_rounds::<HttpDialogue, C, K>(rt, &mut desk, crowd, terms);
     drop(crowd);
+    // does nothing when run; the prover learns that the desk is in order
     desk.is_kept();
     let desk_stops = desk.is_stopped();
     let keep = desk.into_keep().into_inner();
@@ -85,7 +86,7 @@ fn serve_crowd<K: Keep, C: Crowd + Drop>(
     (keep, ended)
 }
 
-/// Listens for many at once at a port of the machine, and tells the one that it got.
+/// Listens for many connections at once at a port of the machine, and writes the port that it got.
 fn gather_at<M: Machine, W: Write>(
     rt: &HostRuntime,
     machine: &M,
@@ -100,10 +101,11 @@ fn gather_at<M: Machine, W: Write>(
     tell_listener(rt.alloc(), machine.gather(rt, port), writer)
 }
 
-/// Serves so many connections, many at once, in rounds, on a desk that comes back as its keeper. What a round changes is kept
-/// together, and only then are its answers written. `Socket` where the port or what tells of connections cannot be had, `Store`
-/// where a round could not be kept, which stops the desk, and `Memory` where that was refused for all at once; of one
-/// connection it ends that alone.
+/// Serves as many connections as the service says, many at once, in rounds, on a desk of which the keeper comes back.
+/// What a round changes is kept together, and only then are its answers written. `Socket` says that the port could
+/// not be had, or what tells which connections can be read and written. `Store` says that a round could not be kept,
+/// which stops the desk. `Memory` says that memory was refused for all connections at once; where it is refused for
+/// one connection, only that connection ends.
 pub fn serve_at_once<K: Keep, M: Machine, W: Write>(
     rt: &HostRuntime,
     machine: &M,
@@ -122,6 +124,7 @@ pub fn serve_at_once<K: Keep, M: Machine, W: Write>(
         M.Listener.Reader.Read M.Listener.Writer.Write M.Crowd.Crowd M.Crowd.Stream.Stream) service.now fault old new
         (W.contents writer.old) (W.contents writer.new)) }
 {
+    // does nothing when run; the prover learns that the desk is in order
     desk.is_stopped();
     let crowd = match gather_at(rt, machine, service.port, writer) {
         Ok(crowd) => crowd,

@@ -1,4 +1,4 @@
-//! Many connections to this machine at once, none of which is waited for alone.
+//! Many connections to this machine at once; none of them is waited for alone.
 
 ghost use Rattle.std.specs.Prelude.{◌≡◌, length};
 
@@ -10,16 +10,17 @@ use std::io::{self, ErrorKind, Read, Write};
 use std::net::{Ipv4Addr, SocketAddr};
 use std::time::Duration;
 
-/// How many events are told at a time, at the most.
+/// How many events the system reports at a time, at the most.
 const EVENTS: usize = 1024;
 
-/// The name of what listens; that of a connection is its place.
+/// The name of the listener in events; the name of a connection is its place.
 const LISTENER: usize = usize::MAX;
 
-/// After how many milliseconds somebody is let in who could not be, as where no descriptor or no memory was free.
+/// After how many milliseconds the program tries again to let in somebody who could not be let in, as where no
+/// descriptor or no memory was free.
 const AGAIN: u64 = 50;
 
-/// A connection that is never waited for.
+/// A connection to read and write without waiting.
 #[derive(Drop)]
 pub struct Socket {
     stream: TcpStream,
@@ -28,7 +29,7 @@ pub struct Socket {
 impl Stream for Socket {
     ghost use Rattle.std.specs.Prelude.{None};
 
-    // no clause knows what a socket brings or takes
+    // no clause knows what a socket gives or takes
     ghost remaining = { λ socket. None };
 
     ghost contents = { λ socket. None };
@@ -42,18 +43,18 @@ impl Stream for Socket {
     }
 }
 
-/// Those who come to a port of this machine, from itself alone.
+/// Those who come to a port of this machine; they come from this machine alone.
 #[derive(Drop)]
 pub struct Loopback {
     listener: TcpListener,
     poll: Poll,
     events: Events<Global>,
-    /// Somebody may wait to be let in.
+    /// Whether somebody may wait to be let in.
     may_come: bool,
 }
 
 impl Loopback {
-    /// Listens at a port, or for 0 at any that is free, and tells which it got.
+    /// Listens at a port, for 0 at any that is free. Returns the crowd, and the port that it got.
     pub fn listen(rt: &HostRuntime, port: u16) -> io::Result<(Loopback, u16)> {
         let address = SocketAddr::from((Ipv4Addr::LOCALHOST, port));
         let mut listener = TcpListener::bind(rt, address)?;
@@ -71,7 +72,7 @@ impl Loopback {
         Ok((crowd, got.port()))
     }
 
-    /// How long is waited at the most.
+    /// Returns how long the program waits at the most.
     fn patience(&self, most: Option<Duration>) -> Option<Duration> {
         if !self.may_come {
             return most;
@@ -84,7 +85,7 @@ impl Loopback {
     }
 }
 
-/// Marks what the system tells of each place. Whether somebody waits to be let in.
+/// Marks what the system reports of each place. Returns whether somebody waits to be let in.
 fn mark_all(events: &Events<Global>, ready: &mut [Readiness]) -> bool
     ensures { length ready.new ≡ length ready.old }
 {
@@ -132,7 +133,7 @@ impl Crowd for Loopback {
     fn next(&mut self) -> Option<Socket> {
         match self.listener.accept() {
             Ok((stream, _)) => {
-                // an answer that waits for others to join it is only later
+                // an answer that waits for others to join it only comes later
                 let _ = stream.set_nodelay(true);
                 Some(Socket { stream })
             }

@@ -34,7 +34,7 @@ use sqlite_disk::{Disk, Files};
 use std::fs;
 use std::io::{ErrorKind, Read, Write};
 
-/// The keeper of what a file holds, whose bytes are named by `S`.
+/// The keeper of what a file holds; `S` names the bytes of the file.
 pub type FileKeep<S> = SqlKeep<FileStore<FileFrom<S>>>;
 
 /// What lies at a path.
@@ -42,12 +42,12 @@ pub type FileKeep<S> = SqlKeep<FileStore<FileFrom<S>>>;
 enum Found {
     /// No file, or one without bytes.
     Nothing,
-    /// A directory, or a file of one byte, which `sqlite` would take for one half made.
+    /// A directory, or a file of one byte, which `sqlite` would take for a database that is half made.
     NoStore,
     File,
 }
 
-/// What lies at the path. It is looked at before it is opened, since an opening may make or replace it.
+/// Returns what lies at the path. The program looks before it opens, since an opening may make the file or replace it.
 fn look(rt: &HostRuntime, path: &str) -> Result<Found, Fault>
     ensures { IfErr result (λ fault. fault ≡ Fault.Store) }
 {
@@ -77,7 +77,7 @@ impl From<Error> for Fault {
     }
 }
 
-/// Copies the log into the file and gives both, or the store where that failed.
+/// Copies the log into the file, and returns both; where that fails, returns the store.
 fn close_connection<D: Disk + Drop>(
     conn: Connection<FileStore<D>>,
 ) -> Result<Files<D>, FileStore<D>>
@@ -90,8 +90,8 @@ fn close_connection<D: Disk + Drop>(
     }
 }
 
-/// Ends a keeper, and gives its file and the log beside it, to be dropped. Whatever it held is in the file alone, also
-/// after a stop; or, where copying the log failed, a stop leaves what it could leave before.
+/// Ends a keeper, and returns its file and the log beside it, to be dropped. Whatever the keeper held is in the file
+/// alone, also after a stop. Where the log could not be copied, a stop leaves what it could leave before.
 pub fn close<D: Disk + Drop>(keep: SqlKeep<FileStore<D>>) -> Result<Files<D>, FileStore<D>>
     ensures copied { IfOk result (λ files. AreClean D.Disk files.log files.db → (version : ℕ) (x : Content)
         → HoldsOf version (file_state keep.connection).now x → LeavesInFile D.Disk files version x) }
@@ -99,12 +99,12 @@ pub fn close<D: Disk + Drop>(keep: SqlKeep<FileStore<D>>) -> Result<Files<D>, Fi
         → (file_state keep.connection).may_leave trees) }
 {
     let conn = keep.into_connection();
-    // between transactions an open store shows what is committed
+    // does nothing when run; the prover learns that between transactions an open store shows what is committed
     let _settled = conn.is_autocommit();
     close_connection(conn)
 }
 
-/// Makes a new desk over the connection. Where that fails its files are closed.
+/// Makes a new desk over the connection. Where that fails, its files are closed.
 fn init_over<D: Disk + Drop>(conn: Connection<FileStore<D>>) -> Result<SqlKeep<FileStore<D>>, Fault>
     requires { conn.in_transaction ≡ false }
     ensures made { IfOk result (IsNewDesk ⟦<SqlKeep<FileStore<D>> as Keep>⟧) }
@@ -119,8 +119,8 @@ fn init_over<D: Disk + Drop>(conn: Connection<FileStore<D>>) -> Result<SqlKeep<F
     }
 }
 
-/// Makes a new desk in a file that is not there or has no bytes, and gives its keeper. Any other file is left alone:
-/// `NotADesk`.
+/// Makes a new desk in a file that is not there or has no bytes, and returns its keeper. Any other file stays as it is,
+/// and the answer is `NotADesk`.
 pub fn init<S: Start>(rt: &HostRuntime, path: &str, start: S) -> Result<FileKeep<S>, Fault>
     ensures made { IfOk result (IsNewDesk ⟦<FileKeep<S> as Keep>⟧) }
     ensures fault { IfErr result IsNotOpened }
@@ -134,13 +134,13 @@ pub fn init<S: Start>(rt: &HostRuntime, path: &str, start: S) -> Result<FileKeep
     }
 }
 
-/// The keeper of what the file at the path holds, whose bytes are named by `start`. A file that is not there or has no
-/// bytes is `NotADesk`, and none is made.
+/// Opens a keeper of what the file at the path holds, where `start` names the bytes of the file. For a file that is not
+/// there or has no bytes the answer is `NotADesk`, and none is made.
 pub fn open<S: Start>(rt: &HostRuntime, path: &str, start: S) -> Result<FileKeep<S>, Fault>
     ensures opened { IfOk result (HoldsOnly ⟦<FileKeep<S> as Keep>⟧ (StartsWith (image_at S.Start))) }
     ensures old { IfOk result (λ keep. HasCleanDisk (file_state keep.connection) → (version : ℕ) (x : Content)
         → StartsOf version (image_at S.Start) x → HoldsOf version (file_state keep.connection).now x) }
-    // of whatever version, a stop leaves what is shown
+    // this holds for each version: a stop leaves what the store shows
     ensures shown { IfOk result (λ keep. HasCleanDisk (file_state keep.connection) → (trees : Trees)
         → (file_state keep.connection).may_leave trees → trees ≡ (file_state keep.connection).now.trees) }
     ensures fault { IfErr result IsNotOpened }
@@ -152,9 +152,9 @@ pub fn open<S: Start>(rt: &HostRuntime, path: &str, start: S) -> Result<FileKeep
     }
 }
 
-/// Does the work on the desk in the file at the path, whose bytes are named by `start`. The keeper comes back as the
-/// session leaves it, and is still open. Where the file was not opened nothing is read or written: a file that is not
-/// there or has no bytes is `NotADesk`, and none is made.
+/// Does the work on the desk in the file at the path, where `start` names the bytes of the file. The keeper comes
+/// back as the session leaves it, and is still open. Where the file was not opened, nothing is read or written. For a
+/// file that is not there or has no bytes the answer is `NotADesk`, and none is made.
 pub fn session<S: Start, M: Machine, R: Read, W: Write>(
     rt: &HostRuntime,
     machine: &M,
@@ -172,7 +172,7 @@ pub fn session<S: Start, M: Machine, R: Read, W: Write>(
         M.Listener.Reader.Read M.Listener.Writer.Write M.Crowd.Crowd M.Crowd.Stream.Stream)
         (session_in ⟦<FileKeep<S> as Keep>⟧ (StartsWith (image_at S.Start)) r.0) work.now fault
         (streams (R.remaining reader.old) (R.remaining reader.new) (W.contents writer.old) (W.contents writer.new)))) }
-    // what is of an older version is told as that, and as nothing else but want of memory or the store
+    // where the file is of an older version, the answer is that, or want of memory, or a fault of the store
     ensures old { IfOk result (λ r. HasCleanDisk (file_state r.0.connection) → (version : ℕ) (x : Content)
         (row : DeskCells) → IsOlder version → StartsOf version (image_at S.Start) x → x.desk ≡ row ∷ []
         → row.version ≡ pos version
@@ -180,7 +180,7 @@ pub fn session<S: Start, M: Machine, R: Read, W: Write>(
     ensures unopened { OnErr result (IsSilent
         (streams (R.remaining reader.old) (R.remaining reader.new) (W.contents writer.old) (W.contents writer.new))) }
     ensures fault { IfErr result IsNotOpened }
-    // what a stop leaves of it the next session goes on from
+    // the next session goes on from what a stop leaves
     ensures goes_on { IfOk result (λ r. HasCleanDisk (file_state r.0.connection) → (A : Ledger) (x : Content) → Good A
         → IsRowsOf A x → StartsWith (image_at S.Start) x
         → GoesOnFrom (session_in ⟦<FileKeep<S> as Keep>⟧ (StartsWith (image_at S.Start)) r.0) work.now r.1 A
@@ -190,10 +190,10 @@ pub fn session<S: Start, M: Machine, R: Read, W: Write>(
     Ok(work::session(rt, machine, keep, work, reader, writer))
 }
 
-/// Makes the newest version of the desk in the file at the path, whose bytes are named by `start`, where it is of an
-/// older one; one of the newest is left alone. The keeper comes back over what the file holds then, and is still open.
-/// Whatever is answered, a stop leaves what was found or the whole of the newest version. A file that is not there or
-/// has no bytes is `NotADesk`, and none is made.
+/// Makes the desk in the file at the path one of the newest version, where it is of an older version; a desk of the
+/// newest version stays as it is. `start` names the bytes of the file. The keeper comes back over what the file then
+/// holds, and is still open. Whatever is answered, a stop leaves what was found, or the whole of the newest version.
+/// For a file that is not there or has no bytes the answer is `NotADesk`, and none is made.
 pub fn upgrade<S: Start>(
     rt: &HostRuntime,
     path: &str,
@@ -205,7 +205,7 @@ pub fn upgrade<S: Start>(
     ensures ended { IfOk result (λ r. IfErr r.1 IsNotOpened) }
     ensures alone { IfOk result (λ r. HasCleanDisk (file_state r.0.connection) → OnOk r.1 ((x : Content)
         → Holds (file_state r.0.connection).now x → LeavesOnly (file_state r.0.connection).may_leave (x ∷ []))) }
-    // whatever is answered
+    // this holds whatever is answered
     ensures either { IfOk result (λ r. HasCleanDisk (file_state r.0.connection) → (x : Content)
         → StartsOld (image_at S.Start) x → (trees : Trees) → (file_state r.0.connection).may_leave trees
         → IsOldContent trees x ⊎ IsContent trees (upgraded x)) }
@@ -214,7 +214,7 @@ pub fn upgrade<S: Start>(
     ensures unchanged { IfOk result (λ r. HasCleanDisk (file_state r.0.connection) → r.1 ≡ Err Fault.NotADesk
         → (x : Content) → (StartsWith (image_at S.Start) x → Holds (file_state r.0.connection).now x)
         × (StartsOld (image_at S.Start) x → HoldsOld (file_state r.0.connection).now x)) }
-    // a desk of whatever version is never told as none
+    // for a desk of whatever version the answer is never that it is none
     ensures desk { IfOk result (λ r. HasCleanDisk (file_state r.0.connection) → r.1 ≡ Err Fault.NotADesk
         → ¬ StartsAsDesk (image_at S.Start)) }
     ensures fault { IfErr result IsNotOpened }

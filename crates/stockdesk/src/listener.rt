@@ -1,20 +1,20 @@
-//! What connections come to, one after the other.
+//! The listener, to which connections come one after the other.
 
 ghost use Rattle.std.specs.Prelude.{IfOk};
 
 use std::io::{self, Read, Write};
 use std::net::{TcpListener, TcpStream};
 
-/// What connections come to.
+/// A listener, to which connections come one after the other.
 pub trait Listen {
     type Reader: Read + Drop;
 
     type Writer: Write + Drop;
 
-    /// A connection that may come, and what listens after that.
+    /// This connection may come, and this is the listener after that.
     ghost comes: { Self → Self.Reader → Self.Writer → Self → Type 0 };
 
-    /// A connection that is closed as it stands, and what listens after that.
+    /// This connection is closed as it stands, and this is the listener after that.
     ghost closes: { Self → Self.Reader → Self.Writer → Self → Type 0 };
 
     /// Waits for the next connection.
@@ -31,14 +31,14 @@ impl Listen for TcpListener {
 
     type Writer = TcpStream;
 
-    // no clause knows what a socket brings or takes
+    // no clause knows what a socket gives or takes
     ghost comes = { λ old reader writer new. Unit {0} };
 
     ghost closes = { λ old reader writer new. Unit {0} };
 
     fn next_connection(&mut self) -> io::Result<(TcpStream, TcpStream)> {
         let (stream, _) = self.accept()?;
-        // an answer that waits for others to join it is only later
+        // an answer that waits for others to join it only comes later
         let _ = stream.set_nodelay(true);
         Ok((stream.try_clone()?, stream))
     }

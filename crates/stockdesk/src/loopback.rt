@@ -16,16 +16,16 @@ use std::alloc::{AllocError, Global};
 use std::io::{self, ErrorKind, Write};
 use words::write_whole;
 
-/// Where a desk is served, port 0 being any that is free, and to how many connections.
+/// Where a desk is served, and to how many connections. Port 0 is any that is free.
 #[derive(Clone, Copy)]
 pub struct Service {
     pub port: u16,
     pub connections: u32,
 }
 
-/// Serves so many connections on a desk that is not stopped, each as it comes, one after the other, and closes each
-/// behind its answers. A fault of a connection ends that one alone. Those before a fault are served: `Socket` where no
-/// connection could be had, and `Store` where the last of them stopped the desk.
+/// Serves so many connections on a desk that is not stopped, one after the other as they come, and closes each after
+/// its answers. A fault of a connection ends only that connection. After an error, all connections that came are
+/// served: `Socket` says that no further connection could be had, `Store` that the last one stopped the desk.
 pub fn serve_all<K: Keep, L: Listen>(
     alloc: Global,
     desk: &mut Desk<K>,
@@ -45,6 +45,7 @@ pub fn serve_all<K: Keep, L: Listen>(
     ensures stop { TellsStop (result ≡ Err Fault.Store) (desk_state K.Keep desk.old) (desk_state K.Keep desk.new) }
     ensures goes { Goes K.Keep desk.old desk.new }
 {
+    // does nothing when run; the prover learns that the desk is in order
     desk.is_stopped();
     for _turn in 0..connections {
         let Ok(connection) = listener.next_connection() else {
@@ -60,7 +61,7 @@ pub fn serve_all<K: Keep, L: Listen>(
     Ok(())
 }
 
-/// The line that tells the port.
+/// Returns the text line that tells the port.
 fn port_line(alloc: Global, port: u16) -> Result<Vec<u8>, AllocError>
     ensures { IfOk result (λ line. line.items ≡ listening_line port) }
 {
@@ -71,7 +72,7 @@ fn port_line(alloc: Global, port: u16) -> Result<Vec<u8>, AllocError>
     Ok(line)
 }
 
-/// Tells the port.
+/// Writes the text line that tells the port.
 fn tell_port<W: Write>(alloc: Global, port: u16, writer: &mut W) -> Result<(), Fault>
     ensures whole { OnOk result (TellsPort port (W.contents writer.old) (W.contents writer.new)) }
     ensures beginning { OnErr result (PortBegun (W.contents writer.old) (W.contents writer.new)) }
@@ -86,7 +87,7 @@ fn tell_port<W: Write>(alloc: Global, port: u16, writer: &mut W) -> Result<(), F
     }
 }
 
-/// What listens, where its port was had and is told.
+/// Writes the port that a listener got, and returns the listener.
 pub fn tell_listener<L: Drop, W: Write>(
     alloc: Global,
     had: io::Result<(L, u16)>,
@@ -108,7 +109,7 @@ pub fn tell_listener<L: Drop, W: Write>(
     }
 }
 
-/// Listens at a port of the machine, and tells the one that it got.
+/// Listens at a port of the machine, and writes the port that it got.
 pub fn listen_at<M: Machine, W: Write>(
     rt: &HostRuntime,
     machine: &M,

@@ -1,4 +1,4 @@
-//! What a session asks of the machine.
+//! What a session wants of the machine.
 
 use crate::crowd::Loopback;
 use crate::listener::Listen;
@@ -7,7 +7,7 @@ use std::fs::File;
 use std::io::{self, Read};
 use std::net::{Ipv4Addr, SocketAddr, TcpListener};
 
-/// Opens files of requests, and listens at ports.
+/// A machine: it opens files of requests, and listens at ports.
 pub trait Machine {
     ghost use Rattle.std.specs.Prelude.{ℕ, List, IfOk};
 
@@ -17,24 +17,25 @@ pub trait Machine {
 
     type Crowd: Crowd + Drop;
 
-    /// A file that may open at a path.
+    /// This file may open at that path.
     ghost opens: { Self → List ℕ → Self.Csv → Type 0 };
 
-    /// What may listen where a port was asked for, at the port that it got.
+    /// This listener may be had where a port was asked for, at the port that it got.
     ghost listens: { Self → ℕ → ℕ → Self.Listener → Type 0 };
 
-    /// What many may come to at once where a port was asked for, at the port that it got.
+    /// This crowd may be had where a port was asked for, at the port that it got.
     ghost gathers: { Self → ℕ → ℕ → Self.Crowd → Type 0 };
 
     /// Opens a file to read it.
     fn open_csv(&self, rt: &HostRuntime, path: &str) -> io::Result<Self::Csv>
         ensures { IfOk result (λ csv. opens self.now path.now csv) };
 
-    /// Listens at a port, or for 0 at any that is free, and tells which it got.
+    /// Listens at a port, for 0 at any that is free. Returns the listener, and the port that it got.
     fn listen(&self, rt: &HostRuntime, port: u16) -> io::Result<(Self::Listener, u16)>
         ensures { IfOk result (λ got. listens self.now port got.1 got.0) };
 
-    /// Listens likewise, to many at once.
+    /// Listens for many connections at once at a port, for 0 at any that is free. Returns the crowd, and the port that
+    /// it got.
     fn gather(&self, rt: &HostRuntime, port: u16) -> io::Result<(Self::Crowd, u16)>
         ensures { IfOk result (λ got. gathers self.now port got.1 got.0) };
 }

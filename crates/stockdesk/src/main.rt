@@ -1,4 +1,4 @@
-//! The desk, over lines of text on standard input and output, and over HTTP on this machine.
+//! The desk, for lines of text on standard input and output, and for HTTP on this machine.
 #![tactic(auto)]
 
 ghost use Rattle.std.specs.Prelude.{◌≡◌, ◌≢◌, ◌≤◌, ◌⊎◌, map};
@@ -39,7 +39,7 @@ use std::io::{self, ErrorKind, Read, Write};
 use std::process::ExitCode;
 use words::write_whole;
 
-/// The status of a fault, which is told in a line of `errors`.
+/// Writes the line of a fault to `errors`, and returns the status of the fault.
 fn tell_fault<E: Write>(errors: &mut E, fault: Fault) -> u8
     ensures desk { IsNoDesk fault → result ≡ 3 }
     ensures file { IsBadFile fault → result ≡ 4 }
@@ -61,7 +61,7 @@ fn tell_fault<E: Write>(errors: &mut E, fault: Fault) -> u8
     }
 }
 
-/// Writes a line, if that can be done, and gives the status.
+/// Writes a line, if that can be done, and returns the status.
 fn tell<E: Write>(errors: &mut E, line: &[u8], status: u8) -> u8
     ensures { result ≡ status }
 {
@@ -69,9 +69,10 @@ fn tell<E: Write>(errors: &mut E, line: &[u8], status: u8) -> u8
     status
 }
 
-/// Does what the words ask for, of which the first is the program's name, and gives the status to end with: 0 where it
-/// is done, 1 after a fault, 2 for words that ask for nothing, 3 where the file is no desk, damaged or of an older
-/// version, 4 where a file of requests cannot be read or has a record at fault. All but 0 is told on `errors`.
+/// Does what the words ask for; the first word is the program's name. Returns the status to end with: 0 where all is
+/// done, 1 after a fault, 2 for words that ask for nothing, 3 where the file is no desk, is damaged or is of an older
+/// version, 4 where a file of requests cannot be read or has a record at fault. For each status but 0, `errors` says
+/// why.
 pub fn go<'a, R, W, E>(
     rt: &HostRuntime,
     words: &'a [&'a str],
@@ -90,9 +91,9 @@ where
         (streams (R.remaining reader.old) (R.remaining reader.new) (W.contents writer.old) (W.contents writer.new)) }
     ensures untouched { (result ≡ 2) ⊎ ((result ≡ 3) ⊎ (result ≡ 4)) → IsSilent
         (streams (R.remaining reader.old) (R.remaining reader.new) (W.contents writer.old) (W.contents writer.new)) }
-    // words for a task, as they are written out, are no other words
+    // words for a task, as they are written out, do ask for something
     ensures words { (task : Task) → AreWordsFor task (map (λ s. s.now) words.entry.now) → result ≢ 2 }
-    // the one word `run`: status 0, and all that was there is answered, or status 1 and a beginning of that
+    // the one word `run`: status 0, and the whole input is answered, or status 1, and a beginning of that is written
     ensures plain { AreWordsFor Task.InMemory (map (λ s. s.now) words.entry.now)
         → ((result ≡ 0) × AnswersText new_ledger
         (streams (R.remaining reader.old) (R.remaining reader.new) (W.contents writer.old) (W.contents writer.new)))
@@ -110,7 +111,7 @@ where
     }
 }
 
-/// The status where words ask for nothing, or memory for them was refused. It is told on `errors`.
+/// Writes to `errors` that the words ask for nothing, or that memory for them was refused, and returns the status.
 fn tell_words<E: Write>(errors: &mut E, error: &WordsError) -> u8
     ensures memory { kind_of error.now ≡ WordsKind.OutOfMemory → result ≡ 1 }
     ensures words { kind_of error.now ≢ WordsKind.OutOfMemory → result ≡ 2 }
@@ -122,7 +123,8 @@ fn tell_words<E: Write>(errors: &mut E, error: &WordsError) -> u8
     2
 }
 
-/// The words could not be read: memory was refused, or one of them is no UTF-8.
+/// Writes to `errors` why the words could not be read, and returns the status: memory was refused, one of them is no
+/// UTF-8, or reading failed.
 fn unread_words<E: Write>(errors: &mut E, kind: ErrorKind) -> u8
     ensures usage { kind ≡ ErrorKind.InvalidData → result ≡ 2 }
     ensures fault { kind ≢ ErrorKind.InvalidData → result ≡ 1 }
@@ -134,12 +136,12 @@ fn unread_words<E: Write>(errors: &mut E, kind: ErrorKind) -> u8
     }
 }
 
-/// The words that the program is called with.
+/// Returns the words that the program is called with.
 fn called_with(rt: &HostRuntime) -> io::Result<Vec<String>> {
     Ok(env::args(rt)?.collect::<Vec<String>>(rt.alloc())?)
 }
 
-/// The same words, lent.
+/// Borrows the words as texts.
 fn lent(alloc: Global, args: &[String]) -> io::Result<Vec<&str>> {
     Ok(
         args.iter()
@@ -148,7 +150,7 @@ fn lent(alloc: Global, args: &[String]) -> io::Result<Vec<&str>> {
     )
 }
 
-/// Goes over standard input, output and error.
+/// Takes standard input, output and error for `go`.
 fn main(rt: HostRuntime) -> ExitCode {
     let mut errors = rt.stderr();
     let args = match called_with(&rt) {

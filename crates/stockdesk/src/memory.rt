@@ -13,9 +13,10 @@ use crate::work::{Work, session};
 use sqlite::Connection;
 use std::io::{Read, Write};
 
-/// Reads to the end, and writes what a new desk answers, each reply line before the next line is answered. After a
-/// fault what is written is a beginning of the text for what was read, with the whole answer to all of that but the
-/// last piece, of 512 bytes at the most; after a failing read, the answer to each line that was read.
+/// Reads to the end, and writes what a new desk answers; each reply line is written before the next line is answered.
+/// After a fault, what is written is a beginning of the text for what was read, with the whole answer to all of that
+/// but the last piece, which has at most 512 bytes. After a failing read, what is written is the answer to each line
+/// that was read whole.
 pub fn run<R: Read, W: Write>(rt: &HostRuntime, reader: &mut R, writer: &mut W) -> Result<(), Fault>
     ensures whole { OnOk result (AnswersText new_ledger
         (streams (R.remaining reader.old) (R.remaining reader.new) (W.contents writer.old) (W.contents writer.new))) }

@@ -8,7 +8,7 @@ use keep::{Keep, KeepFault};
 use sql_keep::SqlKeep;
 use sqlite::{Alter, Connection};
 
-/// Makes a new desk over the connection, and gives its keeper. An error gives the connection back.
+/// Makes a new desk over the connection, and returns its keeper. An error gives the connection back.
 pub fn new_desk<S: Alter>(mut conn: Connection<S>) -> Result<SqlKeep<S>, (Fault, Connection<S>)>
     requires { conn.in_transaction ≡ false }
     ensures made { IfOk result (IsNewDesk ⟦<SqlKeep<S> as Keep>⟧) }

@@ -12,7 +12,7 @@ use crate::{file, memory};
 use sqlite::Unknown;
 use std::io::{Read, Write};
 
-/// Does what is asked for, and closes the file in which it is done.
+/// Does the task, and closes the file in which it is done.
 pub fn perform<M: Machine, R: Read, W: Write>(
     rt: &HostRuntime,
     machine: &M,

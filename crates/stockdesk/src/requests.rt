@@ -27,7 +27,7 @@ pub enum Kind {
     Bounds,
 }
 
-/// The requests of a file.
+/// Reads the requests of a file.
 fn read<R: Read + Drop>(alloc: Global, kind: Kind, reader: R) -> Result<Vec<Request>, FileFault>
     ensures ok { IfOk result (λ requests. IfSome (R.remaining reader) (λ bytes. IsFileOf kind bytes requests.items)) }
     ensures bad { IfErr result (λ fault. IfSome (R.remaining reader) (λ bytes. NamesFirstOf kind bytes fault)) }
@@ -56,7 +56,7 @@ impl From<FileFault> for Fault {
     }
 }
 
-/// The fault that an error of opening the file is told as.
+/// Returns the fault of the program that an error of opening the file becomes.
 fn csv_fault(kind: ErrorKind) -> Fault
     ensures { (result ≡ Fault.Memory) ⊎ (result ≡ Fault.Csv) }
 {
@@ -66,7 +66,7 @@ fn csv_fault(kind: ErrorKind) -> Fault
     }
 }
 
-/// Answers requests on a desk, one after the other or so many together.
+/// Answers requests on a desk, one after the other, or in batches of at most so many as `together` says.
 fn answer_requests<K: Keep, W: Write>(
     alloc: Global,
     desk: &mut Desk<K>,
@@ -86,7 +86,7 @@ fn answer_requests<K: Keep, W: Write>(
     Ok(answer_lists(alloc, requests, together, writer, desk)?)
 }
 
-/// Answers the requests of a file on a desk. The whole file is read before the first of them is called.
+/// Answers the requests of a file on a desk. The whole file is read before the first request is called.
 fn answer_from<K: Keep, R: Read + Drop, W: Write>(
     alloc: Global,
     desk: &mut Desk<K>,
@@ -107,15 +107,16 @@ fn answer_from<K: Keep, R: Read + Drop, W: Write>(
     ensures stop { TellsStop (result ≡ Err Fault.Store) (desk_state K.Keep desk.old) (desk_state K.Keep desk.new) }
     ensures goes { Goes K.Keep desk.old desk.new }
 {
+    // does nothing when run; the prover learns that the desk is in order
     desk.is_stopped();
     let requests = read(alloc, kind, reader)?;
     answer_requests(alloc, desk, &requests, together, writer)
 }
 
-/// Reads the file of requests that opens at the path, and then answers its requests on a desk in their order: each reply
-/// line is written before the next request is called, or, with `together`, those of a batch of at most so many before the
-/// next is begun. A file that cannot be read is `Csv`, a record at fault `BadRecord`; then nothing is done, and nothing
-/// written.
+/// Reads the file of requests that opens at the path, and then answers its requests on a desk, in their order. Each
+/// reply line is written before the next request is called; with `together`, the lines of a batch of at most so many
+/// are written before the next batch is begun. `Csv` says that the file cannot be read, `BadRecord` which record is
+/// at fault; then nothing is done, and nothing written.
 pub fn answer_file<K: Keep, M: Machine, W: Write>(
     rt: &HostRuntime,
     machine: &M,
@@ -139,6 +140,7 @@ pub fn answer_file<K: Keep, M: Machine, W: Write>(
     ensures stop { TellsStop (result ≡ Err Fault.Store) (desk_state K.Keep desk.old) (desk_state K.Keep desk.new) }
     ensures goes { Goes K.Keep desk.old desk.new }
 {
+    // does nothing when run; the prover learns that the desk is in order
     desk.is_stopped();
     match machine.open_csv(rt, path) {
         Ok(reader) => answer_from(rt.alloc(), desk, kind, reader, together, writer),

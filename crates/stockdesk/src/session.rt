@@ -22,7 +22,7 @@ pub enum Fault {
     Write,
     #[error("a socket failed")]
     Socket,
-    /// The first record at fault in a file of requests: 0 is the header, and those behind it count from 1.
+    /// This is the first record at fault in a file of requests: 0 is the header, and the records after it count from 1.
     #[error("record {0}")]
     BadRecord(u64),
     #[error("the file of requests could not be read")]

@@ -10,7 +10,7 @@ use files::{SheetFault, article_sheet, branch_sheet};
 use std::alloc::Global;
 use std::io::Write;
 
-/// What a sheet is of.
+/// What a sheet shows.
 #[derive(Clone, Copy)]
 pub enum SheetOf {
     Branch(Branch),
@@ -33,7 +33,7 @@ impl From<SheetFault> for Fault {
     }
 }
 
-/// Writes a sheet of a book. Want of memory leaves nothing written, and a failing write a beginning.
+/// Writes a sheet of a book. Where memory is refused, nothing is written; where a write fails, a beginning is.
 pub fn write_sheet<W: Write>(
     alloc: Global,
     book: &Book,

@@ -1,4 +1,4 @@
-//! What the words behind the program's name ask for.
+//! What the words after the program's name ask for.
 
 ghost use Rattle.std.specs.Prelude.{◌≡◌, ◌<◌, ◌≤◌, ◌^◌, Some, None, codes, ℕ, List, Option, false, true, decimal, map, option_map, IfErr, IfOk, IfSome, IsSome};
 ghost use Rattle.std.specs.Int.NonZero.{non_zero_usize_get};
@@ -24,29 +24,29 @@ use std::alloc::{AllocError, Global};
 use std::num::NonZeroUsize;
 use words::read_number;
 
-/// The most connections that are served.
+/// How many connections can be served, at the most.
 const MAX_CONNECTIONS: u32 = 1_000_000;
 
-/// The most requests that are carried out together.
+/// How many requests can be carried out together, at the most.
 const MAX_TOGETHER: usize = 1_000;
 
-/// The most connections that may be there at once.
+/// How many connections may be open at once, at the most.
 const MAX_CLIENTS: usize = 4_000;
 
-/// What is asked for.
+/// What the words ask for.
 #[derive(Clone, Copy)]
 pub enum Task<'a> {
-    /// A new desk in this file.
+    /// To make a new desk in this file.
     Init(&'a str),
-    /// The desk in this file, made one of the newest version.
+    /// To make the desk in this file one of the newest version.
     Upgrade(&'a str),
-    /// A script on a new desk in memory.
+    /// To play a script on a new desk in memory.
     InMemory,
-    /// This work on the desk in this file.
+    /// To do this work on the desk in this file.
     InFile(&'a str, Work<'a>),
 }
 
-/// A command with a file.
+/// Returns a command with a file.
 fn path_command<'a>(
     alloc: Global,
     name: &'a str,
@@ -63,7 +63,7 @@ fn path_command<'a>(
     Command::new(alloc, name).about(about).arg(file)
 }
 
-/// `run`, with its file or without.
+/// Returns the command `run`, with its file or without.
 fn run_command<'a>(alloc: Global) -> Result<Command<'a>, AllocError>
     ensures app { IfOk result (λ command. app_of command ≡ run) }
     ensures local { IfOk result (λ command. (fields_of command).has_globals ≡ false) }
@@ -76,7 +76,7 @@ fn run_command<'a>(alloc: Global) -> Result<Command<'a>, AllocError>
         .arg(file)
 }
 
-/// A command with the file of a desk and a word more.
+/// Returns a command with the file of a desk and one word more.
 fn file_command<'a>(
     alloc: Global,
     name: &'a str,
@@ -95,7 +95,7 @@ fn file_command<'a>(
     command.arg(more)
 }
 
-/// The command with one more below it, where that could be made.
+/// Returns the command with one more below it, where that could be made.
 fn with<'a>(
     command: Command<'a>,
     more: Result<Command<'a>, AllocError>,
@@ -107,7 +107,7 @@ fn with<'a>(
     command.subcommand(more?)
 }
 
-/// The program, with the commands of scripts.
+/// Returns the program, with the commands of scripts.
 fn with_scripts<'a>(alloc: Global) -> Result<Command<'a>, AllocError>
     ensures { IfOk result (λ command. app_of command ≡ scripts) }
 {
@@ -120,7 +120,7 @@ fn with_scripts<'a>(alloc: Global) -> Result<Command<'a>, AllocError>
     with(program, run_command(alloc))
 }
 
-/// Adds an option with a number, which is always there or may be left out.
+/// Adds an option with a number; it must be given where it is required.
 fn with_option<'a>(
     alloc: Global,
     command: Command<'a>,
@@ -141,7 +141,7 @@ fn with_option<'a>(
     command.arg(number)
 }
 
-/// A command with a file of requests, with an option of how many are carried out together.
+/// Returns a command with a file of requests, and an option that says how many are carried out together.
 fn requests_command<'a>(
     alloc: Global,
     name: &'a str,
@@ -189,7 +189,7 @@ fn with_sheets<'a>(alloc: Global, command: Command<'a>) -> Result<Command<'a>, A
     )
 }
 
-/// `serve`, with its file and the two options that are always there.
+/// Returns the command `serve`, with its file and the two options that must be given.
 fn serve_in_turn_command<'a>(alloc: Global) -> Result<Command<'a>, AllocError>
     ensures app { IfOk result (λ command. app_of command ≡ serve_in_turn) }
     ensures local { IfOk result (λ command. (fields_of command).has_globals ≡ false) }
@@ -202,7 +202,7 @@ fn serve_in_turn_command<'a>(alloc: Global) -> Result<Command<'a>, AllocError>
     with_option(alloc, command, "connections", true, help)
 }
 
-/// `serve`, with its file and its four options.
+/// Returns the command `serve`, with its file and its four options.
 fn serve_command<'a>(alloc: Global) -> Result<Command<'a>, AllocError>
     ensures app { IfOk result (λ command. app_of command ≡ serve) }
     ensures local { IfOk result (λ command. (fields_of command).has_globals ≡ false) }
@@ -226,7 +226,7 @@ fn with_service<'a>(alloc: Global, command: Command<'a>) -> Result<Command<'a>, 
     with(command, path_command(alloc, "upgrade", about, help))
 }
 
-/// The words that the program takes.
+/// Returns the words that the program takes.
 fn command<'a>(alloc: Global) -> Result<Command<'a>, AllocError>
     ensures { IfOk result (λ command. app_of command ≡ stockdesk) }
 {
@@ -236,7 +236,7 @@ fn command<'a>(alloc: Global) -> Result<Command<'a>, AllocError>
     with_service(alloc, command)
 }
 
-/// The sheet of the branch that a word names.
+/// Returns the sheet of the branch that a word names.
 fn branch_named(word: &str) -> Option<SheetOf>
     ensures named { IfSome result (λ of. of ≡ SheetOf.Branch word.now) }
     ensures taken { IsBranch word.now → IsSome result }
@@ -245,7 +245,7 @@ fn branch_named(word: &str) -> Option<SheetOf>
     Some(SheetOf::Branch(branch))
 }
 
-/// The sheet of the article that a word names.
+/// Returns the sheet of the article that a word names.
 fn article_named(word: &str) -> Option<SheetOf>
     ensures named { IfSome result (λ of. of ≡ SheetOf.Article word.now) }
     ensures taken { IsArticle word.now → IsSome result }
@@ -254,7 +254,7 @@ fn article_named(word: &str) -> Option<SheetOf>
     Some(SheetOf::Article(article))
 }
 
-/// The port that a word is.
+/// Returns the port that a word spells.
 fn port_named(word: &str) -> Option<u16>
     ensures named { IfSome result (λ port. word.now ≡ decimal port) }
     ensures taken { (port : ℕ) → port < 2 ^ 16 → word.now ≡ decimal port → IsSome result }
@@ -263,7 +263,7 @@ fn port_named(word: &str) -> Option<u16>
     u16::try_from(number).ok()
 }
 
-/// How many connections a word says.
+/// Returns how many connections a word asks for.
 fn connections_named(word: &str) -> Option<u32>
     ensures named { IfSome result (λ count. (word.now ≡ decimal count) × (1 ≤ count) × (count ≤ 1000000)) }
     ensures taken { (count : ℕ) → 1 ≤ count → count ≤ 1000000 → word.now ≡ decimal count → IsSome result }
@@ -277,7 +277,7 @@ fn connections_named(word: &str) -> Option<u32>
     }
 }
 
-/// The service that two words ask for.
+/// Returns the service that two words ask for.
 fn service_named(port: &str, connections: &str) -> Option<Service>
     ensures named { IfSome result (IsService port.now connections.now) }
     ensures taken { (service : Service) → IsService port.now connections.now service → IsSome result }
@@ -287,14 +287,14 @@ fn service_named(port: &str, connections: &str) -> Option<Service>
     Some(Service { port, connections })
 }
 
-/// The word that was found by that name.
+/// Returns the word that was found by that name.
 fn word<'a>(found: &ArgMatches<'a>, name: &str) -> Option<&'a str>
     ensures { option_map (λ s. s.now) result ≡ first_of name.now (rows_of (found_of found.now)) }
 {
     found.get_str(name)
 }
 
-/// What a command reads a file of.
+/// Returns which kind of file a command reads.
 fn kind_named(name: &str) -> Option<Kind>
     ensures named { IfSome result (λ kind. name.now ≡ command_of kind) }
     ensures taken { (kind : Kind) → name.now ≡ command_of kind → IsSome result }
@@ -307,7 +307,7 @@ fn kind_named(name: &str) -> Option<Kind>
     }
 }
 
-/// How many a word says, which are so many at the most.
+/// Returns how many a word asks for, at most `most`.
 fn count_named(word: &str, most: usize) -> Option<NonZeroUsize>
     requires { most ≤ 4000 }
     ensures named { IfSome result (λ count. (word.now ≡ decimal (non_zero_usize_get count))
@@ -323,7 +323,7 @@ fn count_named(word: &str, most: usize) -> Option<NonZeroUsize>
     }
 }
 
-/// How many are asked for, if that is asked for, so many at the most; none where the word is no such number.
+/// Returns how many the word asks for, if there is a word, at most `limit`; `None` where the word is no such number.
 fn most_asked(word: Option<&str>, limit: usize) -> Option<Option<NonZeroUsize>>
     requires { limit ≤ 4000 }
     ensures named { IfSome result (AsksAtMost limit (option_map (λ s. s.now) word.entry)) }
@@ -336,7 +336,7 @@ fn most_asked(word: Option<&str>, limit: usize) -> Option<Option<NonZeroUsize>>
     }
 }
 
-/// The sheet of a branch that is asked for; none where the word behind it is no code.
+/// Returns the sheet of a branch that is asked for; `None` where the word for the branch is no code.
 fn branch_sheet_found<'a>(found: &ArgMatches<'a>) -> Option<Work<'a>>
     ensures asked { IfSome result (AsksForWork (codes "sheet") (rows_of (found_of found.now))) }
     ensures taken { (branch : Text) → first_of (codes "BRANCH") (rows_of (found_of found.now)) ≡ Some branch
@@ -346,7 +346,7 @@ fn branch_sheet_found<'a>(found: &ArgMatches<'a>) -> Option<Work<'a>>
     Some(Work::Sheet(branch_named(branch)?))
 }
 
-/// The sheet of an article that is asked for, likewise.
+/// Returns the sheet of an article that is asked for; `None` where the word for the article is no code.
 fn article_sheet_found<'a>(found: &ArgMatches<'a>) -> Option<Work<'a>>
     ensures asked { IfSome result (AsksForWork (codes "article") (rows_of (found_of found.now))) }
     ensures taken { (code : Text) → first_of (codes "ARTICLE") (rows_of (found_of found.now)) ≡ Some code
@@ -356,7 +356,7 @@ fn article_sheet_found<'a>(found: &ArgMatches<'a>) -> Option<Work<'a>>
     Some(Work::Sheet(article_named(article)?))
 }
 
-/// How many two words ask for at once.
+/// Returns how many two words ask for: in a round, and at once.
 fn at_once_named(together: &str, clients: Option<&str>) -> Option<AtOnce>
     ensures named { IfSome result (IsAtOnce together.now (option_map (λ s. s.now) clients.entry)) }
     ensures taken { (at_once : AtOnce) → IsAtOnce together.now (option_map (λ s. s.now) clients.entry) at_once
@@ -367,7 +367,7 @@ fn at_once_named(together: &str, clients: Option<&str>) -> Option<AtOnce>
     Some(AtOnce { together, clients })
 }
 
-/// The port and the number of connections that are asked for; none where a word behind them is no such number.
+/// Returns the port and the number of connections that are asked for; `None` where a word for them is no such number.
 fn service_found<'a>(found: &ArgMatches<'a>) -> Option<Service>
     ensures asked { IfSome result (AsksForService (rows_of (found_of found.now))) }
     ensures taken { (service : Service) → AsksForService (rows_of (found_of found.now)) service → IsSome result }
@@ -377,8 +377,8 @@ fn service_found<'a>(found: &ArgMatches<'a>) -> Option<Service>
     service_named(port, connections)
 }
 
-/// The service that is asked for, of one connection after the other or of many at once; none where a word behind it is no such
-/// number, or tells how many may be there at once where they are served one after the other.
+/// Returns the service that is asked for, of one connection after the other or of many at once. `None` where a word for
+/// it is no such number, or says how many may be open at once for connections that are served one after the other.
 fn serving_found<'a>(found: &ArgMatches<'a>) -> Option<Work<'a>>
     ensures asked { IfSome result (AsksForWork (codes "serve") (rows_of (found_of found.now))) }
     ensures taken { TakesService (rows_of (found_of found.now)) (IsSome result) }
@@ -394,7 +394,8 @@ fn serving_found<'a>(found: &ArgMatches<'a>) -> Option<Work<'a>>
     }
 }
 
-/// The file of requests of a kind that is asked for; none where the word for how many together is no such number.
+/// Returns the file of requests of this kind that is asked for; `None` where the word for how many together is no such
+/// number.
 fn requests_found<'a>(kind: Kind, found: &ArgMatches<'a>) -> Option<Work<'a>>
     ensures asked { IfSome result (AsksForWork (command_of kind) (rows_of (found_of found.now))) }
     ensures taken { (csv : Text) (together : Option NonZeroUsize)
@@ -407,7 +408,7 @@ fn requests_found<'a>(kind: Kind, found: &ArgMatches<'a>) -> Option<Work<'a>>
     Some(Work::Requests(kind, csv, together))
 }
 
-/// The work that a command asks for; none where a word behind it is no code or number.
+/// Returns the work that a command asks for; `None` where a word after it is no code or number.
 fn work_named<'a>(name: &str, found: &ArgMatches<'a>) -> Option<Work<'a>>
     ensures asked { IfSome result (AsksForWork name.now (rows_of (found_of found.now))) }
     ensures taken { TakesWork name.now (rows_of (found_of found.now)) (IsSome result) }
@@ -421,7 +422,7 @@ fn work_named<'a>(name: &str, found: &ArgMatches<'a>) -> Option<Work<'a>>
     }
 }
 
-/// The task that a command with the file of a desk asks for, likewise.
+/// Returns the task that a command with the file of a desk asks for; `None` where a word after it is no code or number.
 fn task_on<'a>(name: &str, path: &'a str, found: &ArgMatches<'a>) -> Option<Task<'a>>
     ensures asked { IfSome result (λ task. first_of (codes "FILE") (rows_of (found_of found.now)) ≡ Some path.entry.now
         → AsksFor name.now (rows_of (found_of found.now)) task) }
@@ -437,8 +438,8 @@ fn task_on<'a>(name: &str, path: &'a str, found: &ArgMatches<'a>) -> Option<Task
     }
 }
 
-/// The task that a command asks for, by its name and the words behind it, likewise. A run alone may be without a file:
-/// it is one in memory.
+/// Returns the task that a command asks for, by its name and the words after it; `None` where a word after it is no
+/// code or number. Only `run` may be without a file: then the desk is in memory.
 fn task_named<'a>(name: &str, found: &ArgMatches<'a>) -> Option<Task<'a>>
     ensures asked { IfSome result (AsksFor name.now (rows_of (found_of found.now))) }
     ensures taken { Takes name.now (rows_of (found_of found.now)) (IsSome result) }
@@ -452,7 +453,7 @@ fn task_named<'a>(name: &str, found: &ArgMatches<'a>) -> Option<Task<'a>>
     }
 }
 
-/// The task that the words have been read as.
+/// Returns the task that the words have been read as.
 fn task_of<'a>(matches: &ArgMatches<'a>) -> Option<Task<'a>>
     ensures asked { IfSome result (Asks (subcommand_rows_of matches.now)) }
     ensures taken { (name : Text) (rows : List Row) → subcommand_rows_of matches.now ≡ Some (name, rows)
@@ -464,8 +465,9 @@ fn task_of<'a>(matches: &ArgMatches<'a>) -> Option<Task<'a>>
     }
 }
 
-/// The task that the words ask for, of which the first is the program's name. Words that the program takes fail only
-/// for want of memory, and so do the words for a task as they are written out, which give one that they ask for.
+/// Returns the task that the words ask for; the first word is the program's name. Reading words that the program takes
+/// fails only for want of memory. So does reading the words for a task as they are written out, and these give a task
+/// that they ask for.
 pub fn read_task<'a>(alloc: Global, words: &'a [&'a str]) -> Result<Option<Task<'a>>, Error>
     ensures asks { IfOk result (λ task. IfSome task
         (Asks (subcommand_of stockdesk (map (λ s. s.now) words.entry.now)))) }

@@ -1,4 +1,4 @@
-//! A desk of the newest version in place of one of an older.
+//! How a desk of an older version becomes one of the newest.
 
 ghost use Rattle.std.specs.Prelude.{◌≡◌, ◌↔◌, false, IfErr};
 ghost use Rattle.sqlite.specs.Held.{state};
@@ -11,7 +11,7 @@ use keep::KeepFault;
 use sql_keep::SqlKeep;
 use sqlite::Alter;
 
-/// The fault that one of an upgrade is told as.
+/// Returns the fault of the program that a fault of an upgrade becomes.
 fn upgrade_fault(fault: KeepFault) -> Fault
     ensures told { IsNotOpened result }
     ensures desk { result ≡ Fault.NotADesk ↔ fault ≡ KeepFault.NotADesk }
@@ -24,8 +24,8 @@ fn upgrade_fault(fault: KeepFault) -> Fault
     }
 }
 
-/// Makes the newest version of what a keeper holds, where that is of an older one; the newest is left alone. The keeper
-/// that comes back goes on, over what is held then.
+/// Makes what a keeper holds one of the newest version, where it is of an older version; where it is of the newest,
+/// it stays as it is. The keeper that comes back goes on, over what is held then.
 pub fn upgrade<S: Alter>(keep: SqlKeep<S>) -> (SqlKeep<S>, Result<(), Fault>)
     ensures going { result.0.stopped ≡ false }
     ensures clean { HasCleanDisk (state S.Store result.0.connection) → HasCleanDisk (state S.Store keep.connection) }

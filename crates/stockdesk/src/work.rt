@@ -24,19 +24,20 @@ use std::num::NonZeroUsize;
 /// What is done on a desk.
 #[derive(Clone, Copy)]
 pub enum Work<'a> {
-    /// A script is played, from the reader to the writer.
+    /// To play a script, from the reader to the writer.
     Script,
-    /// The requests of the file at this path are answered, one after the other or so many together.
+    /// To answer the requests of the file at this path, one after the other or in batches of at most so many.
     Requests(Kind, &'a str, Option<NonZeroUsize>),
-    /// A sheet of it is written.
+    /// To write a sheet of the desk.
     Sheet(SheetOf),
-    /// It is served, to one connection after the other.
+    /// To serve the desk to one connection after the other.
     Serve(Service),
-    /// It is served to many connections at once.
+    /// To serve the desk to many connections at once.
     ServeAtOnce(Service, AtOnce),
 }
 
-/// Does work on a desk that is lent for it.
+/// Does work on a desk that the caller lends for it. Its calls of `is_stopped` do nothing when run; the prover learns
+/// that the desk is in order.
 fn work_on_one<K: Keep, M: Machine, R: Read, W: Write>(
     rt: &HostRuntime,
     machine: &M,
@@ -77,7 +78,7 @@ fn work_on_one<K: Keep, M: Machine, R: Read, W: Write>(
     }
 }
 
-/// Does the work on a desk, which comes back as its keeper.
+/// Does the work on a desk, of which the keeper comes back.
 fn work_on<K: Keep, M: Machine, R: Read, W: Write>(
     rt: &HostRuntime,
     machine: &M,
@@ -105,11 +106,12 @@ fn work_on<K: Keep, M: Machine, R: Read, W: Write>(
 
 /// Opens the desk that a keeper holds, and does the work on it. The keeper comes back as the session leaves it.
 ///
-/// With Ok the work is done, from the desk's ledger on; a stop leaves the rows of the ledger behind it. After a fault a
-/// beginning of what was to be written is, and a stop leaves the rows of the ledger behind the answers, or, where the
-/// store failed, those or the rows after one request more, or after so many as are carried out together. Where no desk
-/// was opened nothing is read or written, the keeper holds what it held, and nothing is added to what a stop may leave.
-/// A keeper that was stopped comes back as it was.
+/// After `Ok` the work is done, from the desk's ledger on, and a stop of the program leaves the rows of the ledger
+/// after it. After a fault, a beginning of what was to be written is written, and a stop of the program leaves the rows
+/// of the ledger after the answers; or, where the store failed, those rows, or the rows after one request more or as
+/// many as are carried out together. Where no desk was opened, nothing is read or written, the keeper holds what it
+/// held, and nothing is added to what a stop may leave. What is said about rows and stops holds while the disk is
+/// honest. A keeper that was stopped comes back as it was.
 pub fn session<K: Keep, M: Machine, R: Read, W: Write>(
     rt: &HostRuntime,
     machine: &M,
@@ -124,12 +126,12 @@ pub fn session<K: Keep, M: Machine, R: Read, W: Write>(
     ensures cut { IfErr result.1 (λ fault. WorkInPart (outside (M.opens machine.now) (M.listens machine.now) (M.gathers machine.now) M.Csv.Read M.Listener.Listen
         M.Listener.Reader.Read M.Listener.Writer.Write M.Crowd.Crowd M.Crowd.Stream.Stream) (session_on K.Keep keep result.0) work.now fault
         (streams (R.remaining reader.old) (R.remaining reader.new) (W.contents writer.old) (W.contents writer.new))) }
-    // what is of an older version is told as that, and as nothing else but want of memory or the store
+    // where what is held is of an older version, the answer is that, or want of memory, or a fault of the store
     ensures old { K.is_honest result.0 → K.stopped keep ≡ false → K.is_old keep → (result.1 ≡ Err Fault.OldVersion)
         ⊎ ((result.1 ≡ Err Fault.Memory) ⊎ (result.1 ≡ Err Fault.Store)) }
     ensures refused { IsTrue (K.stopped keep) → result ≡ (keep, Err Fault.Store) }
     ensures honest { K.is_honest result.0 → K.is_honest keep }
-    // what a stop leaves of it the next session goes on from
+    // the next session goes on from what a stop leaves
     ensures goes_on { K.is_honest result.0 → (A : Ledger) (x : Content) → Good A → IsRowsOf A x → K.holds keep x
         → K.leaves keep (x ∷ []) → GoesOnFrom (session_on K.Keep keep result.0) work.now result.1 A
         (streams (R.remaining reader.old) (R.remaining reader.new) (W.contents writer.old) (W.contents writer.new)) }

@@ -31,14 +31,18 @@ abbrev SpellsSome : List ℕ → Type 0
 SpellsSome text = (c : Command) × IsInRange c × (text ≡ spelling c)
 
 spelled_decided : (text : List ℕ) → Decided (SpellsSome text)
-spelled_decided text = decided_by to from (decided_both (decided_in_range (command_of (words_of text))) (decided_word text (spelling (command_of (words_of text)))))
+spelled_decided text =
+    decided_by to from (decided_both (decided_in_range (command_of (words_of text)))
+        (decided_word text (spelling (command_of (words_of text)))))
   where
     to : IsInRange (command_of (words_of text)) × (text ≡ spelling (command_of (words_of text))) → SpellsSome text
     to h = (command_of (words_of text), h.0, h.1)
 
     from : SpellsSome text → IsInRange (command_of (words_of text)) × (text ≡ spelling (command_of (words_of text)))
     from (d, range, e) =
-        let same : d ≡ command_of (words_of text) = sym (command_of-command_words d range) ∙ ap command_of (sym (words-command d range) ∙ ap words_of (sym e)) in
+        let same : d ≡ command_of (words_of text) =
+            sym (command_of-command_words d range)
+            ∙ ap command_of (sym (words-command d range) ∙ ap words_of (sym e)) in
         (subst IsInRange same range, e ∙ ap spelling same)
 
 -- the value is a request's object
@@ -47,16 +51,16 @@ IsSomeObject value = (r : Request) × IsObjectOf r value
 
 object_decided : (value : Data) → Decided (IsSomeObject value)
 object_decided (object (member p (string c) (member q (string k) no_members))) =
-    decided_by to from (decided_both (decided_both (decided_word p (codes "command")) (decided_word q (codes "key"))) (decided_both (decided_key k) (spelled_decided c)))
+    decided_by to from (decided_both (decided_both (decided_word p (codes "command")) (decided_word q (codes "key")))
+        (decided_both (decided_key k) (spelled_decided c)))
   where
-    to : ((p ≡ codes "command") × (q ≡ codes "key")) × (IsKey k × SpellsSome c) → IsSomeObject (object (member p (string c) (member q (string k) no_members)))
-    to h =
-        let e : p ≡ codes "command" = h.0.0 in
-        let f : q ≡ codes "key" = h.0.1 in
-        let g : c ≡ spelling h.1.1.0 = h.1.1.2 in
-        (record { key = k; command = h.1.1.0 }, record { key = h.1.0; command = h.1.1.1; members = cc (e, f, g) })
+    to : ((p ≡ codes "command") × (q ≡ codes "key")) × (IsKey k × SpellsSome c)
+        → IsSomeObject (object (member p (string c) (member q (string k) no_members)))
+    to ((e, f), (key, (d, range, g))) =
+        (record { key = k; command = d }, record { key = key; command = range; members = cc (e, f, g) })
 
-    from : IsSomeObject (object (member p (string c) (member q (string k) no_members))) → ((p ≡ codes "command") × (q ≡ codes "key")) × (IsKey k × SpellsSome c)
+    from : IsSomeObject (object (member p (string c) (member q (string k) no_members)))
+        → ((p ≡ codes "command") × (q ≡ codes "key")) × (IsKey k × SpellsSome c)
     from (r, h) =
         let e = h.members in
         let same : r.key ≡ k = cc e in
@@ -71,8 +75,10 @@ pub body_decided : (body : List ℕ) → Decided (IsSomeBody body)
 body_decided body = by (decided_bool (is_utf8 body) true) (read body) refl
   where
     by_object : (value : Data) → IsUtf8 body → read body ≡ Some value → Decided (IsSomeObject value) → Decided (IsSomeBody body)
-    by_object value text e (inl (r, h)) = inl (r, record { key = h.key; command = h.command; text = text; reads = e ∙ ap Some h.members })
-    by_object value text e (inr none) = inr (λ (r, h). none (r, record { key = h.key; command = h.command; members = let f = sym e ∙ h.reads in cc f }))
+    by_object value text e (inl (r, h)) =
+        inl (r, record { key = h.key; command = h.command; text = text; reads = e ∙ ap Some h.members })
+    by_object value text e (inr none) =
+        inr (λ (r, h). none (r, record { key = h.key; command = h.command; members = let f = sym e ∙ h.reads in cc f }))
 
     by : Decided (is_utf8 body ≡ true) → (found : Option Data) → read body ≡ found → Decided (IsSomeBody body)
     by (inr none) found e = inr (λ (r, h). none (is_utf8-from_IsUtf8 body h.text))

@@ -12,5 +12,6 @@ texts_have_no_float (t ∷ ts) = texts_have_no_float ts
 branches_have_none : (branches : List (List ℕ)) → has_float (branches_object branches) ≡ false
 branches_have_none branches = rw (texts_have_no_float branches)
 
-pub branches_have_no_float : (branches : List (List ℕ)) (value : Data) → value ≡ branches_object branches → has_float value ≡ false
+pub branches_have_no_float : (branches : List (List ℕ)) (value : Data) → value ≡ branches_object branches
+    → has_float value ≡ false
 branches_have_no_float branches value e = ap has_float e ∙ branches_have_none branches

@@ -1,5 +1,8 @@
 -- Fields that stand in the order of their names have one list of branches: their branches, each once.
-use Rattle.std.proofs.Common.{◌≡◌, ◌∙◌, ◌⊎◌, ◌≤◌, ◌<◌, ◌+◌, ◌++◌, Bool, Contains, Equal, Greater, Less, List, None, Option, Ordering, Some, [], ◌∷◌, IsSomeAnd, ap, append-nil, append_assoc, arith, bytes_eq, cond, drop, drop_of_length-le, false, get_or, if◌then◌else◌, inl, inr, length, map, nat_cmp, refl, slice_get, subst, suc, sym, true, true≢false, zero, ℕ}
+use Rattle.std.proofs.Common.{◌≡◌, ◌∙◌, ◌⊎◌, ◌≤◌, ◌<◌, ◌+◌, ◌++◌, Bool, Contains, Equal, Greater, Less, List, None,
+    Option, Ordering, Some, [], ◌∷◌, IsSomeAnd, ap, append-nil, append_assoc, arith, bytes_eq, cond, drop,
+    drop_of_length-le, false, get_or, if◌then◌else◌, inl, inr, length, map, nat_cmp, refl, slice_get, subst, suc, sym,
+    true, true≢false, zero, ℕ}
 use Rattle.std.proofs.lemmas.Cmp.{nat_list_cmp_total}
 use Rattle.std.proofs.lemmas.Map.Lookups.{exact_bytes}
 use Rattle.std.proofs.lemmas.Option.{get_or_from_slice_get, slice_get_within}
@@ -85,7 +88,8 @@ once_from : (before : Option Text) (bs : List Text) (q : Text) → Contains (onc
 once_from before [] q h = h
 once_from before (b ∷ bs) q h = by (is_again before b) (once_from (Some b) bs q) h
   where
-    by : (again : Bool) → (Contains (once (Some b) bs) q → Contains bs q) → Contains (with_new again b (once (Some b) bs)) q → Contains (b ∷ bs) q
+    by : (again : Bool) → (Contains (once (Some b) bs) q → Contains bs q)
+        → Contains (with_new again b (once (Some b) bs)) q → Contains (b ∷ bs) q
     by true more h = later b bs q (more h)
     by false more h = elim (first_or_later b (once (Some b) bs) q h) [
       | inl e ↦ subst (Contains (b ∷ bs)) e (here b bs)
@@ -112,7 +116,8 @@ once_has before (b ∷ bs) q h = by (is_again before b) refl (once_has (Some b) 
     at_front : (again : Bool) → is_again before b ≡ again → b ≡ q → IsThere before (with_new again b (once (Some b) bs)) q
     at_front again e same = subst (IsThere before (with_new again b (once (Some b) bs))) same (front again e)
 
-    by : (again : Bool) → is_again before b ≡ again → (Contains bs q → IsThere (Some b) (once (Some b) bs) q) → (b ≡ q) ⊎ Contains bs q
+    by : (again : Bool) → is_again before b ≡ again → (Contains bs q → IsThere (Some b) (once (Some b) bs) q)
+        → (b ≡ q) ⊎ Contains bs q
         → IsThere before (with_new again b (once (Some b) bs)) q
     by again e more (inl same) = at_front again e same
     by again e more (inr there) = elim (more there) [
@@ -125,7 +130,8 @@ abbrev Rise : List Text → Type 0
 Rise [] = Unit {0}
 Rise (b ∷ bs) = Each (NotAbove b) bs × Rise bs
 
-once_above : (a : Text) (bs : List Text) → Each (NotAbove a) bs → Rise bs → Each (Below a) (once (Some a) bs) × Rising (once (Some a) bs)
+once_above : (a : Text) (bs : List Text) → Each (NotAbove a) bs → Rise bs
+    → Each (Below a) (once (Some a) bs) × Rising (once (Some a) bs)
 unfolding IsStrictlySortedBy
 once_above a [] upto rise = (tt, tt)
 once_above a (b ∷ bs) upto rise = by (bytes_eq a b) refl (once_above b bs rise.0 rise.1)
@@ -150,7 +156,8 @@ branches_at fields = map (λ f. f.name.branch) fields
 abbrev pub InOrder : List Field → Type 0
 InOrder fields = IsStrictlySortedBy name_cmp (map (λ f. f.name) fields)
 
-all_upto : (f : Field) (fs : List Field) → Each (λ n. name_cmp f.name n ≡ Less) (map (λ g. g.name) fs) → Each (NotAbove f.name.branch) (branches_at fs)
+all_upto : (f : Field) (fs : List Field) → Each (λ n. name_cmp f.name n ≡ Less) (map (λ g. g.name) fs)
+    → Each (NotAbove f.name.branch) (branches_at fs)
 all_upto f [] each = tt
 all_upto f (g ∷ gs) each = ((λ e. let less = each.0 in let greater = rw e at less in cc greater), all_upto f gs each.1)
 
@@ -184,7 +191,8 @@ once_more before b bs = by (is_again before b)
 abbrev IsShownAt : Ledger → ℕ → FieldView → Type 0
 IsShownAt A i v = IsSomeAnd (slice_get A.fields i) (λ f. ShowsField A f v)
 
-at_field : (A : Ledger) (i : ℕ) (v : FieldView) → IsShownAt A i v → branches_at (drop i A.fields) ≡ v.branch ∷ branches_at (drop (i + 1) A.fields)
+at_field : (A : Ledger) (i : ℕ) (v : FieldView) → IsShownAt A i v
+    → branches_at (drop i A.fields) ≡ v.branch ∷ branches_at (drop (i + 1) A.fields)
 at_field A i v h = by (slice_get A.fields i) refl h
   where
     by : (found : Option Field) → slice_get A.fields i ≡ found → IsSomeAnd found (λ f. ShowsField A f v)
@@ -194,7 +202,9 @@ at_field A i v h = by (slice_get A.fields i) refl h
         let same : get_or A.fields i f ≡ f = get_or_from_slice_get A.fields i f f e in
         let branch = ap (λ (g : Field). g.name.branch) same ∙ sym (ap (λ (n : Name). n.branch) shows.name) in
         let next : suc i ≡ i + 1 = omega arith in
-        let rest = drop-cons A.fields i f (slice_get_within A.fields i f e) ∙ ap (λ (n : ℕ). get_or A.fields i f ∷ drop n A.fields) next in
+        let rest =
+            drop-cons A.fields i f (slice_get_within A.fields i f e)
+            ∙ ap (λ (n : ℕ). get_or A.fields i f ∷ drop n A.fields) next in
         ap branches_at rest ∙ ap (λ (b : Text). b ∷ branches_at (drop (i + 1) A.fields)) branch
 
 -- what is listed is all, with what will be listed of the fields from that place on
@@ -226,11 +236,13 @@ all_listed fields i before branches past h sorted =
 -- ---- there is no other such list
 
 -- of two lists in order that have the same elements, the first of one is that of the other
-same_first : (x y : Text) (xs ys : List Text) → Each (Below x) xs → Each (Below y) ys → (y ≡ x) ⊎ Contains ys x → (x ≡ y) ⊎ Contains xs y → x ≡ y
+same_first : (x y : Text) (xs ys : List Text) → Each (Below x) xs → Each (Below y) ys → (y ≡ x) ⊎ Contains ys x
+    → (x ≡ y) ⊎ Contains xs y → x ≡ y
 same_first x y xs ys above_x above_y (inl e) there = sym e
 same_first x y xs ys above_x above_y (inr in_ys) (inl e) = e
 same_first x y xs ys above_x above_y (inr in_ys) (inr in_xs) =
-    absurd (not_below_itself x (nat_list_cmp_total.trans x y x (at_each (Below x) xs y above_x in_xs) (at_each (Below y) ys x above_y in_ys)))
+    absurd (not_below_itself x
+        (nat_list_cmp_total.trans x y x (at_each (Below x) xs y above_x in_xs) (at_each (Below y) ys x above_y in_ys)))
 
 -- all of the one list is in the other
 abbrev IsWithin : List Text → List Text → Type 0
@@ -249,10 +261,13 @@ same_list [] [] s t to from = refl
 same_list [] (y ∷ ys) s t to from = absurd (none_in y (from y (here y ys)))
 same_list (x ∷ xs) [] s t to from = absurd (none_in x (to x (here x xs)))
 same_list (x ∷ xs) (y ∷ ys) s t to from =
-    let e = same_first x y xs ys s.0 t.0 (first_or_later y ys x (to x (here x xs))) (first_or_later x xs y (from y (here y ys))) in
+    let e =
+        same_first x y xs ys s.0 t.0 (first_or_later y ys x (to x (here x xs)))
+            (first_or_later x xs y (from y (here y ys))) in
     let rest = same_list xs ys s.1 t.1 (behind_first x y xs ys e s.0 to) (behind_first y x ys xs (sym e) t.0 from) in
     λ i. e i ∷ rest i
 
 pub one_list : (fields : List Field) (xs ys : List Text) → AreBranches fields xs → AreBranches fields ys → xs ≡ ys
 one_list fields xs ys h k =
-    same_list xs ys h.in_order k.in_order (λ q there. (k.same q).1 ((h.same q).0 there)) (λ q there. (h.same q).1 ((k.same q).0 there))
+    same_list xs ys h.in_order k.in_order (λ q there. (k.same q).1 ((h.same q).0 there))
+        (λ q there. (h.same q).1 ((k.same q).0 there))

@@ -1,10 +1,12 @@
 -- A target has no two views, and it is known whether it has one.
-use Rattle.std.proofs.Common.{◌≡◌, ◌∙◌, ◌<◌, ◌^◌, ℕ, List, Option, Some, None, ap, arith, codes, decimal, inl, inr, refl, subst, sym}
+use Rattle.std.proofs.Common.{◌≡◌, ◌∙◌, ◌<◌, ◌^◌, ℕ, List, Option, Some, None, ap, arith, codes, decimal, inl, inr,
+    refl, subst, sym}
 use Rattle.std.proofs.lemmas.Fmt.{decimal_injective, decimal_is_IsNumeral}
 use Rattle.std.specs.Str.Parse.{digits_value}
 use Rattle.escrow.specs.Codes.{IsArticle, IsBranch, IsKey}
 use Rattle.escrow.specs.Ranges.{IsMoment, IsOrderNo}
-use Rattle.words.proofs.Decisions.{Decided, decided_article, decided_both, decided_branch, decided_by, decided_key, decided_le, decided_order_no, decided_word}
+use Rattle.words.proofs.Decisions.{Decided, decided_article, decided_both, decided_branch, decided_by, decided_key,
+    decided_le, decided_order_no, decided_word}
 use Rattle.web.specs.Asks.{IsFloor}
 use Rattle.web.specs.Routes.{IsView, part_of, resource_of}
 use Rattle.web.specs.declared.ask.Ask.{Ask}
@@ -47,12 +49,15 @@ one_view target (ask.Field b a) (ask.Field c d) h g =
     let e : b ≡ c = same h.1 g.1 in
     let f : a ≡ d = same h.2 g.2 in
     cc (e, f)
-one_view target (ask.Order n) (ask.Order m) h g = ap ask.Order (decimal_injective n m (omega (arith, h.2)) (omega (arith, g.2)) (same h.1 g.1))
+one_view target (ask.Order n) (ask.Order m) h g =
+    ap ask.Order (decimal_injective n m (omega (arith, h.2)) (omega (arith, g.2)) (same h.1 g.1))
 one_view target (ask.Sheet b) (ask.Sheet c) h g = ap ask.Sheet (same h.1 g.1)
 one_view target (ask.Article a) (ask.Article b) h g = ap ask.Article (same h.1 g.1)
 one_view target (ask.Kept j) (ask.Kept k) h g = ap ask.Kept (same h.1 g.1)
-one_view target (ask.Open n) (ask.Open m) h g = ap ask.Open (decimal_injective n m (omega (arith, h.2)) (omega (arith, g.2)) (same h.1 g.1))
-one_view target (ask.Due n) (ask.Due m) h g = ap ask.Due (decimal_injective n m (omega (arith, h.2)) (omega (arith, g.2)) (same h.1 g.1))
+one_view target (ask.Open n) (ask.Open m) h g =
+    ap ask.Open (decimal_injective n m (omega (arith, h.2)) (omega (arith, g.2)) (same h.1 g.1))
+one_view target (ask.Due n) (ask.Due m) h g =
+    ap ask.Due (decimal_injective n m (omega (arith, h.2)) (omega (arith, g.2)) (same h.1 g.1))
 one_view target (ask.Call r) q h g = absurd h
 one_view target ask.BadCall q h g = absurd h
 one_view target ask.Nothing q h g = absurd h
@@ -63,16 +68,22 @@ one_view target p q h g = let other = same (view_resource target p h) (view_reso
 
 -- ---- whether a target has a view
 
-part_decided : (P : List ℕ → Type 0) → ((part : List ℕ) → Decided (P part)) → (found : Option (List ℕ)) → Decided ((part : List ℕ) × (found ≡ Some part) × P part)
+part_decided : (P : List ℕ → Type 0) → ((part : List ℕ) → Decided (P part)) → (found : Option (List ℕ))
+    → Decided ((part : List ℕ) × (found ≡ Some part) × P part)
 part_decided P decide None = inr (λ h. let e = h.1 in cc e)
-part_decided P decide (Some part) = decided_by {P = P part} (λ p. (part, refl, p)) (λ h. let e : h.0 ≡ part = let f = h.1 in cc f in subst P e h.2) (decide part)
+part_decided P decide (Some part) =
+    decided_by {P = P part} (λ p. (part, refl, p)) (λ h. let e : h.0 ≡ part = let f = h.1 in cc f in subst P e h.2)
+        (decide part)
 
 -- the bytes are a number in that range
 abbrev IsNumber : (ℕ → Type 0) → List ℕ → Type 0
 IsNumber P part = (n : ℕ) × P n × (part ≡ decimal n)
 
-number_decided : (P : ℕ → Type 0) → ((n : ℕ) → P n → n < 2 ^ 64) → ((n : ℕ) → Decided (P n)) → (part : List ℕ) → Decided (IsNumber P part)
-number_decided P small decide part = decided_by to from (decided_both (decide (digits_value 10 part)) (decided_word part (decimal (digits_value 10 part))))
+number_decided : (P : ℕ → Type 0) → ((n : ℕ) → P n → n < 2 ^ 64) → ((n : ℕ) → Decided (P n)) → (part : List ℕ)
+    → Decided (IsNumber P part)
+number_decided P small decide part =
+    decided_by to from
+        (decided_both (decide (digits_value 10 part)) (decided_word part (decimal (digits_value 10 part))))
   where
     to : P (digits_value 10 part) × (part ≡ decimal (digits_value 10 part)) → IsNumber P part
     to h = (digits_value 10 part, h.0, h.1)
@@ -92,7 +103,8 @@ AreParts target Commands = ⊥
 AreParts target Desk = Unit {0}
 AreParts target Branches = Unit {0}
 AreParts target Field =
-    ((part : List ℕ) × (part_of (codes "branch") target ≡ Some part) × IsBranch part) × ((part : List ℕ) × (part_of (codes "article") target ≡ Some part) × IsArticle part)
+    ((part : List ℕ) × (part_of (codes "branch") target ≡ Some part) × IsBranch part)
+    × ((part : List ℕ) × (part_of (codes "article") target ≡ Some part) × IsArticle part)
 AreParts target Order = (part : List ℕ) × (part_of (codes "number") target ≡ Some part) × IsNumber IsOrderNo part
 AreParts target Open = (part : List ℕ) × (part_of (codes "number") target ≡ Some part) × IsNumber IsFloor part
 AreParts target Due = (part : List ℕ) × (part_of (codes "moment") target ≡ Some part) × IsNumber IsMoment part
@@ -105,18 +117,23 @@ parts_decided target Commands = inr (λ h. h)
 parts_decided target Desk = inl tt
 parts_decided target Branches = inl tt
 parts_decided target Field =
-    decided_both (part_decided IsBranch decided_branch (part_of (codes "branch") target)) (part_decided IsArticle decided_article (part_of (codes "article") target))
+    decided_both (part_decided IsBranch decided_branch (part_of (codes "branch") target))
+        (part_decided IsArticle decided_article (part_of (codes "article") target))
 parts_decided target Order =
-    part_decided (IsNumber IsOrderNo) (number_decided IsOrderNo (λ n h. omega (arith, h.1)) decided_order_no) (part_of (codes "number") target)
+    part_decided (IsNumber IsOrderNo) (number_decided IsOrderNo (λ n h. omega (arith, h.1)) decided_order_no)
+        (part_of (codes "number") target)
 parts_decided target Open =
-    part_decided (IsNumber IsFloor) (number_decided IsFloor (λ n h. omega (arith, h)) (λ n. decided_le n 999999999)) (part_of (codes "number") target)
+    part_decided (IsNumber IsFloor) (number_decided IsFloor (λ n h. omega (arith, h)) (λ n. decided_le n 999999999))
+        (part_of (codes "number") target)
 parts_decided target Due =
-    part_decided (IsNumber IsMoment) (number_decided IsMoment (λ n h. omega (arith, h)) (λ n. decided_le n 4000000000)) (part_of (codes "moment") target)
+    part_decided (IsNumber IsMoment) (number_decided IsMoment (λ n h. omega (arith, h)) (λ n. decided_le n 4000000000))
+        (part_of (codes "moment") target)
 parts_decided target Article = part_decided IsArticle decided_article (part_of (codes "article") target)
 parts_decided target Key = part_decided IsKey decided_key (part_of (codes "key") target)
 parts_decided target Sheet = part_decided IsBranch decided_branch (part_of (codes "branch") target)
 
-view_by_parts : (target : List ℕ) (resource : Resource) → resource_of target ≡ Some resource → AreParts target resource → HasView target
+view_by_parts : (target : List ℕ) (resource : Resource) → resource_of target ≡ Some resource → AreParts target resource
+    → HasView target
 view_by_parts target Commands e h = absurd h
 view_by_parts target Desk e h = (ask.Desk, e)
 view_by_parts target Branches e h = (ask.Branches, e)
@@ -141,7 +158,8 @@ parts_of target (ask.Due n) h = (decimal n, h.1, (n, h.2, refl))
 parts_of target a h = absurd h
 
 -- a target whose parts are of no view has none
-pub no_view : (target : List ℕ) (resource : Resource) → resource_of target ≡ Some resource → (AreParts target resource → ⊥) → (a : Ask) → IsView target a → ⊥
+pub no_view : (target : List ℕ) (resource : Resource) → resource_of target ≡ Some resource
+    → (AreParts target resource → ⊥) → (a : Ask) → IsView target a → ⊥
 no_view target resource e none a h = none (subst (AreParts target) (same (view_resource target a h) e) (parts_of target a h))
 
 pub view_decided : (target : List ℕ) → Decided (HasView target)
@@ -150,5 +168,6 @@ view_decided target = by (resource_of target) refl
     by : (found : Option Resource) → resource_of target ≡ found → Decided (HasView target)
     by None e = inr (λ (a, h). let some = sym e ∙ view_resource target a h in cc some)
     by (Some resource) e =
-        decided_by {P = AreParts target resource} {Q = HasView target} (view_by_parts target resource e) (λ (a, h). subst (AreParts target) (same (view_resource target a h) e) (parts_of target a h))
+        decided_by {P = AreParts target resource} {Q = HasView target} (view_by_parts target resource e)
+        (λ (a, h). subst (AreParts target) (same (view_resource target a h) e) (parts_of target a h))
         (parts_decided target resource)

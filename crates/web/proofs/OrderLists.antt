@@ -1,5 +1,7 @@
 -- The orders that a list shows, and their object.
-use Rattle.std.proofs.Common.{◌≡◌, ◌&&◌, ◌∙◌, ◌≤◌, ◌<◌, ◌+◌, ◌++◌, ◌∷◌, [], append-nil, Bool, codes, IsSomeAnd, Less, List, None, Option, Some, ap, append_assoc, arith, false, filter, find, inl, inr, map, nat_cmp, nat_le, nat_lt, option_map, refl, subst, suc, sym, take, true, unwrap_or, zero, ℕ}
+use Rattle.std.proofs.Common.{◌≡◌, ◌&&◌, ◌∙◌, ◌≤◌, ◌<◌, ◌+◌, ◌++◌, ◌∷◌, [], append-nil, Bool, codes, IsSomeAnd, Less,
+    List, None, Option, Some, ap, append_assoc, arith, false, filter, find, inl, inr, map, nat_cmp, nat_le, nat_lt,
+    option_map, refl, subst, suc, sym, take, true, unwrap_or, zero, ℕ}
 use Rattle.std.proofs.lemmas.Bool.{cases_Bool}
 use Rattle.std.proofs.lemmas.Bool.Decides.{nat_tests}
 use Rattle.std.proofs.Math.Seq.{take-nil}
@@ -9,8 +11,7 @@ use Rattle.std.specs.List.Sorted.{IsStrictlySortedBy}
 use Rattle.serde_json.specs.Data.{Data, array, null}
 use Rattle.serde_json.specs.View.{items_of}
 use Rattle.serde_json.specs.Written.{has_float, items_have_float}
-use Rattle.ledger.proofs.OrderApart.{each-found}
-use Rattle.ledger.proofs.Lists.{each-unmap, find_self}
+use Rattle.ledger.proofs.Lists.{each-found, each-unmap, find_self}
 use Rattle.ledger.proofs.Sums.{each-imp, less_is}
 use Rattle.ledger.specs.Good.{Good, IsGoodOrder}
 use Rattle.ledger.specs.Ledger.{Ledger, Order, is_open, order_numbered}
@@ -62,7 +63,8 @@ past floor m ms less above = by ms above ∙ sym (rw (not_above m.number m (omeg
         rw (low, high, more) refl
 
 -- the first is above the floor, and the rest above the first
-first_kept : (floor : ℕ) (o : Order) (os : List Order) → IsStrictlySortedBy nat_cmp (map (λ o. o.number) os) → find (is_above floor) os ≡ Some o
+first_kept : (floor : ℕ) (o : Order) (os : List Order) → IsStrictlySortedBy nat_cmp (map (λ o. o.number) os)
+    → find (is_above floor) os ≡ Some o
     → filter (is_above floor) os ≡ o ∷ filter (is_above o.number) os
 unfolding IsStrictlySortedBy
 first_kept floor o [] sorted e = cc e
@@ -70,7 +72,8 @@ first_kept floor o (m ∷ ms) sorted e = elim (cases_Bool (is_above floor m)) [
   | inl is ↦
       let same : m ≡ o = let found = rw is at e in cc found in
       let rest : filter (is_above floor) ms ≡ filter (is_above m.number) (m ∷ ms) = past floor m ms (low is) above in
-      rw is (subst (λ (x : Order). m ∷ filter (is_above floor) ms ≡ x ∷ filter (is_above x.number) (m ∷ ms)) same (ap (λ (os : List Order). m ∷ os) rest))
+      rw is (subst (λ (x : Order). m ∷ filter (is_above floor) ms ≡ x ∷ filter (is_above x.number) (m ∷ ms)) same
+          (ap (λ (os : List Order). m ∷ os) rest))
   | inr is ↦
       let found = rw is at e in
       let less : m.number < o.number = each-found (λ o. m.number < o.number) (is_above floor) o ms above found in
@@ -78,7 +81,9 @@ first_kept floor o (m ∷ ms) sorted e = elim (cases_Bool (is_above floor m)) [
 ]
   where
     above : Each (λ o. m.number < o.number) ms
-    above = each-imp (λ o less. less_is m.number o.number less) ms (each-unmap (λ n. nat_cmp m.number n ≡ Less) (λ o. o.number) ms sorted.0)
+    above =
+        each-imp (λ o less. less_is m.number o.number less) ms
+            (each-unmap (λ n. nat_cmp m.number n ≡ Less) (λ o. o.number) ms sorted.0)
 
     low : is_above floor m ≡ true → floor < m.number
     low is = elim (cases_Bool (nat_lt floor m.number)) [
@@ -96,7 +101,8 @@ from_next A floor = λ i. find (λ o. is_open o && same o.number i) A.orders
 pub none_left : (A : Ledger) (floor : ℕ) → open_from A (floor + 1) ≡ None → open_left A floor ≡ []
 none_left A floor e = ap (map (λ (o : Order). o.number)) (none_kept (is_above floor) A.orders (sym (from_next A floor) ∙ e))
 
-pub first_left : (A : Ledger) (floor : ℕ) (view : OrderView) → Good A → IsSomeAnd (open_from A (floor + 1)) (λ o. ShowsOrder o view)
+pub first_left : (A : Ledger) (floor : ℕ) (view : OrderView) → Good A
+    → IsSomeAnd (open_from A (floor + 1)) (λ o. ShowsOrder o view)
     → open_left A floor ≡ view.number ∷ open_left A view.number
 first_left A floor view good h = by (open_from A (floor + 1)) refl h
   where
@@ -110,7 +116,9 @@ first_left A floor view good h = by (open_from A (floor + 1)) refl h
 -- no order has a number beyond the last
 pub none_beyond : (A : Ledger) (floor : ℕ) → Good A → 999999999 ≤ floor → open_left A floor ≡ []
 none_beyond A floor good last =
-    ap (map (λ (o : Order). o.number)) (none_passes (is_above floor) A.orders (each-imp (λ o is. not_above floor o (within o is)) A.orders good.orders))
+    ap (map (λ (o : Order). o.number))
+        (none_passes (is_above floor) A.orders
+            (each-imp (λ o is. not_above floor o (within o is)) A.orders good.orders))
   where
     within : (o : Order) → IsGoodOrder A o → o.number ≤ floor
     within o is = omega (arith, last, is.number.1)
@@ -133,7 +141,8 @@ listed_so A floor = take-map (λ (o : Order). o.number) 50 (filter (is_above flo
 pub none_more : (A : Ledger) (floor last room : ℕ) (numbers : List ℕ) → open_left A last ≡ [] → IsListed A floor last room numbers
     → numbers ≡ map (λ o. o.number) (open_above A floor)
 none_more A floor last room numbers e h =
-    sym (append-nil numbers) ∙ ap (λ (more : List ℕ). numbers ++ more) (sym (ap (take room) e ∙ take-nil room)) ∙ sym h ∙ listed_so A floor
+    sym (append-nil numbers) ∙ ap (λ (more : List ℕ). numbers ++ more) (sym (ap (take room) e ∙ take-nil room)) ∙ sym h
+    ∙ listed_so A floor
 
 -- and where there is no more room
 pub no_room : (A : Ledger) (floor last room : ℕ) (numbers : List ℕ) → room ≡ 0 → IsListed A floor last room numbers
@@ -141,13 +150,16 @@ pub no_room : (A : Ledger) (floor last room : ℕ) (numbers : List ℕ) → room
 no_room A floor last room numbers e h =
     sym (append-nil numbers) ∙ ap (λ (n : ℕ). numbers ++ take n (open_left A last)) (sym e) ∙ sym h ∙ listed_so A floor
 
-pub one_more : (A : Ledger) (floor last next room : ℕ) (numbers more : List ℕ) → open_left A last ≡ next ∷ open_left A next → more ≡ numbers ++ next ∷ []
+pub one_more : (A : Ledger) (floor last next room : ℕ) (numbers more : List ℕ)
+    → open_left A last ≡ next ∷ open_left A next → more ≡ numbers ++ next ∷ []
     → IsListed A floor last (suc room) numbers → IsListed A floor next room more
 one_more A floor last next room numbers more e pushed h =
-    h ∙ ap (λ (left : List ℕ). numbers ++ take (suc room) left) e ∙ sym (append_assoc numbers (next ∷ []) (take room (open_left A next)))
+    h ∙ ap (λ (left : List ℕ). numbers ++ take (suc room) left) e
+    ∙ sym (append_assoc numbers (next ∷ []) (take room (open_left A next)))
     ∙ ap (λ (all : List ℕ). all ++ take room (open_left A next)) (sym pushed)
 
-pub due_listed : (A : Ledger) (moment : ℕ) → take 50 (map (λ o. o.number) (filter (expires moment) A.orders)) ≡ map (λ o. o.number) (due A moment)
+pub due_listed : (A : Ledger) (moment : ℕ)
+    → take 50 (map (λ o. o.number) (filter (expires moment) A.orders)) ≡ map (λ o. o.number) (due A moment)
 due_listed A moment = take-map (λ (o : Order). o.number) 50 (filter (expires moment) A.orders)
 
 -- ---- their object
@@ -168,10 +180,12 @@ there_taken A zero os h = tt
 there_taken A (suc n) [] h = tt
 there_taken A (suc n) (o ∷ os) h = (h.0, there_taken A n os h.1)
 
-objects_same : (A : Ledger) (os : List Order) → Each (IsThere A) os → map (numbered_object A) (map (λ o. o.number) os) ≡ map order_object os
+objects_same : (A : Ledger) (os : List Order) → Each (IsThere A) os
+    → map (numbered_object A) (map (λ o. o.number) os) ≡ map order_object os
 objects_same A [] h = refl
 objects_same A (o ∷ os) h =
-    let first : numbered_object A o.number ≡ order_object o = ap (λ (found : Option Order). unwrap_or (option_map order_object found) null) h.0 in
+    let first : numbered_object A o.number ≡ order_object o =
+        ap (λ (found : Option Order). unwrap_or (option_map order_object found) null) h.0 in
     rw (first, objects_same A os h.1) refl
 
 -- the object of the first of the orders that pass a test
@@ -183,7 +197,8 @@ same_object A test good =
 
 -- what is written of those whose numbers are listed
 pub list_written : (A : Ledger) (test : Order → Bool) (bytes listed numbers : List ℕ) → Good A → listed ≡ numbers
-    → numbers ≡ map (λ o. o.number) (take 50 (filter test A.orders)) → bytes ≡ answer_bytes (json_answer 200 (listed_object A listed))
+    → numbers ≡ map (λ o. o.number) (take 50 (filter test A.orders))
+    → bytes ≡ answer_bytes (json_answer 200 (listed_object A listed))
     → bytes ≡ answer_bytes (json_answer 200 (orders_object (take 50 (filter test A.orders))))
 list_written A test bytes listed numbers good same e h =
     h ∙ ap (λ (ns : List ℕ). answer_bytes (json_answer 200 (listed_object A ns))) (same ∙ e)
@@ -205,5 +220,6 @@ orders_have_none A (n ∷ ns) = rw (numbered_none A n) (orders_have_none A ns)
 listed_has_none : (A : Ledger) (numbers : List ℕ) → has_float (listed_object A numbers) ≡ false
 listed_has_none A numbers = rw (orders_have_none A numbers)
 
-pub listed_has_no_float : (A : Ledger) (numbers : List ℕ) (value : Data) → value ≡ listed_object A numbers → has_float value ≡ false
+pub listed_has_no_float : (A : Ledger) (numbers : List ℕ) (value : Data) → value ≡ listed_object A numbers
+    → has_float value ≡ false
 listed_has_no_float A numbers value e = ap has_float e ∙ listed_has_none A numbers

@@ -1,5 +1,6 @@
 -- What a message says is what is read in it: the bytes of its target are those that its route is found for.
-use Rattle.std.proofs.Common.{◌≡◌, ◌∙◌, ◌<◌, ◌^◌, ℕ, List, [], ◌∷◌, ◌++◌, Option, Some, None, Bool, true, false, ap, append_assoc, arith, codes, decimal, inl, inr, length, refl, subst, sym, ◌==◌}
+use Rattle.std.proofs.Common.{◌≡◌, ◌∙◌, ◌<◌, ◌^◌, ℕ, List, [], ◌∷◌, ◌++◌, Option, Some, None, Bool, true, false, ap,
+    append_assoc, arith, codes, decimal, inl, inr, length, refl, subst, sym, ◌==◌}
 use Rattle.std.proofs.lemmas.Bool.{cases_Bool}
 use Rattle.std.proofs.lemmas.Bool.Decides.{nat_tests}
 use Rattle.std.proofs.lemmas.Fmt.{decimal_is_IsNumeral}
@@ -18,17 +19,20 @@ use Rattle.web.specs.declared.ask.Ask.{Ask}
 use Rattle.web.specs.declared.ask.Ask.TheVariants as ask
 use Rattle.web.specs.declared.route.Resource.{Resource}
 use Rattle.web.specs.declared.route.Resource.TheVariants.{Article, Branches, Commands, Desk, Due, Field, Key, Open, Order, Sheet}
-use Rattle.web.proofs.RouteResult.{IsPart, is_found}
-use Rattle.web.proofs.RouteShapes.{Alone, Before, IsAsciiShape, IsAsciiText, IsTarget, OfField, Shape, ascii_shape, route_of, route_to, routed, shape}
+use Rattle.web.proofs.RouteResult.{IsPart, leads_to}
+use Rattle.web.proofs.RouteShapes.{Alone, Before, IsAsciiShape, IsAsciiText, IsTarget, OfField, Shape, ascii_shape,
+    route_of, route_to, routed, shape}
 use Rattle.web.proofs.OneView.{same}
 use Rattle.web.proofs.TargetParts.{before_parts, field_parts}
 
 -- ---- what a target with a route has for its resource and its parts
 
-resource_is : (target : List ℕ) (route : RouteOf Resource) → first routes target ≡ Some route → resource_of target ≡ Some route.value
+resource_is : (target : List ℕ) (route : RouteOf Resource) → first routes target ≡ Some route
+    → resource_of target ≡ Some route.value
 resource_is target route e = rw e refl
 
-part_is : (name target : List ℕ) (route : RouteOf Resource) → first routes target ≡ Some route → part_of name target ≡ named name (parts_on target route)
+part_is : (name target : List ℕ) (route : RouteOf Resource) → first routes target ≡ Some route
+    → part_of name target ≡ named name (parts_on target route)
 part_is name target route e = rw e refl
 
 same_bytes : (text : List ℕ) → same_text text text ≡ true
@@ -58,7 +62,8 @@ IsPlain OfField target =
     (part : List ℕ) × (rest : List ℕ) × (target ≡ codes "/v1/fields/" ++ (part ++ slash ∷ rest))
     × (part_of (codes "branch") target ≡ Some part) × (part_of (codes "article") target ≡ Some rest)
 
-plain_target : (s : Shape) (value : Resource) (target : List ℕ) → IsAsciiShape s → IsRouteOf target s value → IsTarget s target → IsPlain s target
+plain_target : (s : Shape) (value : Resource) (target : List ℕ) → IsAsciiShape s → IsRouteOf target s value
+    → IsTarget s target → IsPlain s target
 plain_target (Alone path) value target ascii e is = is
 plain_target (Before path name) value target ascii e (part, is) = (part, is, before_part path name part target value ascii.0 is e)
 plain_target OfField value target ascii e (part, rest, is, plain) =
@@ -84,7 +89,8 @@ plain_of target value h = by (first routes target) refl
 -- ---- codes and numbers are parts
 
 -- a text all of whose bytes pass a test that no slash passes is a part, where it isn't empty
-part_from_test : (test : ℕ → Bool) → ((b : ℕ) → test b ≡ true → (b < 256) × ((b == slash) ≡ false)) → (bytes : List ℕ) → 0 < length bytes → list_all test bytes ≡ true → IsPart bytes
+part_from_test : (test : ℕ → Bool) → ((b : ℕ) → test b ≡ true → (b < 256) × ((b == slash) ≡ false)) → (bytes : List ℕ)
+    → 0 < length bytes → list_all test bytes ≡ true → IsPart bytes
 part_from_test test passes [] some each = absurd (omega arith)
 part_from_test test passes (b ∷ bytes) some each = elim (cases_Bool (test b)) [
   | inl e ↦ ((passes b e).0, plain (b ∷ bytes) each)
@@ -99,10 +105,12 @@ part_from_test test passes (b ∷ bytes) some each = elim (cases_Bool (test b)) 
     ]
 
 branch_part : (bytes : List ℕ) → IsBranch bytes → IsPart bytes
-branch_part bytes h = part_from_test is_branch_byte (λ b e. (grind (arith, nat_tests), grind (arith, nat_tests))) bytes h.some h.each
+branch_part bytes h =
+    part_from_test is_branch_byte (λ b e. (grind (arith, nat_tests), grind (arith, nat_tests))) bytes h.some h.each
 
 article_part : (bytes : List ℕ) → IsArticle bytes → IsPart bytes
-article_part bytes h = part_from_test is_article_byte (λ b e. (grind (arith, nat_tests), grind (arith, nat_tests))) bytes h.some h.each
+article_part bytes h =
+    part_from_test is_article_byte (λ b e. (grind (arith, nat_tests), grind (arith, nat_tests))) bytes h.some h.each
 
 key_part : (bytes : List ℕ) → IsKey bytes → IsPart bytes
 key_part bytes h = part_from_test is_key_byte (λ b e. (grind (arith, nat_tests), grind (arith, nat_tests))) bytes h.some h.each
@@ -127,11 +135,15 @@ part_plain (b ∷ bytes) h = h.1
 
 -- ---- both directions
 
-field_text : (branch article : List ℕ) → codes "/v1/fields/" ++ branch ++ codes "/" ++ article ≡ codes "/v1/fields/" ++ (branch ++ slash ∷ article)
-field_text branch article = append_assoc (codes "/v1/fields/" ++ branch) (codes "/") article ∙ append_assoc (codes "/v1/fields/") branch (slash ∷ article)
+field_text : (branch article : List ℕ)
+    → codes "/v1/fields/" ++ branch ++ codes "/" ++ article ≡ codes "/v1/fields/" ++ (branch ++ slash ∷ article)
+field_text branch article =
+    append_assoc (codes "/v1/fields/" ++ branch) (codes "/") article
+    ∙ append_assoc (codes "/v1/fields/") branch (slash ∷ article)
 
 -- a target is the path and the part that is found in it
-text_of : (path name target part : List ℕ) → IsPlain (Before path name) target → part_of name target ≡ Some part → target ≡ path ++ part
+text_of : (path name target part : List ℕ) → IsPlain (Before path name) target → part_of name target ≡ Some part
+    → target ≡ path ++ part
 text_of path name target part (found, is, e) h = is ∙ ap (λ (part : List ℕ). path ++ part) (same e h)
 
 -- a view that is read is said
@@ -167,12 +179,14 @@ said m a (inl (post, h, none)) = absurd none
 said m a (inr (get, h)) = view_said m a get h
 
 -- a path alone leads to its resource
-alone_read : (path target : List ℕ) (value : Resource) → IsRouteOf path (Alone path) value → target ≡ path → resource_of target ≡ Some value
+alone_read : (path target : List ℕ) (value : Resource) → IsRouteOf path (Alone path) value → target ≡ path
+    → resource_of target ≡ Some value
 alone_read path target value found is =
     subst (λ (t : List ℕ). resource_of t ≡ Some value) (sym is) (resource_is path (route_of (Alone path) value) found)
 
 -- a path and a part behind it lead to the path's resource, with the part
-before_read : (path name target part : List ℕ) (value : Resource) → IsAsciiText path → IsRouteOf (path ++ part) (Before path name) value
+before_read : (path name target part : List ℕ) (value : Resource) → IsAsciiText path
+    → IsRouteOf (path ++ part) (Before path name) value
     → target ≡ path ++ part → (resource_of target ≡ Some value) × (part_of name target ≡ Some part)
 before_read path name target part value ascii found is =
     let e : IsRouteOf target (Before path name) value = ap (first routes) is ∙ found in
@@ -181,38 +195,42 @@ before_read path name target part value ascii found is =
 -- what is said is read
 pub is_read : (m : Message) (a : Ask) → Says m a → IsRead m a
 unfolding plain_target
-is_read m (ask.Call r) ((post, e), call) = inl (post, alone_read _ m.head.target Commands (is_found Commands) e, call)
-is_read m ask.BadCall ((post, e), none) = inl (post, alone_read _ m.head.target Commands (is_found Commands) e, none)
-is_read m ask.Desk (get, e) = inr (get, alone_read _ m.head.target Desk (is_found Desk) e)
-is_read m ask.Branches (get, e) = inr (get, alone_read (codes "/v1/branches") m.head.target Branches (is_found Branches) e)
+is_read m (ask.Call r) ((post, e), call) = inl (post, alone_read _ m.head.target Commands (leads_to Commands) e, call)
+is_read m ask.BadCall ((post, e), none) = inl (post, alone_read _ m.head.target Commands (leads_to Commands) e, none)
+is_read m ask.Desk (get, e) = inr (get, alone_read _ m.head.target Desk (leads_to Desk) e)
+is_read m ask.Branches (get, e) = inr (get, alone_read (codes "/v1/branches") m.head.target Branches (leads_to Branches) e)
 is_read m (ask.Field branch article) ((get, e), is_branch, is_article) =
     let target = codes "/v1/fields/" ++ (branch ++ slash ∷ article) in
-    let found : first routes target ≡ Some (route_to Field) = is_found Field branch article (branch_part branch is_branch) (article_part article is_article) in
-    let plain = plain_target OfField Field target tt found (branch, article, refl, part_plain branch (branch_part branch is_branch)) in
-    let view : IsView target (ask.Field branch article) = (resource_is target (route_to Field) found, plain.3, plain.4, is_branch, is_article) in
+    let found : first routes target ≡ Some (route_to Field) =
+        leads_to Field branch article (branch_part branch is_branch) (article_part article is_article) in
+    let plain =
+        plain_target OfField Field target tt found
+            (branch, article, refl, part_plain branch (branch_part branch is_branch)) in
+    let view : IsView target (ask.Field branch article) =
+        (resource_is target (route_to Field) found, plain.3, plain.4, is_branch, is_article) in
     inr (get, subst (λ (t : List ℕ). IsView t (ask.Field branch article)) (sym (e ∙ field_text branch article)) view)
 is_read m (ask.Order n) ((get, e), h) =
-    let found = is_found Order (decimal n) (number_part n (omega (arith, h.1))) in
+    let found = leads_to Order (decimal n) (number_part n (omega (arith, h.1))) in
     let (to, part) = before_read (codes "/v1/orders/") (codes "number") m.head.target (decimal n) Order refl found e in
     inr (get, (to, part, h))
 is_read m (ask.Sheet branch) ((get, e), h) =
-    let found = is_found Sheet branch (branch_part branch h) in
+    let found = leads_to Sheet branch (branch_part branch h) in
     let (to, part) = before_read (codes "/v1/sheets/") (codes "branch") m.head.target branch Sheet refl found e in
     inr (get, (to, part, h))
 is_read m (ask.Article article) ((get, e), h) =
-    let found = is_found Article article (article_part article h) in
+    let found = leads_to Article article (article_part article h) in
     let (to, part) = before_read (codes "/v1/articles/") (codes "article") m.head.target article Article refl found e in
     inr (get, (to, part, h))
 is_read m (ask.Kept key) ((get, e), h) =
-    let found = is_found Key key (key_part key h) in
+    let found = leads_to Key key (key_part key h) in
     let (to, part) = before_read (codes "/v1/keys/") (codes "key") m.head.target key Key refl found e in
     inr (get, (to, part, h))
 is_read m (ask.Open floor) ((get, e), h) =
-    let found = is_found Open (decimal floor) (number_part floor (omega (arith, h))) in
+    let found = leads_to Open (decimal floor) (number_part floor (omega (arith, h))) in
     let (to, part) = before_read (codes "/v1/open/") (codes "number") m.head.target (decimal floor) Open refl found e in
     inr (get, (to, part, h))
 is_read m (ask.Due moment) ((get, e), h) =
-    let found = is_found Due (decimal moment) (number_part moment (omega (arith, h))) in
+    let found = leads_to Due (decimal moment) (number_part moment (omega (arith, h))) in
     let (to, part) = before_read (codes "/v1/due/") (codes "moment") m.head.target (decimal moment) Due refl found e in
     inr (get, (to, part, h))
 is_read m ask.Nothing h = absurd h

@@ -1,5 +1,6 @@
 -- What the search of a router finds: a row whose pattern the path fits.
-use Rattle.std.proofs.Common.{◌≡◌, ℕ, zero, suc, ◌-◌, List, [], ◌∷◌, ◌⊎◌, drop, Option, Some, None, arith, inl, inr, length, ltb, refl, subst, ◌==◌}
+use Rattle.std.proofs.Common.{◌≡◌, ℕ, zero, suc, ◌-◌, List, [], ◌∷◌, ◌⊎◌, drop, Option, Some, None, arith, inl, inr,
+    length, ltb, refl, subst, ◌==◌}
 use Rattle.std.proofs.lemmas.Bool.{cases_Bool}
 use Rattle.std.proofs.lemmas.Bool.Decides.{nat_tests}
 use Rattle.matchit.specs.Rows.{RowsOf, param_token, catch_all_token}
@@ -15,11 +16,13 @@ module _ {K : Type 0} where
   Each P [] = Unit {0}
   Each P ((pattern, k) ∷ rows) = P pattern k × Each P rows
 
-  each_more : (P Q : List ℕ → K → Type 0) → ((pattern : List ℕ) (k : K) → P pattern k → Q pattern k) → (rows : RowsOf K) → Each P rows → Each Q rows
+  each_more : (P Q : List ℕ → K → Type 0) → ((pattern : List ℕ) (k : K) → P pattern k → Q pattern k) → (rows : RowsOf K)
+      → Each P rows → Each Q rows
   each_more P Q more [] h = tt
   each_more P Q more ((pattern, k) ∷ rows) h = (more pattern k h.0, each_more P Q more rows h.1)
 
-  each_step : (P : List ℕ → K → Type 0) (b : ℕ) (rows : RowsOf K) → Each P rows → Each (λ pattern k. P (b ∷ pattern) k) (step b rows)
+  each_step : (P : List ℕ → K → Type 0) (b : ℕ) (rows : RowsOf K) → Each P rows
+      → Each (λ pattern k. P (b ∷ pattern) k) (step b rows)
   each_step P b [] h = tt
   each_step P b (([], k) ∷ rows) h = each_step P b rows h.1
   each_step P b ((x ∷ pattern, k) ∷ rows) h = elim (cases_Bool (x == b)) [
@@ -29,7 +32,8 @@ module _ {K : Type 0} where
     | inr e ↦ rw e (each_step P b rows h.1)
   ]
 
-  each_with_suffix : (P : List ℕ → K → Type 0) (suffix : List ℕ) (rows : RowsOf K) → Each P rows → Each P (with_suffix suffix rows)
+  each_with_suffix : (P : List ℕ → K → Type 0) (suffix : List ℕ) (rows : RowsOf K) → Each P rows
+      → Each P (with_suffix suffix rows)
   each_with_suffix P suffix [] h = tt
   each_with_suffix P suffix ((pattern, k) ∷ rows) h = elim (cases_Bool (same_text (segment pattern) suffix)) [
     | inl e ↦ rw e (h.0, each_with_suffix P suffix rows h.1)
@@ -60,20 +64,26 @@ module _ {K : Type 0} (P : List ℕ → List ℕ → K → Type 0)
     (byte : (b : ℕ) (pattern path : List ℕ) (k : K) → P (b ∷ pattern) (b ∷ path) k → P pattern path k)
     (part : (b n : ℕ) (pattern path : List ℕ) (k : K) → P (param_token ∷ pattern) (b ∷ path) k → P pattern (drop n path) k)
     (all : (pattern path : List ℕ) (k : K) → P (catch_all_token ∷ pattern) path k → P pattern [] k) where
-  pub found_fits : (skip : ℕ) (rows : RowsOf K) (path : List ℕ) (k : K) → Each (λ pattern found. P pattern (drop skip path) found) rows → seek skip rows path ≡ Some k → P [] [] k
+  pub found_fits : (skip : ℕ) (rows : RowsOf K) (path : List ℕ) (k : K)
+      → Each (λ pattern found. P pattern (drop skip path) found) rows → seek skip rows path ≡ Some k → P [] [] k
   unfolding seek
   found_fits skip rows [] k h e = subst (λ (path : List ℕ). P [] path k) (drop_none skip) (each_own _ rows k h e)
   found_fits (suc skip) rows (b ∷ path) k h e = found_fits skip rows path k h e
   found_fits zero rows (b ∷ path) k h e =
       let rest = param_step (step param_token rows) (b ∷ path) in
       elim (some_of _ _ k e) [
-        | inl f ↦ found_fits 0 (step b rows) path k (each_more _ _ (λ pattern found. byte b pattern path found) (step b rows) (each_step _ b rows h)) f
+        | inl f ↦
+            found_fits 0 (step b rows) path k
+                (each_more _ _ (λ pattern found. byte b pattern path found) (step b rows) (each_step _ b rows h)) f
         | inr f ↦ elim (some_of _ _ k f) [
           | inl g ↦
               let each : Each (λ pattern found. P pattern (drop (rest.0 - 1) path) found) (step param_token rows) =
-              each_more _ _ (λ pattern found. part b (rest.0 - 1) pattern path found) (step param_token rows) (each_step _ param_token rows h) in
+              each_more _ _ (λ pattern found. part b (rest.0 - 1) pattern path found) (step param_token rows)
+                  (each_step _ param_token rows h) in
               found_fits (rest.0 - 1) rest.1 path k (each_param_step _ (step param_token rows) (b ∷ path) each) g
           | inr g ↦
-              each_own _ (step catch_all_token rows) k (each_more _ (λ pattern found. P pattern [] found) (λ pattern found. all pattern (b ∷ path) found) (step catch_all_token rows) (each_step _ catch_all_token rows h)) g
+              each_own _ (step catch_all_token rows) k
+                  (each_more _ (λ pattern found. P pattern [] found) (λ pattern found. all pattern (b ∷ path) found)
+                      (step catch_all_token rows) (each_step _ catch_all_token rows h)) g
         ]
       ]

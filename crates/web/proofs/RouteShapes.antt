@@ -1,5 +1,6 @@
 -- The routes as they stand, and the targets that each is found for.
-use Rattle.std.proofs.Common.{◌≡◌, ◌∙◌, ◌+◌, ℕ, suc, List, [], ◌∷◌, ◌++◌, drop, length, map, Some, true, false, cond, ap, append-nil, arith, codes, inl, inr, ltb, refl, subst, sym, ◌==◌}
+use Rattle.std.proofs.Common.{◌≡◌, ◌∙◌, ◌+◌, ℕ, suc, List, [], ◌∷◌, ◌++◌, drop, length, map, Some, true, false, cond,
+    ap, append-nil, arith, codes, inl, inr, ltb, refl, subst, sym, ◌==◌}
 use Rattle.std.proofs.lemmas.Bool.{cases_Bool}
 use Rattle.std.proofs.lemmas.Bool.Decides.{nat_tests}
 use Rattle.std.proofs.lemmas.List.{take-append-drop}
@@ -115,14 +116,17 @@ fits_byte b pattern path h = elim (cases_Bool (b == param_token)) [
 ]
 
 -- one more byte of a text in front
-one_more : (b : ℕ) (text pattern path : List ℕ) → ((rest : List ℕ) → Fits (text ++ pattern) rest → (more : List ℕ) × (rest ≡ text ++ more) × Fits pattern more)
-    → (rest : List ℕ) × (path ≡ b ∷ rest) × Fits (text ++ pattern) rest → (more : List ℕ) × (path ≡ b ∷ (text ++ more)) × Fits pattern more
+one_more : (b : ℕ) (text pattern path : List ℕ)
+    → ((rest : List ℕ) → Fits (text ++ pattern) rest → (more : List ℕ) × (rest ≡ text ++ more) × Fits pattern more)
+    → (rest : List ℕ) × (path ≡ b ∷ rest) × Fits (text ++ pattern) rest
+    → (more : List ℕ) × (path ≡ b ∷ (text ++ more)) × Fits pattern more
 one_more b text pattern path go (rest, e, h) =
     let found = go rest h in
     (found.0, e ∙ ap (λ (bytes : List ℕ). b ∷ bytes) found.1, found.2)
 
 -- a text in front of the pattern stands in front of the path
-fits_text : (text pattern path : List ℕ) → IsAsciiText text → Fits (text ++ pattern) path → (rest : List ℕ) × (path ≡ text ++ rest) × Fits pattern rest
+fits_text : (text pattern path : List ℕ) → IsAsciiText text → Fits (text ++ pattern) path
+    → (rest : List ℕ) × (path ≡ text ++ rest) × Fits pattern rest
 fits_text [] pattern path bytes h = (path, refl, h)
 fits_text (b ∷ text) pattern path bytes h = elim (cases_Bool (ltb b 128)) [
   | inl small ↦
@@ -136,7 +140,8 @@ fits_text (b ∷ text) pattern path bytes h = elim (cases_Bool (ltb b 128)) [
 abbrev Stays : List ℕ → List ℕ → List ℕ → RouteOf Resource → Type 0
 Stays target pattern path found = (Fits pattern path → Fits found.pattern target) × (found ≡ route_to found.value)
 
-route_fits : (target : List ℕ) (route : RouteOf Resource) → first routes target ≡ Some route → Fits route.pattern target × (route ≡ route_to route.value)
+route_fits : (target : List ℕ) (route : RouteOf Resource) → first routes target ≡ Some route
+    → Fits route.pattern target × (route ≡ route_to route.value)
 route_fits target route e =
     let here = ap (λ (rows : RowsOf (RouteOf Resource)). first rows target) (sym routes_are) ∙ e in
     let left = found_fits (Stays target) byte part all 0 _ target route (each in_order) here in
@@ -146,18 +151,21 @@ route_fits target route e =
     each [] = tt
     each (value ∷ values) = ((λ h. h, refl), each values)
 
-    byte : (b : ℕ) (pattern path : List ℕ) (found : RouteOf Resource) → Stays target (b ∷ pattern) (b ∷ path) found → Stays target pattern path found
+    byte : (b : ℕ) (pattern path : List ℕ) (found : RouteOf Resource) → Stays target (b ∷ pattern) (b ∷ path) found
+        → Stays target pattern path found
     byte b pattern path found h = (λ f. h.0 (fits_byte b pattern path f), h.1)
 
     part : (b n : ℕ) (pattern path : List ℕ) (found : RouteOf Resource) → Stays target (param_token ∷ pattern) (b ∷ path) found
         → Stays target pattern (drop n path) found
     part b n pattern path found h = (λ f. h.0 (suc n, f), h.1)
 
-    all : (pattern path : List ℕ) (found : RouteOf Resource) → Stays target (catch_all_token ∷ pattern) path found → Stays target pattern [] found
+    all : (pattern path : List ℕ) (found : RouteOf Resource) → Stays target (catch_all_token ∷ pattern) path found
+        → Stays target pattern [] found
     all pattern path found h = (λ f. h.0 tt, h.1)
 
 -- the text as far as its first slash, and what stands behind it
-first_slash : (front back : List ℕ) → (part : List ℕ) × (rest : List ℕ) × (front ++ slash ∷ back ≡ part ++ slash ∷ rest) × (has_slash part ≡ false)
+first_slash : (front back : List ℕ)
+    → (part : List ℕ) × (rest : List ℕ) × (front ++ slash ∷ back ≡ part ++ slash ∷ rest) × (has_slash part ≡ false)
 first_slash [] back = ([], back, refl, refl)
 first_slash (b ∷ front) back = elim (cases_Bool (b == slash)) [
   | inl e ↦
@@ -175,7 +183,8 @@ IsTarget (Before path name) target = (part : List ℕ) × (target ≡ path ++ pa
 IsTarget OfField target =
     (part : List ℕ) × (rest : List ℕ) × (target ≡ codes "/v1/fields/" ++ (part ++ slash ∷ rest)) × (has_slash part ≡ false)
 
-fits_target : (s : Shape) (value : Resource) (target : List ℕ) → IsAsciiShape s → Fits (route_of s value).pattern target → IsTarget s target
+fits_target : (s : Shape) (value : Resource) (target : List ℕ) → IsAsciiShape s → Fits (route_of s value).pattern target
+    → IsTarget s target
 fits_target (Alone path) value target ascii h =
     let text = fits_text path [] target ascii (subst (λ (pattern : List ℕ). Fits pattern target) (sym (append-nil path)) h) in
     text.1 ∙ ap (λ (rest : List ℕ). path ++ rest) text.2 ∙ append-nil path
@@ -186,7 +195,8 @@ fits_target OfField value target ascii h =
     let text = fits_text (codes "/v1/fields/") (param_token ∷ (slash ∷ (param_token ∷ []))) target refl h in
     let n = text.2.0 in
     let split = first_slash (take n text.0) text.2.1.0 in
-    let rest : text.0 ≡ take n text.0 ++ slash ∷ text.2.1.0 = sym (take-append-drop n text.0) ∙ ap (λ (rest : List ℕ). take n text.0 ++ rest) text.2.1.1 in
+    let rest : text.0 ≡ take n text.0 ++ slash ∷ text.2.1.0 =
+        sym (take-append-drop n text.0) ∙ ap (λ (rest : List ℕ). take n text.0 ++ rest) text.2.1.1 in
     (split.0, split.1, text.1 ∙ ap (λ (rest : List ℕ). codes "/v1/fields/" ++ rest) (rest ∙ split.2), split.3)
 
 -- the route that is found is its resource's, and the target is one of it

@@ -1,5 +1,6 @@
 -- The parts that the names in a route take of a target.
-use Rattle.std.proofs.Common.{◌≡◌, ◌∙◌, ◌≤◌, ◌+◌, ◌-◌, ◌&&◌, Bool, cond, ℕ, suc, List, [], ◌∷◌, ◌++◌, drop, get_or, length, true, false, ap, append_assoc, arith, codes, inl, inr, length-append, leb, ltb, refl, sym, ◌==◌}
+use Rattle.std.proofs.Common.{◌≡◌, ◌∙◌, ◌≤◌, ◌+◌, ◌-◌, ◌&&◌, Bool, cond, ℕ, suc, List, [], ◌∷◌, ◌++◌, drop, get_or,
+    length, true, false, ap, append_assoc, arith, codes, inl, inr, length-append, leb, ltb, refl, sym, ◌==◌}
 use Rattle.std.proofs.lemmas.Bool.{cases_Bool}
 use Rattle.std.proofs.lemmas.Bool.Decides.{nat_tests}
 use Rattle.std.proofs.lemmas.List.{drop_at, length-drop, take_at}
@@ -16,7 +17,8 @@ use Rattle.web.proofs.RouteShapes.{Before, IsAsciiText, OfField, route_of}
 -- the place of the parameter behind a text
 wild_behind : (text pattern : List ℕ) (size token at : ℕ) → IsAsciiText text → at + length text ≤ size
     → wild_from (text ++ param_token ∷ pattern) size token at ≡ (token + length text, at + length text)
-wild_behind [] pattern size token at bytes fits = let e : token ≡ token + 0 = omega arith in let f : at ≡ at + 0 = omega arith in cc
+wild_behind [] pattern size token at bytes fits =
+    let e : token ≡ token + 0 = omega arith in let f : at ≡ at + 0 = omega arith in cc
 wild_behind (b ∷ text) pattern size token at bytes fits = elim (cases_Bool (ltb b 128)) [
   | inl small ↦
       let byte : ltb b param_token ≡ true = grind (arith, nat_tests) in
@@ -28,14 +30,16 @@ wild_behind (b ∷ text) pattern size token at bytes fits = elim (cases_Bool (lt
   | inr large ↦ let none = rw large at bytes in cc none
 ]
 
-part_is : (bytes part rest : List ℕ) (start end : ℕ) → drop start bytes ≡ part ++ rest → end ≡ start + length part → start + length part ≤ length bytes → part_of bytes start end ≡ part
+part_is : (bytes part rest : List ℕ) (start end : ℕ) → drop start bytes ≡ part ++ rest → end ≡ start + length part
+    → start + length part ≤ length bytes → part_of bytes start end ≡ part
 part_is bytes part rest start end behind ends fits =
     let a : leb start end ≡ true = grind (arith, nat_tests) in
     let b : leb end (length bytes) ≡ true = grind (arith, nat_tests) in
     let size : length part ≡ end - start = omega arith in
     rw (a, b, behind) (take_at part rest (end - start) size)
 
-rest_is : (bytes rest : List ℕ) (start : ℕ) → drop start bytes ≡ rest → start ≤ length bytes → part_of bytes start (length bytes) ≡ rest
+rest_is : (bytes rest : List ℕ) (start : ℕ) → drop start bytes ≡ rest → start ≤ length bytes
+    → part_of bytes start (length bytes) ≡ rest
 rest_is bytes rest start behind fits =
     let a : leb start (length bytes) ≡ true = grind (arith, nat_tests) in
     let b : leb (length bytes) (length bytes) ≡ true = grind (arith, nat_tests) in
@@ -44,7 +48,8 @@ rest_is bytes rest start behind fits =
 
 -- a step of the walk over a route's names
 step_is : (pattern text path : List ℕ) (name : ℕ × ℕ) (names : List (ℕ × ℕ)) (token at wild start stop next : ℕ) (part : List ℕ)
-    → wild_from (drop token pattern) (length path) token at ≡ (wild, start) → wild_stop pattern wild path start ≡ stop → after_token wild ≡ next → part_of path start stop ≡ part
+    → wild_from (drop token pattern) (length path) token at ≡ (wild, start) → wild_stop pattern wild path start ≡ stop
+    → after_token wild ≡ next → part_of path start stop ≡ part
     → walk pattern text path (name ∷ names) token at ≡ (part_of text name.0 name.1, part) ∷ walk pattern text path names next stop
 step_is pattern text path name names token at wild start stop next part found ends after is = rw (found, ends, after, is) refl
 
@@ -63,23 +68,28 @@ no_third true false x y = refl
 no_third false b x y = refl
 
 -- the last parameter takes the rest of the path
-wild_last : (pattern path : List ℕ) (token at : ℕ) → ltb (token + 1) (length pattern) ≡ false → wild_stop pattern token path at ≡ length path
-wild_last pattern path token at last = rw last (no_third (ltb token (length pattern)) (get_or pattern token 0 == param_token) _ (length path))
+wild_last : (pattern path : List ℕ) (token at : ℕ) → ltb (token + 1) (length pattern) ≡ false
+    → wild_stop pattern token path at ≡ length path
+wild_last pattern path token at last =
+    rw last (no_third (ltb token (length pattern)) (get_or pattern token 0 == param_token) _ (length path))
 
 -- the parameter's name in the text
-name_is : (path name : List ℕ) → part_of (path ++ open_brace ∷ (name ++ close_brace ∷ [])) (length path + 1) (length path + 1 + length name) ≡ name
+name_is : (path name : List ℕ)
+    → part_of (path ++ open_brace ∷ (name ++ close_brace ∷ [])) (length path + 1) (length path + 1 + length name) ≡ name
 name_is path name =
     let behind = open_brace ∷ (name ++ close_brace ∷ []) in
     let long = length-append path behind in
     let more = length-append name (close_brace ∷ []) in
-    part_is (path ++ behind) name (close_brace ∷ []) (length path + 1) (length path + 1 + length name) (drop-append-add path behind 1) refl (omega arith)
+    part_is (path ++ behind) name (close_brace ∷ []) (length path + 1) (length path + 1 + length name)
+        (drop-append-add path behind 1) refl (omega arith)
 
 pub before_parts : (path name part : List ℕ) (value : Resource) → IsAsciiText path
     → parts_on (path ++ part) (route_of (Before path name) value) ≡ (name, part) ∷ []
 before_parts path name part value ascii =
     let route = route_of (Before path name) value in
     let place : ℕ × ℕ = (length path + 1, length path + 1 + length name) in
-    step_is route.pattern route.text (path ++ part) place [] 0 0 (length path) (length path) (length (path ++ part)) (after_token (length path)) part
+    step_is route.pattern route.text (path ++ part) place [] 0 0 (length path) (length path) (length (path ++ part))
+    (after_token (length path)) part
     found ends refl (rest_is (path ++ part) part (length path) (drop_at path part (length path) refl) (omega (arith, size)))
     ∙ ap (λ (n : List ℕ). (n, part) ∷ []) (name_is path name)
   where
@@ -115,14 +125,17 @@ field_parts part rest value plain = first ∙ ap (λ (parts : List (List ℕ × 
     behind =
         let front = length-append (codes "/v1/fields/") (part ++ slash ∷ []) in
         let long = length-append part (slash ∷ []) in
-        ap (λ (bytes : List ℕ). drop (11 + length part + 1) (codes "/v1/fields/" ++ bytes)) (sym (append_assoc part (slash ∷ []) rest))
+        ap (λ (bytes : List ℕ). drop (11 + length part + 1) (codes "/v1/fields/" ++ bytes))
+            (sym (append_assoc part (slash ∷ []) rest))
         ∙ drop_at (codes "/v1/fields/" ++ (part ++ slash ∷ [])) rest (11 + length part + 1) (omega (arith, front, long))
 
     ends : wild_stop (fields_route value).pattern 11 (field_target part rest) 11 ≡ 11 + length part
     ends = let long = ap length (segment_is part rest plain) ∙ length-append part (slash ∷ []) in omega (arith, long)
 
     first : parts_on (field_target part rest) (fields_route value)
-        ≡ (codes "branch", part) ∷ walk (fields_route value).pattern (fields_route value).text (field_target part rest) ((21, 28) ∷ []) 12 (11 + length part)
+        ≡ (codes "branch", part)
+            ∷ walk (fields_route value).pattern (fields_route value).text (field_target part rest) ((21, 28) ∷ []) 12
+                (11 + length part)
     first =
         let target = field_target part rest in
         let route = fields_route value in
@@ -130,11 +143,13 @@ field_parts part rest value plain = first ∙ ap (λ (parts : List (List ℕ × 
         (wild_behind (codes "/v1/fields/") (slash ∷ (param_token ∷ [])) (length target) 0 0 refl (omega (arith, size))) ends refl
         (part_is target part (slash ∷ rest) 11 (11 + length part) refl refl (omega (arith, size)))
 
-    second : walk (fields_route value).pattern (fields_route value).text (field_target part rest) ((21, 28) ∷ []) 12 (11 + length part)
+    second : walk (fields_route value).pattern (fields_route value).text (field_target part rest) ((21, 28) ∷ []) 12
+        (11 + length part)
         ≡ (codes "article", rest) ∷ []
     second =
         let target = field_target part rest in
         let route = fields_route value in
-        step_is route.pattern route.text target (21, 28) [] 12 (11 + length part) 13 (11 + length part + 1) (length target) 14 rest
+        step_is route.pattern route.text target (21, 28) [] 12 (11 + length part) 13 (11 + length part + 1)
+        (length target) 14 rest
         (wild_behind (slash ∷ []) [] (length target) 12 (11 + length part) refl (omega (arith, size))) refl refl
         (rest_is target rest (11 + length part + 1) behind (omega (arith, size)))

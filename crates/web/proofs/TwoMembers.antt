@@ -1,5 +1,7 @@
 -- An object of two members, of which one is under each of two names.
-use Rattle.std.proofs.Common.{◌≡◌, ℕ, List, [], ◌∷◌, length, Some, String, Global, Less, string_bytes, string_cmp, BTreeMap, bytes_eq, false, true≢false, nat_cmp, is_le, subst, refl, sym, ap, ◌∙◌, arith, codes, inl, inr, unwrap_or, is_some}
+use Rattle.std.proofs.Common.{◌≡◌, ℕ, List, [], ◌∷◌, length, Some, String, Global, Less, string_bytes, string_cmp,
+    BTreeMap, bytes_eq, false, true≢false, nat_cmp, is_le, subst, refl, sym, ap, ◌∙◌, arith, codes, inl, inr, unwrap_or,
+    is_some}
 use Rattle.std.proofs.lemmas.Bool.{cases_Bool, false≢true}
 use Rattle.std.proofs.lemmas.Slice.Eq.{bytes_eq-Decides}
 use Rattle.std.specs.List.Sorted.{IsStrictlySortedBy}
@@ -16,10 +18,12 @@ use Rattle.web.specs.Objects.{command_object}
 value_of : (x y : Data) → Some x ≡ Some y → x ≡ y
 value_of x y e = ap (λ o. unwrap_or o null) e
 
-here : (name : List ℕ) (e : Entry) (es : List Entry) (d : Data) → name ≡ string_bytes e.0 → get_member name (members_view (e ∷ es)) ≡ Some d → view e.1 ≡ d
+here : (name : List ℕ) (e : Entry) (es : List Entry) (d : Data) → name ≡ string_bytes e.0
+    → get_member name (members_view (e ∷ es)) ≡ Some d → view e.1 ≡ d
 here name e es d is f = value_of _ _ (sym (member_here name e es is) ∙ f)
 
-later : (name : List ℕ) (e : Entry) (es : List Entry) (d : Data) → (name ≡ string_bytes e.0 → ⊥) → get_member name (members_view (e ∷ es)) ≡ Some d
+later : (name : List ℕ) (e : Entry) (es : List Entry) (d : Data) → (name ≡ string_bytes e.0 → ⊥)
+    → get_member name (members_view (e ∷ es)) ≡ Some d
     → get_member name (members_view es) ≡ Some d
 later name e es d other f = sym (member_later name e es other) ∙ f
 
@@ -33,22 +37,28 @@ key≢command : codes "key" ≡ codes "command" → ⊥
 key≢command e = false≢true (ap (λ xs. bytes_eq xs (codes "command")) e)
 
 -- a member found among one is that one
-only : (name : List ℕ) (b : Entry) (d : Data) → get_member name (members_view (b ∷ [])) ≡ Some d → (name ≡ string_bytes b.0) × (view b.1 ≡ d)
+only : (name : List ℕ) (b : Entry) (d : Data) → get_member name (members_view (b ∷ [])) ≡ Some d
+    → (name ≡ string_bytes b.0) × (view b.1 ≡ d)
 only name b d f = elim (cases_Bool (bytes_eq name (string_bytes b.0))) [
   | inl e ↦ let is : name ≡ string_bytes b.0 = (bytes_eq-Decides _ _).0 e in (is, here name b [] d is f)
   | inr e ↦ absurd (nowhere name d (later name b [] d (apart _ _ e) f))
 ]
 
-built : (p q k c : List ℕ) (x y : Data) → codes "command" ≡ p → x ≡ string c → codes "key" ≡ q → y ≡ string k → object (member p x (member q y no_members)) ≡ command_object k c
+built : (p q k c : List ℕ) (x y : Data) → codes "command" ≡ p → x ≡ string c → codes "key" ≡ q → y ≡ string k
+    → object (member p x (member q y no_members)) ≡ command_object k c
 built p q k c x y e f g h = rw (← e, f, ← g, h) refl
 
-pair : (a b : Entry) (k c : List ℕ) → string_cmp a.0 b.0 ≡ Less → get_member (codes "key") (members_view (a ∷ b ∷ [])) ≡ Some (string k)
-    → get_member (codes "command") (members_view (a ∷ b ∷ [])) ≡ Some (string c) → object (members_view (a ∷ b ∷ [])) ≡ command_object k c
+pair : (a b : Entry) (k c : List ℕ) → string_cmp a.0 b.0 ≡ Less
+    → get_member (codes "key") (members_view (a ∷ b ∷ [])) ≡ Some (string k)
+    → get_member (codes "command") (members_view (a ∷ b ∷ [])) ≡ Some (string c)
+    → object (members_view (a ∷ b ∷ [])) ≡ command_object k c
 pair a b k c sorted fk fc = elim (cases_Bool (bytes_eq (codes "command") (string_bytes a.0))) [
   | inl e ↦
       let first : codes "command" ≡ string_bytes a.0 = (bytes_eq-Decides _ _).0 e in
       let value = here (codes "command") a (b ∷ []) (string c) first fc in
-      let second = only (codes "key") b (string k) (later (codes "key") a (b ∷ []) (string k) (λ h. key≢command (h ∙ sym first)) fk) in
+      let second =
+          only (codes "key") b (string k)
+              (later (codes "key") a (b ∷ []) (string k) (λ h. key≢command (h ∙ sym first)) fk) in
       built _ _ k c _ _ first value second.0 second.1
   | inr e ↦
       let second = only (codes "command") b (string c) (later (codes "command") a (b ∷ []) (string c) (apart _ _ e) fc) in
@@ -65,11 +75,13 @@ pair a b k c sorted fk fc = elim (cases_Bool (bytes_eq (codes "command") (string
     backward : (p q : List ℕ) → codes "key" ≡ p → codes "command" ≡ q → slice_cmp nat_cmp p q ≡ Less → ⊥
     backward p q e f s =
         let first : slice_cmp nat_cmp (codes "key") q ≡ Less = subst (λ x. slice_cmp nat_cmp x q ≡ Less) (sym e) s in
-        let both : slice_cmp nat_cmp (codes "key") (codes "command") ≡ Less = subst (λ y. slice_cmp nat_cmp (codes "key") y ≡ Less) (sym f) first in
+        let both : slice_cmp nat_cmp (codes "key") (codes "command") ≡ Less =
+            subst (λ y. slice_cmp nat_cmp (codes "key") y ≡ Less) (sym f) first in
         false≢true (ap is_le both)
 
 pub two_members : (es : List Entry) (k c : List ℕ) → length es ≡ 2 → IsStrictlySortedBy string_cmp (keys_of es)
-    → get_member (codes "key") (members_view es) ≡ Some (string k) → get_member (codes "command") (members_view es) ≡ Some (string c)
+    → get_member (codes "key") (members_view es) ≡ Some (string k)
+    → get_member (codes "command") (members_view es) ≡ Some (string c)
     → object (members_view es) ≡ command_object k c
 unfolding IsStrictlySortedBy
 two_members [] k c n s fk fc = absurd (omega arith)
@@ -78,7 +90,8 @@ two_members (a ∷ b ∷ []) k c n s fk fc = pair a b k c s.0.0 fk fc
 two_members (a ∷ b ∷ x ∷ es) k c n s fk fc = absurd (omega arith)
 
 -- an object of another number of members is no command
-pub not_two : (m : BTreeMap (String Global) Value) (k c : List ℕ) → (length m.entries ≡ 2 → ⊥) → view (Object m) ≡ command_object k c → ⊥
+pub not_two : (m : BTreeMap (String Global) Value) (k c : List ℕ) → (length m.entries ≡ 2 → ⊥)
+    → view (Object m) ≡ command_object k c → ⊥
 not_two m k c n e = n (sym (members_len-members_view m.entries) ∙ ap count_of (sym (view-Object m) ∙ e))
   where
     count_of : Data → ℕ

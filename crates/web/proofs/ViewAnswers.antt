@@ -1,5 +1,6 @@
 -- What is to be written for a view.
-use Rattle.std.proofs.Common.{◌≡◌, ◌++◌, ℕ, Contains, List, [], Option, Some, None, IsSomeAnd, MatchOption, ap, false, refl, subst, sym}
+use Rattle.std.proofs.Common.{◌≡◌, ◌++◌, ℕ, Contains, List, [], Option, Some, None, IsSomeAnd, MatchOption, ap, false,
+    refl, subst, sym}
 use Rattle.std.proofs.lemmas.List.Elements.{All-contains, All-from_recursion}
 use Rattle.std.specs.Str.{IsUtf8, bytes_eq}
 use Rattle.serde_json.specs.Data.{Data}
@@ -14,7 +15,7 @@ use Rattle.desk.specs.Desk.{Snapshot}
 use Rattle.desk.specs.declared.answer.Answer.{Answer as Text}
 use Rattle.web.specs.Answers.{Answer, answer_bytes, json_answer, none_answer, stopped_answer, text_answer}
 use Rattle.web.specs.Objects.{field_object, kept_object, placed_object}
-use Rattle.web.specs.Replies.{AnswersView, Replies, TellsField, TellsFound, TellsText, reply_of_stopped}
+use Rattle.web.specs.Replies.{AnswersAsk, AnswersView, TellsField, TellsFound, TellsText, reply_of_stopped}
 use Rattle.web.specs.Turns.{Shows, ShowsView}
 use Rattle.web.specs.declared.ask.Ask.{Ask}
 use Rattle.web.specs.declared.ask.Ask.TheVariants as ask
@@ -22,11 +23,12 @@ use Rattle.web.proofs.CommandAnswers.{replies_going}
 
 -- ---- of a desk, stopped or not
 
-view_replies : (A : Ledger) (a : Ask) (answer : Answer) → AnswersView A a answer → Replies A a answer A
+view_replies : (A : Ledger) (a : Ask) (answer : Answer) → AnswersView A a answer → AnswersAsk A a answer A
 view_replies A (ask.Call r) answer h = absurd h
 view_replies A a answer h = (h, refl)
 
-pub going_shown : (at : Snapshot) (B : Ledger) (a : Ask) (text : Text) → at.is_stopped ≡ false → B ≡ at.ledger → ShowsView B a text → Shows at a text
+pub going_shown : (at : Snapshot) (B : Ledger) (a : Ask) (text : Text) → at.is_stopped ≡ false → B ≡ at.ledger
+    → ShowsView B a text → Shows at a text
 going_shown at B a text e same h =
     let (answer, told, bytes) = subst (λ (A : Ledger). ShowsView A a text) same h in
     (answer, replies_going at at a answer e e (view_replies at.ledger a answer told), bytes)
@@ -40,14 +42,18 @@ stopped_else a bad none = refl
 -- ---- of a ledger
 
 pub no_field : (A : Ledger) (b a : List ℕ) → field_named A (name_of b a) ≡ None → AnswersView A (ask.Field b a) none_answer
-no_field A b a e = subst (λ (found : Option Field). MatchOption found (none_answer ≡ none_answer) (λ f. TellsField A f none_answer)) (sym e) refl
+no_field A b a e =
+    subst (λ (found : Option Field). MatchOption found (none_answer ≡ none_answer) (λ f. TellsField A f none_answer))
+        (sym e) refl
 
-pub some_field : (A : Ledger) (b a : List ℕ) (view : FieldView) → IsSomeAnd (field_named A (name_of b a)) (λ f. ShowsField A f view)
+pub some_field : (A : Ledger) (b a : List ℕ) (view : FieldView)
+    → IsSomeAnd (field_named A (name_of b a)) (λ f. ShowsField A f view)
     → AnswersView A (ask.Field b a) (json_answer 200 (field_object view))
 some_field A b a view h = by (field_named A (name_of b a)) h
   where
     by : (found : Option Field) → IsSomeAnd found (λ f. ShowsField A f view)
-        → MatchOption found (json_answer 200 (field_object view) ≡ none_answer) (λ f. TellsField A f (json_answer 200 (field_object view)))
+        → MatchOption found (json_answer 200 (field_object view) ≡ none_answer)
+            (λ f. TellsField A f (json_answer 200 (field_object view)))
     by None h = absurd h
     by (Some f) h = (view, h, refl)
 
@@ -55,14 +61,16 @@ pub no_found : {X : Type 0} (object : X → Data) (found : Option X) → found �
 no_found object found e = subst (λ o. TellsFound object o none_answer) (sym e) refl
 
 -- what is found, of which this is shown
-pub some_found : {X : Type 0} (object : X → Data) (IsShown : X → Type 0) (found : Option X) (bytes : List ℕ) → IsSomeAnd found IsShown
+pub some_found : {X : Type 0} (object : X → Data) (IsShown : X → Type 0) (found : Option X) (bytes : List ℕ)
+    → IsSomeAnd found IsShown
     → ((x : X) → IsShown x → bytes ≡ answer_bytes (json_answer 200 (object x)))
     → (answer : Answer) × TellsFound object found answer × (bytes ≡ answer_bytes answer)
 some_found object IsShown None bytes shown made = absurd shown
 some_found object IsShown (Some x) bytes shown made = (json_answer 200 (object x), refl, made x shown)
 
 -- a text, as it was written
-pub some_text : (IsText : List ℕ → Type 0) (text written bytes : List ℕ) → IsText text → written ≡ [] ++ text → bytes ≡ answer_bytes (text_answer written)
+pub some_text : (IsText : List ℕ → Type 0) (text written bytes : List ℕ) → IsText text → written ≡ [] ++ text
+    → bytes ≡ answer_bytes (text_answer written)
     → (answer : Answer) × TellsText IsText answer × (bytes ≡ answer_bytes answer)
 some_text IsText text written bytes is all k = (text_answer written, (text, is, ap text_answer all), k)
 
@@ -71,7 +79,8 @@ pub kept_shown : (k : Kept) (view : KeptView) → ShowsKept k view
 kept_shown k view h = λ i. answer_bytes (json_answer 200 (placed_object (h.words i) (h.place i)))
 
 -- what is kept is in UTF-8
-pub kept_text : (A : Ledger) (key : List ℕ) (view : KeptView) → Good A → IsSomeAnd (kept_under A key) (λ k. ShowsKept k view) → IsUtf8 view.words.now
+pub kept_text : (A : Ledger) (key : List ℕ) (view : KeptView) → Good A
+    → IsSomeAnd (kept_under A key) (λ k. ShowsKept k view) → IsUtf8 view.words.now
 kept_text A key view good h = by (kept_under A key) refl h
   where
     by : (found : Option Kept) → kept_under A key ≡ found → IsSomeAnd found (λ k. ShowsKept k view) → IsUtf8 view.words.now

@@ -1,4 +1,4 @@
--- Answers, and the bytes that they are.
+-- Answers, and their bytes.
 use Rattle.std.specs.Prelude.{ℕ, List, [], ◌∷◌, ◌++◌, codes, decimal, length, unwrap_or}
 use Rattle.http.specs.StatusCode.{code_digits, reason_phrase}
 use Rattle.serde_json.specs.Data.{Data}
@@ -34,7 +34,7 @@ answer_bytes a = status_line a.status
     ++ header_line (codes "content-length") (decimal (length a.body))
     ++ head_line [] ++ a.body
 
--- ---- of which kinds they are
+-- ---- the kinds of answers
 
 -- a text of JSON
 abbrev pub json_of : ℕ → List ℕ → Answer
@@ -60,7 +60,7 @@ message_answer = json_answer 400 (error_object (codes "message"))
 abbrev pub stopped_answer : Answer
 stopped_answer = json_answer 503 (error_object (codes "stopped"))
 
--- there is no memory for it
+-- memory was refused for the answer
 abbrev pub memory_answer : Answer
 memory_answer = json_answer 503 (error_object (codes "memory"))
 

@@ -1,4 +1,4 @@
--- Of which request a body is.
+-- Which request a body is.
 use Rattle.std.specs.Prelude.{◌≡◌, ℕ, IsUtf8, List, Some}
 use Rattle.serde_json.specs.Data.{Data}
 use Rattle.serde_json.specs.Read.{read}

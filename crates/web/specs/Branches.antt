@@ -8,18 +8,18 @@ use Rattle.ledger.specs.Ledger.{Field}
 
 -- the branches of the fields: fields in the order of their names have exactly one such list
 pub record AreBranches (fields : List Field) (branches : List (List ℕ)) : Type 0 where
-  -- they rise by their bytes, so that each is there once
+  -- the branches rise by their bytes, so each is there once
   pub in_order : IsStrictlySortedBy (slice_cmp nat_cmp) branches
   -- a branch is among them exactly where a field is at it
   pub same : (branch : List ℕ) → Contains branches branch ↔ Contains (map (λ f. f.name.branch) fields) branch
 
 -- ---- how they are listed (private)
 
--- the branch is the one that stood just before
+-- the branch is the one that came just before
 abbrev pub is_again : Option (List ℕ) → List ℕ → Bool
 is_again None branch = false
 is_again (Some before) branch = bytes_eq before branch
 
--- what is listed of it
+-- what the list gets from this branch
 abbrev pub listed : Option (List ℕ) → List ℕ → List (List ℕ)
 listed before branch = if is_again before branch then [] else branch ∷ []

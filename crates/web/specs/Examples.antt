@@ -10,7 +10,8 @@ use Rattle.book.specs.declared.book.views.FieldView.{FieldView}
 use Rattle.ledger.specs.declared.order.Kind.TheVariants.{Plain, Transfer}
 use Rattle.ledger.specs.declared.order.Line.{Line}
 use Rattle.ledger.specs.declared.order.State.TheVariants.{Aborted, Committed, Open}
-use Rattle.web.specs.Answers.{Answer, answer_bytes, bad_answer, head_line, json_answer, memory_answer, message_answer, none_answer, reply_answer, stopped_answer, text_answer}
+use Rattle.web.specs.Answers.{Answer, answer_bytes, bad_answer, head_line, json_answer, memory_answer, message_answer,
+    none_answer, reply_answer, stopped_answer, text_answer}
 use Rattle.web.specs.Objects.{branches_object, desk_object, field_object, kept_object, order_object, orders_object}
 use Rattle.web.specs.Orders.{due, open_above}
 
@@ -20,7 +21,7 @@ IsBytesOf answer status kind length body = answer_bytes answer
     ≡ head_line status ++ head_line (codes "content-type: " ++ kind) ++ head_line (codes "content-length: " ++ length)
     ++ head_line [] ++ body
 
--- the same of JSON
+-- the same, for a body of JSON
 abbrev pub IsBytes : Answer → List ℕ → List ℕ → List ℕ → Type 0
 IsBytes answer status length body = IsBytesOf answer status (codes "application/json") length body
 

@@ -95,7 +95,7 @@ shown_object order kind until state lines =
 abbrev pub order_object : Order → Data
 order_object o = shown_object o.number o.kind o.until (shown_state o.state o.firm) o.lines
 
--- what the view shows
+-- the object of what the view shows
 abbrev pub view_object : OrderView → Data
 view_object v = shown_object v.number v.kind v.until v.state v.lines.now
 

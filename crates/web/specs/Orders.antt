@@ -1,4 +1,5 @@
--- Which orders a list shows: fifty at the most, as a number here, so that another limit of the code is refused.
+-- Which orders a list shows: at most fifty. The limit stands here as a number, so that the prover refuses another
+-- limit in the code.
 use Rattle.std.specs.Prelude.{◌&&◌, ℕ, List, filter, map, nat_lt, take}
 use Rattle.ledger.specs.Ledger.{Ledger, Order, is_open}
 use Rattle.ledger.specs.Next.{expires}
@@ -7,7 +8,7 @@ use Rattle.ledger.specs.Next.{expires}
 abbrev pub opens : Ledger → ℕ → List Order
 opens A floor = filter (λ o. is_open o && nat_lt floor o.number) A.orders
 
--- the first of them
+-- the first of the open orders above that number
 abbrev pub open_above : Ledger → ℕ → List Order
 open_above A floor = take 50 (opens A floor)
 

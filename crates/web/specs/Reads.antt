@@ -1,4 +1,4 @@
--- What a method, a target's route and a body ask for (private: how an ask is read).
+-- What a method, a target's route and a body ask for (private: how the program reads what a message asks for).
 use Rattle.std.specs.Prelude.{◌≡◌, ◌⊎◌, ℕ, List, Some, codes}
 use Rattle.words.specs.declared.command.Request.{Request}
 use Rattle.web.specs.Bodies.{IsBodyOf}

@@ -1,4 +1,4 @@
--- What is answered to an ask.
+-- What is answered to what a message asks for.
 use Rattle.std.specs.Prelude.{◌≡◌, ℕ, List, MatchOption, Option}
 use Rattle.serde_json.specs.Data.{Data}
 use Rattle.words.specs.declared.reply.Reply.{Reply}
@@ -18,20 +18,20 @@ use Rattle.web.specs.Objects.{branches_object, desk_object, field_object, kept_o
 abbrev pub TellsFound : {X : Type 0} → (X → Data) → Option X → Answer → Type 0
 TellsFound object found answer = MatchOption found (answer ≡ none_answer) (λ x. answer ≡ json_answer 200 (object x))
 
--- the field's object
+-- the answer shows the field's object
 abbrev pub TellsField : Ledger → Field → Answer → Type 0
 TellsField A f answer = (view : FieldView) × ShowsField A f view × (answer ≡ json_answer 200 (field_object view))
 
--- the branches that have a field, each once
+-- the answer shows the branches that have a field, each once
 abbrev pub TellsBranches : Ledger → Answer → Type 0
 TellsBranches A answer =
     (branches : List (List ℕ)) × AreBranches A.fields branches × (answer ≡ json_answer 200 (branches_object branches))
 
--- a text that is one of these
+-- the answer is a text with this property
 abbrev pub TellsText : (List ℕ → Type 0) → Answer → Type 0
 TellsText IsText answer = (text : List ℕ) × IsText text × (answer ≡ text_answer text)
 
--- the answer to an ask that calls nothing: what the ledger tells
+-- the answer to a message that calls no request: what the ledger shows
 abbrev pub AnswersView : Ledger → Ask → Answer → Type 0
 AnswersView A ask.Desk answer = answer ≡ json_answer 200 (desk_object A)
 AnswersView A ask.Branches answer = TellsBranches A answer
@@ -47,10 +47,10 @@ AnswersView A ask.BadCall answer = answer ≡ bad_answer
 AnswersView A ask.Nothing answer = answer ≡ none_answer
 AnswersView A (ask.Call request) answer = ⊥
 
--- The answer to an ask at a ledger, of a desk that is not stopped, and the ledger after it.
-abbrev pub Replies : Ledger → Ask → Answer → Ledger → Type 0
-Replies A (ask.Call request) answer B = (reply : Reply) × Answers A request reply B × (answer ≡ reply_answer reply)
-Replies A ask answer B = AnswersView A ask answer × (B ≡ A)
+-- The answer of a desk that is not stopped to what a message asks for at a ledger, and the ledger after it.
+abbrev pub AnswersAsk : Ledger → Ask → Answer → Ledger → Type 0
+AnswersAsk A (ask.Call request) answer B = (reply : Reply) × Answers A request reply B × (answer ≡ reply_answer reply)
+AnswersAsk A ask answer B = AnswersView A ask answer × (B ≡ A)
 
 -- the answer of a desk that is stopped
 abbrev pub reply_of_stopped : Ask → Answer

@@ -1,6 +1,7 @@
--- The routes, as `matchit` reads and keeps them, the parts of a target, and the view under it (private: how a target is
--- read).
-use Rattle.std.specs.Prelude.{◌≡◌, ℕ, List, [], ◌∷◌, Option, None, Some, codes, decimal, option_and_then, option_map, Result, Ok, Err}
+-- The routes, as `matchit` reads and keeps them; the parts of a target, and the view that it asks for (private: how a
+-- target is read).
+use Rattle.std.specs.Prelude.{◌≡◌, ℕ, List, [], ◌∷◌, Option, None, Some, codes, decimal, option_and_then, option_map,
+    Result, Ok, Err}
 use Rattle.escrow.specs.Codes.{IsArticle, IsBranch, IsKey}
 use Rattle.escrow.specs.Ranges.{IsMoment, IsOrderNo}
 use Rattle.matchit.specs.Order.{placed}
@@ -34,7 +35,7 @@ route_texts =
     ∷ (codes "/v1/sheets/{branch}", Sheet)
     ∷ []
 
--- the rows with one more route, where its text is one
+-- the rows with one more route, where the text is a route's
 abbrev pub with_route : Result Scan InsertError → Resource → RowsOf (RouteOf Resource) → RowsOf (RouteOf Resource)
 with_route (Ok scan) value rows = placed (scan.pattern, route_from scan value) rows
 with_route (Err error) value rows = rows
@@ -48,7 +49,7 @@ with_routes (r ∷ more) rows = with_routes more (with_route (parse_route r.0) r
 abbrev pub routes : RowsOf (RouteOf Resource)
 routes = with_routes route_texts []
 
--- the text is a route's, with which none of the rows conflicts
+-- the text is a route's, and none of the rows conflicts with it
 abbrev pub Fits : Result Scan InsertError → RowsOf (RouteOf Resource) → Type 0
 Fits (Ok scan) rows = nearest scan.pattern rows ≡ None
 Fits (Err error) rows = ⊥
@@ -78,7 +79,8 @@ taken params = walk params.pattern.now params.text.now params.path.now params.na
 
 -- ---- views
 
--- the view is that of the target: its route is the view's, and its parts are the view's codes, number or key
+-- the view is the one that the target asks for: its route is the view's, and its parts are the view's codes, number
+-- or key
 abbrev pub IsView : List ℕ → Ask → Type 0
 IsView target ask.Desk = resource_of target ≡ Some Desk
 IsView target ask.Branches = resource_of target ≡ Some Branches

@@ -19,11 +19,11 @@ use Rattle.web.specs.declared.connection.Asked.TheVariants as asked
 
 -- ---- answers
 
--- what is to be written for an ask that calls nothing, by the ledger
+-- what is to be written to a message that calls no request, by the ledger
 abbrev pub ShowsView : Ledger → Ask → Text → Type 0
 ShowsView A a text = (answer : Answer) × AnswersView A a answer × (bytes_of text ≡ answer_bytes answer)
 
--- and by how the desk stands
+-- the same, by how the desk stands
 abbrev pub Shows : Snapshot → Ask → Text → Type 0
 Shows at a text = (answer : Answer) × RepliesAt at a answer at × (bytes_of text ≡ answer_bytes answer)
 
@@ -31,13 +31,13 @@ Shows at a text = (answer : Answer) × RepliesAt at a answer at × (bytes_of tex
 abbrev pub IsNoCall : Ask → Type 0
 IsNoCall a = (r : Request) → a ≡ ask.Call r → ⊥
 
--- what is to be written for a message with that ask
+-- what is to be written to a message that asks for this
 abbrev pub IsAnswered : DeskState → Ask → Text → DeskState → Type 0
 IsAnswered old a text new = (m : Message) → AsksFor m a → AnswersOne http old (whole m) (bytes_of text) new
 
 -- ---- parts that are found
 
--- the part is asked so, where memory was not refused for it
+-- the part is read as this, where memory was not refused for it
 abbrev pub IsAsked : Asked → Part → Type 0
 IsAsked (asked.Message a) (whole m) = AsksFor m a
 IsAsked (asked.Message a) unreadable = ⊥
@@ -52,7 +52,7 @@ Passes stream [] rest = stream ≡ rest
 Passes stream (whole m ∷ parts) rest = (mid : List ℕ) × BeginsWith stream m mid × Passes mid parts rest
 Passes stream (unreadable ∷ parts) rest = ⊥
 
--- whatever comes, no message stands there
+-- whatever comes, no message stands at the front of what is held
 abbrev pub NoneComes : Bool → List ℕ → Type 0
 NoneComes has_ended held = (more : List ℕ) → (has_ended ≡ true → more ≡ []) → IsUnreadable (held ++ more)
 
@@ -66,7 +66,7 @@ HasFound true held read has_ended parts =
 abbrev pub AreFirst : (read : List ℕ) → (has_ended : Bool) → List Part → Type 0
 AreFirst read has_ended parts = (more : List ℕ) → (has_ended ≡ true → more ≡ []) → Begins http (read ++ more) parts
 
--- how many more can be found at the most
+-- how many more parts can be found, at the most
 abbrev pub left_to_find : (is_over : Bool) → (held : List ℕ) → ℕ
 left_to_find false held = suc (length held)
 left_to_find true held = 0

@@ -18,7 +18,7 @@ use itoa::Buffer;
 use std::alloc::{AllocError, Global};
 use words::{Refusal, Reply};
 
-/// The status line.
+/// Returns the status line.
 fn status_line(alloc: Global, status: StatusCode) -> Result<Vec<u8>, AllocError>
     ensures { IfOk result (λ out. out.items ≡ status_line status) }
 {
@@ -42,7 +42,7 @@ fn push_header(out: &mut Vec<u8>, name: &[u8], value: &[u8]) -> Result<(), Alloc
     Ok(())
 }
 
-/// The answer of this status and this body, which is of this type.
+/// Returns the answer with this status and this body, which is of this type.
 pub fn answer_of(
     alloc: Global,
     status: StatusCode,
@@ -65,42 +65,42 @@ pub fn answer_of(
     Ok(out)
 }
 
-/// The answer of this status whose body is this JSON.
+/// Returns the answer with this status whose body is this JSON.
 pub fn json_answer(alloc: Global, status: StatusCode, text: &[u8]) -> Result<Vec<u8>, AllocError>
     ensures { IfOk result (λ out. out.items ≡ answer_bytes (json_of status text.now)) }
 {
     answer_of(alloc, status, b"application/json", text)
 }
 
-/// The answer whose body is this plain text.
+/// Returns the answer whose body is this plain text.
 pub fn text_answer(alloc: Global, text: &[u8]) -> Result<Vec<u8>, AllocError>
     ensures { IfOk result (λ out. out.items ≡ answer_bytes (text_answer text.now)) }
 {
     answer_of(alloc, StatusCode::OK, b"text/plain", text)
 }
 
-/// The answer that tells how a desk stands.
+/// Returns the answer that shows how a desk stands.
 pub fn desk_answer(alloc: Global, book: &Book) -> Result<Vec<u8>, AllocError>
     ensures { IfOk result (λ out. out.items ≡ answer_bytes (json_answer 200 (desk_object book.now.ledger))) }
 {
     json_answer(alloc, StatusCode::OK, &desk_json(alloc, book)?)
 }
 
-/// The answer that tells branches.
+/// Returns the answer that shows branches.
 pub fn branches_answer(alloc: Global, branches: &[Branch]) -> Result<Vec<u8>, AllocError>
     ensures { IfOk result (λ out. out.items ≡ answer_bytes (json_answer 200 (branches_object branches.now))) }
 {
     json_answer(alloc, StatusCode::OK, &branches_json(alloc, branches)?)
 }
 
-/// The answer that tells a field.
+/// Returns the answer that shows a field.
 pub fn field_answer(alloc: Global, view: &FieldView) -> Result<Vec<u8>, AllocError>
     ensures { IfOk result (λ out. out.items ≡ answer_bytes (json_answer 200 (field_object view.now))) }
 {
     json_answer(alloc, StatusCode::OK, &field_json(alloc, view)?)
 }
 
-/// The answer that tells the order that is shown.
+/// Returns the answer that shows an order, made from its view.
 pub fn order_answer(alloc: Global, view: &OrderView) -> Result<Vec<u8>, AllocError>
     ensures { (order : Order) → ShowsOrder order view.now → IfOk result
         (λ out. out.items ≡ answer_bytes (json_answer 200 (order_object order))) }
@@ -108,7 +108,7 @@ pub fn order_answer(alloc: Global, view: &OrderView) -> Result<Vec<u8>, AllocErr
     json_answer(alloc, StatusCode::OK, &order_json(alloc, view)?)
 }
 
-/// The answer that tells the orders of these numbers.
+/// Returns the answer that shows the orders of these numbers.
 pub fn orders_answer(alloc: Global, book: &Book, numbers: &[OrderNo]) -> Result<Vec<u8>, AllocError>
     ensures { IfOk result (λ out. out.items ≡ answer_bytes
         (json_answer 200 (listed_object book.now.ledger numbers.now))) }
@@ -116,7 +116,7 @@ pub fn orders_answer(alloc: Global, book: &Book, numbers: &[OrderNo]) -> Result<
     json_answer(alloc, StatusCode::OK, &orders_json(alloc, book, numbers)?)
 }
 
-/// The answer that tells what is kept under a key.
+/// Returns the answer that shows what is kept under a key.
 pub fn kept_answer(alloc: Global, view: &KeptView) -> Result<Vec<u8>, AllocError>
     requires { IsUtf8 view.now.words.now }
     ensures { IfOk result (λ out. out.items ≡ answer_bytes
@@ -125,14 +125,14 @@ pub fn kept_answer(alloc: Global, view: &KeptView) -> Result<Vec<u8>, AllocError
     json_answer(alloc, StatusCode::OK, &kept_json(alloc, view)?)
 }
 
-/// The answer to a command that is done.
+/// Returns the answer to a command that is done.
 fn done_answer(alloc: Global, place: u64) -> Result<Vec<u8>, AllocError>
     ensures { IfOk result (λ out. out.items ≡ answer_bytes (json_answer 200 (place_object place))) }
 {
     json_answer(alloc, StatusCode::OK, &place_json(alloc, place)?)
 }
 
-/// The answer to a command that is refused.
+/// Returns the answer to a command that is refused.
 fn refused_answer(alloc: Global, refusal: Refusal, line: u64) -> Result<Vec<u8>, AllocError>
     ensures { IfOk result (λ out. out.items ≡ answer_bytes (json_answer 409 (refused_object refusal line))) }
 {
@@ -143,7 +143,7 @@ fn refused_answer(alloc: Global, refusal: Refusal, line: u64) -> Result<Vec<u8>,
     )
 }
 
-/// The answer to a command.
+/// Returns the answer to a command.
 pub fn reply_answer(alloc: Global, reply: Reply) -> Result<Vec<u8>, AllocError>
     ensures { IfOk result (λ out. out.items ≡ answer_bytes (reply_answer reply)) }
 {

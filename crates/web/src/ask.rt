@@ -18,11 +18,11 @@ use words::Request;
 /// What a message asks for.
 #[derive(Drop)]
 pub enum Ask {
-    /// A request is to be called.
+    /// A request to be called.
     Call(Request),
-    /// A body that is no request.
+    /// A command in a body that is no request.
     BadCall,
-    /// How the desk stands: its clock, and how many fields, orders and places it has.
+    /// How the desk stands: its clock, and how many fields, open orders, orders and taken places it has.
     Desk,
     /// The branches that have a field.
     Branches,
@@ -44,7 +44,7 @@ pub enum Ask {
     Nothing,
 }
 
-/// What a body asks for where commands are posted.
+/// Returns what a body asks for that is posted as a command.
 fn call_of(alloc: Global, body: &[u8]) -> Result<Ask, AllocError>
     ensures { IfOk result (λ ask. IsCallOf body.now ask) }
 {
@@ -54,7 +54,7 @@ fn call_of(alloc: Global, body: &[u8]) -> Result<Ask, AllocError>
     }
 }
 
-/// What the message at the front of the held bytes asks for. Only a body that is posted takes memory.
+/// Returns what the message at the front of the held bytes asks for. Memory is wanted only for a body that is posted.
 pub fn ask_of(alloc: Global, routes: &Routes, held: &[u8], found: &Found) -> Result<Ask, AllocError>
     requires { IsMessageWithin held.now found.now }
     ensures { IfOk result (λ ask. (m : Message) → IsMessageAt held.now found.now m → AsksFor m ask) }

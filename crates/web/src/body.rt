@@ -12,7 +12,7 @@ use serde_json::error::Category;
 use std::alloc::{AllocError, Global};
 use words::{Request, SpelledCommand, WordsFault};
 
-/// The key and the text of the command, of an object that has these two members and no other.
+/// Returns the key and the text of the command, where the value is an object with these two members and no other.
 fn command_parts(value: &Value) -> Option<(&str, &str)>
     ensures some { IfSome result (λ parts. view value.now ≡ command_object parts.0.now parts.1.now) }
     ensures none { result ≡ None → (key : List ℕ) (command : List ℕ) → view value.now ≢ command_object key command }
@@ -31,7 +31,7 @@ fn command_parts(value: &Value) -> Option<(&str, &str)>
     }
 }
 
-/// The request of which the value is the object.
+/// Returns the request whose object the value is, or `None` exactly where it is no request's.
 fn request_of(alloc: Global, value: &Value) -> Result<Option<Request>, AllocError>
     ensures some { IfOk result (λ found. IfSome found (λ request. IsObjectOf request (view value.now))) }
     ensures none { result ≡ Ok None → (request : Request) → IsObjectOf request (view value.now) → ⊥ }
@@ -49,8 +49,8 @@ fn request_of(alloc: Global, value: &Value) -> Result<Option<Request>, AllocErro
     }
 }
 
-/// The request of which the body is the JSON text, as `serde_json` reads it, or `None` exactly where it is of
-/// none. Memory is wanted only where there is a body.
+/// Returns the request whose JSON text the body is (RFC 8259, as `serde_json` reads it), or `None` exactly where it is
+/// no request's. Memory is wanted only where there is a body.
 pub fn read_request(alloc: Global, body: &[u8]) -> Result<Option<Request>, AllocError>
     ensures some { IfOk result (λ found. IfSome found (λ request. IsBodyOf request body.now)) }
     ensures none { result ≡ Ok None → (request : Request) → IsBodyOf request body.now → ⊥ }

@@ -7,7 +7,7 @@ use book::Book;
 use escrow::Branch;
 use std::alloc::{AllocError, Global};
 
-/// Whether the branch is the one that stood just before.
+/// Returns whether the branch is the one that came just before.
 fn is_again(before: Option<Branch>, branch: &Branch) -> bool
     ensures { result ≡ is_again before branch.now }
 {
@@ -17,7 +17,7 @@ fn is_again(before: Option<Branch>, branch: &Branch) -> bool
     }
 }
 
-/// Appends the branch, unless it stood just before.
+/// Appends the branch, unless it came just before.
 fn push_new(
     branches: &mut Vec<Branch>,
     before: Option<Branch>,
@@ -32,7 +32,7 @@ fn push_new(
     Ok(())
 }
 
-/// The branches that have a field in the book, each once, in the order of their bytes.
+/// Returns the branches that have a field in the book, each once, in the order of their bytes.
 pub fn branches_of(alloc: Global, book: &Book) -> Result<Vec<Branch>, AllocError>
     ensures { IfOk result (λ branches. AreBranches book.now.ledger.fields branches.items) }
 {

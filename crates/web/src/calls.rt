@@ -1,4 +1,4 @@
-//! What is answered to an ask.
+//! What is answered to what a message asks for.
 
 ghost use Rattle.std.specs.Prelude.{◌≡◌, IfOk};
 ghost use Rattle.desk.specs.Desk.{Goes, StaysSet, desk_state, snapshot};
@@ -18,7 +18,7 @@ use keep::Keep;
 use std::alloc::{AllocError, Global};
 use words::{Memory, Reply, Request};
 
-/// The answer to a reply.
+/// The teller that makes the answer over HTTP of a reply.
 struct AsAnswer;
 
 impl Teller for AsAnswer {
@@ -39,8 +39,8 @@ impl Teller for AsAnswer {
     }
 }
 
-/// The answer to a request, which is called. It is made before the request is carried out, so that want of memory hides
-/// nothing that is done.
+/// Calls a request, and returns the answer. The answer is made before the request is carried out. So no request is
+/// carried out for whose answer memory is then refused.
 fn answer_call<K: Keep>(alloc: Global, desk: &mut Desk<K>, request: &Request) -> Answer
     ensures answers { IsAnswered (desk_state K.Keep desk.old) (ask.Call request.now) result (desk_state K.Keep desk.new) }
     ensures set { StaysSet K.same_settings desk.old desk.new }
@@ -53,7 +53,7 @@ fn answer_call<K: Keep>(alloc: Global, desk: &mut Desk<K>, request: &Request) ->
     }
 }
 
-/// The answer of a desk that is stopped.
+/// Returns the answer of a desk that is stopped.
 fn answer_of_stopped(ask: &Ask) -> Answer
     ensures { bytes_of result ≡ answer_bytes (reply_of_stopped ask.now) }
 {
@@ -64,7 +64,7 @@ fn answer_of_stopped(ask: &Ask) -> Answer
     }
 }
 
-/// The answer to an ask that calls nothing.
+/// Returns the answer to a message that calls no request.
 fn answer_view<K: Keep>(alloc: Global, desk: &Desk<K>, ask: &Ask) -> Result<Answer, AllocError>
     requires { IsNoCall ask.now }
     ensures { IfOk result (λ answer. Shows (snapshot (desk_state K.Keep desk.now)) ask.now answer) }
@@ -75,12 +75,13 @@ fn answer_view<K: Keep>(alloc: Global, desk: &Desk<K>, ask: &Ask) -> Result<Answ
     show_view(alloc, desk.book(), ask)
 }
 
-/// The answer to an ask. Where memory is refused for it, nothing is done.
+/// Answers what a message asks for, and returns the answer. Where memory is refused for the answer, nothing is done.
 pub fn answer_ask<K: Keep>(alloc: Global, desk: &mut Desk<K>, ask: &Ask) -> Answer
     ensures answers { IsAnswered (desk_state K.Keep desk.old) ask.now result (desk_state K.Keep desk.new) }
     ensures set { StaysSet K.same_settings desk.old desk.new }
     ensures goes { Goes K.Keep desk.old desk.new }
 {
+    // does nothing when run; the prover learns that the desk is in order
     desk.is_stopped();
     if let Ask::Call(request) = ask {
         return answer_call(alloc, desk, request);

@@ -1,4 +1,4 @@
-//! A connection, served.
+//! How a connection is served.
 
 ghost use Rattle.std.specs.Prelude.{◌≡◌, ◌≢◌, [], Err, IfErr, IfOk, drop, false, true};
 ghost use Rattle.desk.specs.Desk.{Goes, desk_state, snapshot};
@@ -22,14 +22,14 @@ use std::alloc::{AllocError, Global};
 use std::io::{Read, Write};
 use words::Memory;
 
-/// A part of a stream, as it is answered.
+/// A part of a stream, as the dialogue found it.
 #[derive(Drop)]
 pub enum Asked {
     /// A message that asks for this.
     Message(Ask),
-    /// A message; memory was refused for what it asks for.
+    /// A message for which memory was refused.
     NoMemory,
-    /// What is no message.
+    /// Something that is no message.
     Unreadable,
 }
 
@@ -37,10 +37,10 @@ pub enum Asked {
 #[derive(Drop)]
 pub struct HttpDialogue {
     routes: Routes,
-    /// What has come and stands behind the messages that were found.
+    /// The bytes that have come after the messages that were found.
     held: Vec<u8>,
     has_ended: bool,
-    /// What is held is no message, and that was found.
+    /// Whether it was found that what is held is no message.
     is_over: bool,
 }
 
@@ -59,7 +59,7 @@ impl Begin for HttpDialogue {
 }
 
 impl HttpDialogue {
-    /// What the message at the front asks for, which is let go.
+    /// Drops the message at the front, and returns what it asks for.
     fn take_message(&mut self, alloc: Global, found: &Found) -> Asked
         requires { IsMessageWithin self.old.held.items found.now }
         ensures asked { (m : Message) → IsMessageAt self.old.held.items found.now m → IsAsked result (whole m) }
@@ -75,7 +75,7 @@ impl HttpDialogue {
         asked
     }
 
-    /// What is held is no message, and nothing is looked for behind it.
+    /// Notes that what is held is no message, so that the dialogue looks for nothing after it.
     fn end_unreadable(&mut self) -> Asked
         ensures asked { result ≡ Asked.Unreadable }
         ensures held { self.new.held ≡ self.old.held }
@@ -86,7 +86,7 @@ impl HttpDialogue {
         Asked::Unreadable
     }
 
-    /// How it has ended.
+    /// Returns how the dialogue has ended.
     fn ending(&self) -> Ending
         ensures { result ≡ ending_of self.now.is_over }
     {
@@ -154,6 +154,7 @@ impl Dialogue for HttpDialogue {
         desk: &mut Desk<K>,
         asked: &Asked,
     ) -> Result<Answer, CallFault> {
+        // does nothing when run; the prover learns that the desk is in order
         desk.is_stopped();
         match asked {
             Asked::Message(ask) => Ok(answer_ask(alloc, desk, ask)),
@@ -165,7 +166,7 @@ impl Dialogue for HttpDialogue {
     ghost settled = { λ s read ended found h. h.2 };
 }
 
-/// The fault of a dialogue that a stopped desk doesn't end.
+/// Returns the fault of a connection that a fault of its dialogue becomes; a stopped desk does not end such a dialogue.
 fn web_fault(fault: ScriptFault) -> WebFault
     requires { fault ≢ ScriptFault.Stopped }
     ensures { cause_of result ≡ fault }
@@ -179,16 +180,20 @@ fn web_fault(fault: ScriptFault) -> WebFault
 }
 
 /// Answers the messages of a connection in their order, each before the next is looked at, until the input ends or what
-/// comes is no message. More is read only behind a head or a body that has not come whole.
+/// comes is no message. More is read only where a head or a body has not come whole.
 ///
-/// What is written is the answers to all that was read, and `Served` has their count. After a fault it is a beginning
-/// of such: the answers to all that the desk has done, of which only a failing write leaves out the last one or its end.
-/// A message for which memory is refused is answered so. `Memory` is told only where it is refused for the router, before
-/// anything is read, or for a piece of the input: what came whole before that piece is answered, and nothing of it.
-/// A connection of 2^64 - 1 pieces ends as one whose reader fails. `stopped` is answered only where the desk is stopped.
-/// Of a desk that was not stopped before, over an honest disk, a stop then leaves the rows of its ledger or those after
-/// the command that was first answered `stopped`, and in every other case those of its ledger alone. A desk that was
-/// stopped before changes nothing, and answers as one that is stopped.
+/// What is written is the answers to all that was read, and `Served` has their number. After a fault, what is written
+/// is a beginning of these answers. It has the answers to all that the desk has done; only after a failing write the
+/// last one, or its end, may be missing. A message for which memory is refused is answered so. `Memory` is returned
+/// only where memory is refused for the router, before anything is read, or for a piece of the input: what came whole
+/// before that piece is answered, and nothing of the piece. A connection of 2^64 - 1 pieces ends as one whose reader
+/// fails.
+///
+/// `stopped` is answered only where the desk is stopped. Where the keeper failed in this call and the disk is honest, a
+/// stop of the program then leaves the rows of the desk's ledger, or those after the command that was first answered
+/// `stopped`. Where the desk is not stopped after the call and the disk is honest, a stop of the program leaves the
+/// rows of the desk's ledger and nothing else. A desk that was stopped before changes nothing, and answers as a stopped
+/// desk.
 pub fn serve<K: Keep, R: Read, W: Write>(
     alloc: Global,
     reader: &mut R,
@@ -209,6 +214,7 @@ pub fn serve<K: Keep, R: Read, W: Write>(
         (streams (R.remaining reader.old) (R.remaining reader.new) (W.contents writer.old) (W.contents writer.new)) }
     ensures goes { Goes K.Keep desk.old desk.new }
 {
+    // does nothing when run; the prover learns that the desk is in order
     desk.is_stopped();
     let Ok(routes) = Routes::new(alloc) else {
         return Err(WebFault::Memory);

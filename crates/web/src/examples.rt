@@ -2,7 +2,7 @@
 
 ghost use Rattle.web.specs.Examples.{WorkedAnswers};
 
-/// The worked answers, byte for byte.
+/// Does nothing when run; the contract has the worked answers, byte for byte.
 pub fn worked_answers_hold()
     ensures { WorkedAnswers }
 {}

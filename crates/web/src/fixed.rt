@@ -16,7 +16,7 @@ pub enum Fixed {
     NoMessage,
     /// The desk is stopped.
     Stopped,
-    /// Memory was refused for it.
+    /// Memory was refused for the answer.
     Memory,
     /// The body is no command.
     BadCommand,
@@ -38,14 +38,14 @@ const BAD_COMMAND: &[u8] =
     b"HTTP/1.1 400 Bad Request\r\ncontent-type: application/json\r\ncontent-length: 43\r\n\r\n{\"code\":20,\"line\":0,\"refused\":\"BadCommand\"}";
 
 impl Fixed {
-    /// It, as it can be sent.
+    /// Returns the answer, so that it can be sent.
     pub fn answer(self) -> Answer
         ensures { bytes_of result ≡ answer_bytes (fixed_answer self) }
     {
         Answer::Fixed(self.bytes())
     }
 
-    /// Its bytes.
+    /// Returns the bytes of the answer.
     fn bytes(self) -> &'static [u8]
         ensures { result.now ≡ answer_bytes (fixed_answer self) }
     {

@@ -5,7 +5,7 @@ ghost use Rattle.web.specs.Intake.{IsFront};
 use httparse::Status;
 use httparse::spans::{EMPTY_HEADER_SPAN, HeaderSpan, Span, parse_request};
 
-/// The most header lines that a head may have.
+/// How many header lines a head may have, at the most.
 const MAX_HEADER_LINES: usize = 32;
 
 /// A head, by where its parts stand.
@@ -24,9 +24,9 @@ pub struct Head {
 pub enum Front {
     /// A head.
     Whole(Head),
-    /// No head is there, and more bytes may give one.
+    /// No head is there yet, and more bytes may make one.
     Cut,
-    /// Whatever follows, no head with few enough header lines is there.
+    /// Whatever follows, no head is there that has few enough header lines.
     Unreadable,
 }
 

@@ -1,4 +1,5 @@
-//! What is true of the messages of every stream, and of their answers.
+//! What is true of the messages of every stream, and of their answers. The functions do nothing when run; the contract
+//! of each is a law.
 
 ghost use Rattle.std.specs.Prelude.{◌≡◌, ◌≢◌, false, ℕ, List};
 ghost use Rattle.std.specs.List.{AllByRecursion as Each};
@@ -9,15 +10,15 @@ ghost use Rattle.web.specs.Answers.{Answer, stopped_answer};
 ghost use Rattle.web.specs.Messages.{AreParts, Part};
 ghost use Rattle.web.specs.Web.{http};
 
-/// Each stream has one list of parts.
+/// Each stream has exactly one list of parts.
 pub fn exactly_one_list_of_parts()
     ensures some { (stream : List ℕ) → (parts : List Part) × AreParts stream parts }
     ensures one { (stream : List ℕ) (parts others : List Part) → AreParts stream parts → AreParts stream others
         → parts ≡ others }
 {}
 
-/// At a good ledger there is something to answer to each stream with ordinary answers alone, and for a stream and the
-/// kinds of its answers there are not two: what is written is settled by what is read and by the kinds.
+/// At a good ledger each stream can be answered, with ordinary answers alone. For a stream and the kinds of its
+/// answers there are never two texts: what is read and the kinds settle what is written.
 pub fn exactly_one_answer()
     ensures some { (old : Snapshot) (stream : List ℕ) → Good old.ledger
         → (kinds : List AnswerKind) × (out : List ℕ) × (new : Snapshot) × Each (λ kind. kind ≡ ordinary) kinds
@@ -34,7 +35,7 @@ pub fn kinds_are_told()
         → Each (λ kind. kind ≡ ordinary) kinds }
 {}
 
-/// While a desk is not stopped, it doesn't answer so.
+/// Where a desk is not stopped after its answers, none of them is `stopped`.
 pub fn stopped_is_told()
     ensures { (old : Snapshot) (parts : List Part) (kinds : List AnswerKind) (answers : List Answer) (new : Snapshot)
         → AreAnswers http old parts kinds answers new → new.is_stopped ≡ false

@@ -1,5 +1,5 @@
-//! HTTP over any reader and writer, answered by a desk. What a head is, `httparse` defines; which route a target has,
-//! `matchit`; what a body says, `serde_json`.
+//! HTTP over any reader and writer, answered by a desk. The crate `httparse` defines what a head is, `matchit` which
+//! route a target has, and `serde_json` what a body says.
 #![tactic(auto)]
 
 mod answer;

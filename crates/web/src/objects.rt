@@ -8,7 +8,7 @@ ghost use Rattle.ledger.specs.Ledger.{Order};
 ghost use Rattle.book.specs.Views.{ShowsOrder};
 ghost use Rattle.web.specs.Objects.{branches_object, desk_object, field_object, line_object, line_objects, listed_object, listed_objects, numbered_object, order_object, view_object, place_object, placed_object, refused_object, texts};
 
-use crate::word::{article_text, branch_text, kind_text, state_text, utf8_text, way_text};
+use crate::word::{kind_text, state_text, utf8_text, way_text};
 use book::{Book, FieldView, KeptView, OrderView};
 use escrow::{Branch, OrderNo};
 use ledger::Line;
@@ -16,7 +16,7 @@ use serde_json::{Value, json};
 use std::alloc::{AllocError, Global};
 use words::Refusal;
 
-/// The object of a desk.
+/// Returns the object of a desk.
 fn desk_value(alloc: Global, book: &Book) -> Result<Value, AllocError>
     ensures { IfOk result (λ value. data_of value ≡ desk_object book.now.ledger) }
 {
@@ -29,25 +29,25 @@ fn desk_value(alloc: Global, book: &Book) -> Result<Value, AllocError>
     })
 }
 
-/// The text of a desk's object.
+/// Returns the text of a desk's object.
 pub fn desk_json(alloc: Global, book: &Book) -> Result<Vec<u8>, AllocError>
     ensures { IfOk result (λ text. text.items ≡ compact_text (desk_object book.now.ledger)) }
 {
     desk_value(alloc, book)?.to_vec(alloc)
 }
 
-/// The list of the branches' codes.
+/// Returns the list of the branches' codes.
 fn branch_texts(alloc: Global, branches: &[Branch]) -> Result<Value, AllocError>
     ensures { IfOk result (λ value. data_of value ≡ texts branches.now) }
 {
     let mut values = Vec::new(alloc);
     for branch in branches {
-        values.push(json!(in alloc; branch_text(branch))?)?;
+        values.push(json!(in alloc; branch.as_str())?)?;
     }
     Ok(Value::Array(values))
 }
 
-/// The object of branches.
+/// Returns the object of branches.
 fn branches_value(alloc: Global, branches: &[Branch]) -> Result<Value, AllocError>
     ensures { IfOk result (λ value. data_of value ≡ branches_object branches.now) }
 {
@@ -55,20 +55,20 @@ fn branches_value(alloc: Global, branches: &[Branch]) -> Result<Value, AllocErro
     json!(in alloc; {"branches": codes})
 }
 
-/// The text of the object of branches.
+/// Returns the text of the object of branches.
 pub fn branches_json(alloc: Global, branches: &[Branch]) -> Result<Vec<u8>, AllocError>
     ensures { IfOk result (λ text. text.items ≡ compact_text (branches_object branches.now)) }
 {
     branches_value(alloc, branches)?.to_vec(alloc)
 }
 
-/// The object of a field.
+/// Returns the object of a field.
 fn field_value(alloc: Global, view: &FieldView) -> Result<Value, AllocError>
     ensures { IfOk result (λ value. data_of value ≡ field_object view.now) }
 {
     json!(in alloc; {
-        "article": article_text(&view.article),
-        "branch": branch_text(&view.branch),
+        "article": view.article.as_str(),
+        "branch": view.branch.as_str(),
         "hi": view.hi.get(),
         "inf": view.inf.get(),
         "lo": view.lo.get(),
@@ -77,14 +77,14 @@ fn field_value(alloc: Global, view: &FieldView) -> Result<Value, AllocError>
     })
 }
 
-/// The text of a field's object.
+/// Returns the text of a field's object.
 pub fn field_json(alloc: Global, view: &FieldView) -> Result<Vec<u8>, AllocError>
     ensures { IfOk result (λ text. text.items ≡ compact_text (field_object view.now)) }
 {
     field_value(alloc, view)?.to_vec(alloc)
 }
 
-/// The object of what is kept under a key.
+/// Returns the object of what is kept under a key.
 fn kept_value(alloc: Global, view: &KeptView) -> Result<Value, AllocError>
     requires { IsUtf8 view.now.words.now }
     ensures { IfOk result (λ value. data_of value ≡ placed_object view.now.words.now view.now.place) }
@@ -92,7 +92,7 @@ fn kept_value(alloc: Global, view: &KeptView) -> Result<Value, AllocError>
     json!(in alloc; {"command": utf8_text(view.words), "place": view.place})
 }
 
-/// The text of the object of what is kept under a key.
+/// Returns the text of the object of what is kept under a key.
 pub fn kept_json(alloc: Global, view: &KeptView) -> Result<Vec<u8>, AllocError>
     requires { IsUtf8 view.now.words.now }
     ensures { IfOk result (λ text. text.items ≡ compact_text (placed_object view.now.words.now view.now.place)) }
@@ -100,48 +100,48 @@ pub fn kept_json(alloc: Global, view: &KeptView) -> Result<Vec<u8>, AllocError>
     kept_value(alloc, view)?.to_vec(alloc)
 }
 
-/// The object of a command that is done.
+/// Returns the object of a command that is done.
 fn place_value(alloc: Global, place: u64) -> Result<Value, AllocError>
     ensures { IfOk result (λ value. data_of value ≡ place_object place) }
 {
     json!(in alloc; {"place": place})
 }
 
-/// The text of the object of a command that is done.
+/// Returns the text of the object of a command that is done.
 pub fn place_json(alloc: Global, place: u64) -> Result<Vec<u8>, AllocError>
     ensures { IfOk result (λ text. text.items ≡ compact_text (place_object place)) }
 {
     place_value(alloc, place)?.to_vec(alloc)
 }
 
-/// The object of a command that is refused.
+/// Returns the object of a command that is refused.
 fn refused_value(alloc: Global, refusal: Refusal, line: u64) -> Result<Value, AllocError>
     ensures { IfOk result (λ value. data_of value ≡ refused_object refusal line) }
 {
     json!(in alloc; {"code": refusal.code(), "line": line, "refused": refusal.name()})
 }
 
-/// The text of the object of a command that is refused.
+/// Returns the text of the object of a command that is refused.
 pub fn refused_json(alloc: Global, refusal: Refusal, line: u64) -> Result<Vec<u8>, AllocError>
     ensures { IfOk result (λ text. text.items ≡ compact_text (refused_object refusal line)) }
 {
     refused_value(alloc, refusal, line)?.to_vec(alloc)
 }
 
-/// The object of an order's line.
+/// Returns the object of an order line.
 fn line_value(alloc: Global, line: &Line) -> Result<Value, AllocError>
     ensures { IfOk result (λ value. data_of value ≡ line_object line.now) }
 {
     json!(in alloc; {
-        "article": article_text(&line.article),
-        "branch": branch_text(&line.branch),
+        "article": line.article.as_str(),
+        "branch": line.branch.as_str(),
         "held": line.held.get(),
         "used": line.used.get(),
         "way": way_text(line.way),
     })
 }
 
-/// The objects of an order's lines.
+/// Returns the objects of order lines.
 fn line_values(alloc: Global, lines: &[Line]) -> Result<Value, AllocError>
     ensures { IfOk result (λ value. data_of value ≡ line_objects lines.now) }
 {
@@ -152,7 +152,7 @@ fn line_values(alloc: Global, lines: &[Line]) -> Result<Value, AllocError>
     Ok(Value::Array(values))
 }
 
-/// The object of the order that is shown.
+/// Returns the object of an order, made from its view.
 fn order_value(alloc: Global, view: &OrderView) -> Result<Value, AllocError>
     ensures { IfOk result (λ value. data_of value ≡ view_object view.now) }
 {
@@ -166,7 +166,7 @@ fn order_value(alloc: Global, view: &OrderView) -> Result<Value, AllocError>
     })
 }
 
-/// The text of the object of the order that is shown.
+/// Returns the text of the object of an order, made from its view.
 pub fn order_json(alloc: Global, view: &OrderView) -> Result<Vec<u8>, AllocError>
     ensures { (order : Order) → ShowsOrder order view.now → IfOk result
         (λ text. text.items ≡ compact_text (order_object order)) }
@@ -174,7 +174,7 @@ pub fn order_json(alloc: Global, view: &OrderView) -> Result<Vec<u8>, AllocError
     order_value(alloc, view)?.to_vec(alloc)
 }
 
-/// The object of the order of that number, or `null` where there is none.
+/// Returns the object of the order of that number, or `null` where there is none.
 fn numbered_value(alloc: Global, book: &Book, number: OrderNo) -> Result<Value, AllocError>
     ensures { IfOk result (λ value. data_of value ≡ numbered_object book.now.ledger number) }
 {
@@ -184,7 +184,7 @@ fn numbered_value(alloc: Global, book: &Book, number: OrderNo) -> Result<Value, 
     }
 }
 
-/// The objects of the orders of these numbers.
+/// Returns the objects of the orders of these numbers.
 fn listed_values(alloc: Global, book: &Book, numbers: &[OrderNo]) -> Result<Value, AllocError>
     ensures { IfOk result (λ value. data_of value ≡ listed_objects book.now.ledger numbers.now) }
 {
@@ -195,7 +195,7 @@ fn listed_values(alloc: Global, book: &Book, numbers: &[OrderNo]) -> Result<Valu
     Ok(Value::Array(values))
 }
 
-/// The object of a list of orders.
+/// Returns the object of a list of orders.
 fn listed_value(alloc: Global, book: &Book, numbers: &[OrderNo]) -> Result<Value, AllocError>
     ensures { IfOk result (λ value. data_of value ≡ listed_object book.now.ledger numbers.now) }
 {
@@ -203,7 +203,7 @@ fn listed_value(alloc: Global, book: &Book, numbers: &[OrderNo]) -> Result<Value
     json!(in alloc; {"orders": orders})
 }
 
-/// The text of the object of a list of the orders of these numbers.
+/// Returns the text of the object of a list of the orders of these numbers.
 pub fn orders_json(alloc: Global, book: &Book, numbers: &[OrderNo]) -> Result<Vec<u8>, AllocError>
     ensures { IfOk result (λ text. text.items ≡ compact_text (listed_object book.now.ledger numbers.now)) }
 {

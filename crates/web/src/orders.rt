@@ -8,10 +8,10 @@ use book::Book;
 use escrow::{Moment, OrderNo};
 use std::alloc::{AllocError, Global};
 
-/// How many orders a list has at the most.
+/// How many orders a list has, at the most.
 pub const MOST_ORDERS: usize = 50;
 
-/// The number of the first open order above that number, or `None` where there is none.
+/// Returns the number of the first open order above that number, or `None` where there is none.
 fn next_open(book: &Book, floor: u64) -> Option<OrderNo>
     requires { Good book.now.ledger }
     ensures { let left = open_left book.now.ledger floor in MatchOption result (left ≡ [])
@@ -29,7 +29,7 @@ fn next_open(book: &Book, floor: u64) -> Option<OrderNo>
     }
 }
 
-/// The numbers of the first open orders above that number.
+/// Returns the numbers of the first open orders above that number.
 pub fn open_numbers(alloc: Global, book: &Book, floor: u64) -> Result<Vec<OrderNo>, AllocError>
     requires { Good book.now.ledger }
     ensures { IfOk result (λ numbers. numbers.items ≡ map (λ o. o.number) (open_above book.now.ledger floor)) }
@@ -46,7 +46,7 @@ pub fn open_numbers(alloc: Global, book: &Book, floor: u64) -> Result<Vec<OrderN
     Ok(numbers)
 }
 
-/// The numbers of the first orders that an expiry at that moment aborts.
+/// Returns the numbers of the first orders that an expiry at that moment aborts.
 pub fn due_numbers(alloc: Global, book: &Book, moment: Moment) -> Result<Vec<OrderNo>, AllocError>
     ensures { IfOk result (λ numbers. numbers.items ≡ map (λ o. o.number) (due book.now.ledger moment)) }
 {

@@ -55,7 +55,7 @@ impl Model for Routes {
 }
 
 impl Routes {
-    /// They fail for want of memory alone.
+    /// Makes the routes. This fails only for want of memory.
     pub fn new(alloc: Global) -> Result<Routes, InsertError>
         ensures { IfErr result (λ error. error ≡ OutOfMemory) }
     {
@@ -64,7 +64,7 @@ impl Routes {
         })
     }
 
-    /// Their router.
+    /// Returns the router of the routes.
     pub fn router(&self) -> &Router<Resource>
         ensures { result.now ≡ routes }
     {
@@ -72,7 +72,7 @@ impl Routes {
     }
 }
 
-/// The router of the routes, which fails for want of memory alone.
+/// Makes the router of the routes. This fails only for want of memory.
 fn router(alloc: Global) -> Result<Router<Resource>, InsertError>
     ensures made { IfOk result (λ made. made ≡ routes) }
     ensures memory { IfErr result (λ error. error ≡ OutOfMemory) }
@@ -82,7 +82,7 @@ fn router(alloc: Global) -> Result<Router<Resource>, InsertError>
     Ok(made)
 }
 
-/// Puts these routes into the router, one after another. It fails for want of memory alone.
+/// Puts these routes into the router, one after another. This fails only for want of memory.
 fn insert_routes(
     router: &mut Router<Resource>,
     mut routes: &[(&str, Resource)],

@@ -1,5 +1,5 @@
-//! What a target leads to. It is compared as its bytes stand: nothing in it is decoded, and a `?` belongs to the part
-//! in which it stands.
+//! What a target leads to. Targets are compared byte for byte: nothing in them is decoded, and a `?` belongs to the
+//! part in which it stands.
 
 ghost use Rattle.std.specs.Prelude.{◌≡◌, ◌≢◌, ◌↔◌, ℕ, IfNone, IfSome, IsTrue, List, MatchOption, Some, codes, decimal};
 ghost use Rattle.escrow.specs.Codes.{IsArticle, IsBranch, IsKey};
@@ -15,7 +15,7 @@ use escrow::{Article, Branch, Key, MAX_ORDER_NO, Moment, OrderNo};
 use matchit::{Params, Router};
 use words::read_number;
 
-/// The view under a target, where there is one.
+/// Returns the view that a target asks for, if it asks for one.
 pub fn view_of(router: &Router<Resource>, target: &str) -> Option<Ask>
     requires { router.now ≡ routes }
     ensures some { IfSome result (λ view. IsView target.now view) }
@@ -42,7 +42,7 @@ pub fn view_of(router: &Router<Resource>, target: &str) -> Option<Ask>
     }
 }
 
-/// Whether commands are given under a target.
+/// Returns whether commands are posted to this target.
 pub fn takes_commands(router: &Router<Resource>, target: &str) -> bool
     requires { router.now ≡ routes }
     ensures { IsTrue result ↔ (resource_of target.now ≡ Some Resource.Commands) }
@@ -53,7 +53,7 @@ pub fn takes_commands(router: &Router<Resource>, target: &str) -> bool
     }
 }
 
-// The branch that is named in a target.
+// Returns the branch that a target names.
 fn branch_of(params: &Params) -> Option<Branch>
     ensures { AllText (taken params.now) → MatchOption result
         ((code : List ℕ) → IsBranch code → named (codes "branch") (taken params.now) ≢ Some code)
@@ -62,7 +62,7 @@ fn branch_of(params: &Params) -> Option<Branch>
     Branch::read(params.get("branch")?.as_bytes()).ok()
 }
 
-// The article that is named in a target.
+// Returns the article that a target names.
 fn article_of(params: &Params) -> Option<Article>
     ensures { AllText (taken params.now) → MatchOption result
         ((code : List ℕ) → IsArticle code → named (codes "article") (taken params.now) ≢ Some code)
@@ -71,7 +71,7 @@ fn article_of(params: &Params) -> Option<Article>
     Article::read(params.get("article")?.as_bytes()).ok()
 }
 
-// The key that is named in a target.
+// Returns the key that a target names.
 fn key_of(params: &Params) -> Option<Key>
     ensures { AllText (taken params.now) → MatchOption result
         ((key : List ℕ) → IsKey key → named (codes "key") (taken params.now) ≢ Some key)
@@ -80,7 +80,7 @@ fn key_of(params: &Params) -> Option<Key>
     Key::read(params.get("key")?.as_bytes()).ok()
 }
 
-// The order that is named in a target.
+// Returns the order that a target names.
 fn order_of(params: &Params) -> Option<OrderNo>
     ensures { AllText (taken params.now) → MatchOption result
         ((n : ℕ) → IsOrderNo n → named (codes "number") (taken params.now) ≢ Some (decimal n))
@@ -89,7 +89,7 @@ fn order_of(params: &Params) -> Option<OrderNo>
     number_of(params.get("number")?)
 }
 
-// The number that is named in a target, above which orders are asked for.
+// Returns the number that a target names, above which orders are listed.
 fn floor_of(params: &Params) -> Option<u64>
     ensures { AllText (taken params.now) → MatchOption result
         ((n : ℕ) → IsFloor n → named (codes "number") (taken params.now) ≢ Some (decimal n))
@@ -98,7 +98,7 @@ fn floor_of(params: &Params) -> Option<u64>
     floor_in(params.get("number")?)
 }
 
-// The moment that is named in a target.
+// Returns the moment that a target names.
 fn moment_of(params: &Params) -> Option<Moment>
     ensures { AllText (taken params.now) → MatchOption result
         ((n : ℕ) → IsMoment n → named (codes "moment") (taken params.now) ≢ Some (decimal n))
@@ -107,7 +107,7 @@ fn moment_of(params: &Params) -> Option<Moment>
     moment_in(params.get("moment")?)
 }
 
-// The order of a number that is written in decimal with no zero in front.
+// Returns the order's number that the text spells in decimal, with no zero in front.
 fn number_of(text: &str) -> Option<OrderNo>
     ensures some { IfSome result (λ n. (text.now ≡ decimal n) × IsOrderNo n) }
     ensures none { IfNone result ((n : ℕ) → IsOrderNo n → text.now ≢ decimal n) }
@@ -116,7 +116,7 @@ fn number_of(text: &str) -> Option<OrderNo>
     OrderNo::new(number)
 }
 
-// The number that is written in decimal with no zero in front, where it is 0 or an order's.
+// Returns the number that the text spells in decimal, with no zero in front, where it is 0 or an order's.
 fn floor_in(text: &str) -> Option<u64>
     ensures some { IfSome result (λ n. (text.now ≡ decimal n) × IsFloor n) }
     ensures none { IfNone result ((n : ℕ) → IsFloor n → text.now ≢ decimal n) }
@@ -129,7 +129,7 @@ fn floor_in(text: &str) -> Option<u64>
     }
 }
 
-// The moment that is written in decimal with no zero in front.
+// Returns the moment that the text spells in decimal, with no zero in front.
 fn moment_in(text: &str) -> Option<Moment>
     ensures some { IfSome result (λ n. (text.now ≡ decimal n) × IsMoment n) }
     ensures none { IfNone result ((n : ℕ) → IsMoment n → text.now ≢ decimal n) }

@@ -1,4 +1,4 @@
-//! What is shown of a book where a view is asked for.
+//! What a view of a book shows.
 
 ghost use Rattle.std.specs.Prelude.{IfOk};
 ghost use Rattle.ledger.specs.Good.{Good};
@@ -101,7 +101,7 @@ fn show_due(alloc: Global, book: &Book, moment: Moment) -> Result<Answer, AllocE
     Ok(Answer::Made(orders_answer(alloc, book, &numbers)?))
 }
 
-/// What is shown where nothing is called.
+/// Returns what is shown for a message that calls no request.
 pub fn show_view(alloc: Global, book: &Book, ask: &Ask) -> Result<Answer, AllocError>
     requires good { Good book.now.ledger }
     requires view { IsNoCall ask.now }

@@ -5,11 +5,11 @@ ghost use Rattle.std.specs.Str.{IsUtf8};
 ghost use Rattle.words.specs.OpenLines.{way_word};
 ghost use Rattle.desk.specs.Replies.{kind_word, state_word};
 
-use escrow::{Article, Branch, Way};
+use escrow::Way;
 use ledger::{Kind, Standing};
 use std::str;
 
-/// The text that UTF-8 bytes are.
+/// Returns the text that these UTF-8 bytes are.
 pub fn utf8_text(bytes: &[u8]) -> &str
     requires { IsUtf8 bytes.now }
     ensures { result.now ≡ bytes.now }
@@ -18,18 +18,6 @@ pub fn utf8_text(bytes: &[u8]) -> &str
         Ok(text) => text,
         Err(_) => unreachable!(),
     }
-}
-
-pub fn branch_text(branch: &Branch) -> &str
-    ensures { result.now ≡ branch.now }
-{
-    utf8_text(branch.as_bytes())
-}
-
-pub fn article_text(article: &Article) -> &str
-    ensures { result.now ≡ article.now }
-{
-    utf8_text(article.as_bytes())
 }
 
 pub fn kind_text(kind: Kind) -> &'static str

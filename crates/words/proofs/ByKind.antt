@@ -14,17 +14,20 @@ use Rattle.words.proofs.LineWords.{line_of, words-command}
 
 -- what begins with `open`, with no number, moment and lines behind it, is no command
 pub none_open : (ws : List (List ℕ))
-    → ((n until : ℕ) (lines : List OpenLine) → IsInRange (Open n until lines) → ws ≡ decimal n ∷ decimal until ∷ line_words lines → ⊥)
+    → ((n until : ℕ) (lines : List OpenLine) → IsInRange (Open n until lines)
+        → ws ≡ decimal n ∷ decimal until ∷ line_words lines → ⊥)
     → AreNoCommand (codes "open" ∷ ws)
 none_open ws none (Open n until lines) h e = none n until lines h (cc e)
 none_open ws none c h e = search rules
 
 -- bytes whose words no command has are no spelling
-pub none_spelled : (bytes : List ℕ) (words : List (List ℕ)) → words_of bytes ≡ words → AreNoCommand words → (c : Command) → Spells c bytes → ⊥
+pub none_spelled : (bytes : List ℕ) (words : List (List ℕ)) → words_of bytes ≡ words → AreNoCommand words
+    → (c : Command) → Spells c bytes → ⊥
 none_spelled bytes words e none c s = none c s.0 (sym e ∙ ap words_of s.1 ∙ words-command c s.0)
 
 -- bytes with the words of a command are its spelling
-pub spelled : (bytes : List ℕ) (words : List (List ℕ)) (c : Command) → words_of bytes ≡ words → IsInRange c → words ≡ command_words c → Spells c bytes
+pub spelled : (bytes : List ℕ) (words : List (List ℕ)) (c : Command) → words_of bytes ≡ words → IsInRange c
+    → words ≡ command_words c → Spells c bytes
 spelled bytes words c e h k = (h, line_of bytes (command_words c) (e ∙ k))
 
 pub open_found : (r : Result Command WordsFault) (bytes : List ℕ) (ws : List (List ℕ)) → words_of bytes ≡ codes "open" ∷ ws

@@ -1,5 +1,6 @@
 -- Where bytes are cut at the first of one kind.
-use Rattle.std.proofs.Common.{◌≡◌, ℕ, ◌+◌, ◌-◌, ◌<◌, Bool, true, false, cond, List, [], ◌∷◌, None, Some, length, nat_lt, position, take, drop, refl, sym, subst, ◌∙◌, arith, inl, inr, ◌==◌}
+use Rattle.std.proofs.Common.{◌≡◌, ℕ, ◌+◌, ◌-◌, ◌<◌, Bool, true, false, cond, List, [], ◌∷◌, None, Some, length, nat_lt,
+    position, take, drop, refl, sym, subst, ◌∙◌, arith, inl, inr, ◌==◌}
 use Rattle.std.specs.List.{onto_first, position_or_len}
 use Rattle.std.proofs.lemmas.Bool.{cases_Bool}
 use Rattle.std.proofs.lemmas.Grind.{common_steps}
@@ -15,18 +16,23 @@ cut_none at bytes e = by (nat_lt (position_or_len is bytes) (length bytes)) refl
     is : ℕ → Bool
     is byte = byte == at
 
-    by : (found : Bool) → nat_lt (position_or_len is bytes) (length bytes) ≡ found → cond found (Some (position_or_len is bytes)) None ≡ None → parts_at at bytes ≡ bytes ∷ []
+    by : (found : Bool) → nat_lt (position_or_len is bytes) (length bytes) ≡ found
+        → cond found (Some (position_or_len is bytes)) None ≡ None → parts_at at bytes ≡ bytes ∷ []
     by true found e = (cc)
-    by false found e = slice_split_none is bytes (λ k other below. fails_before_first is bytes k other (omega (arith, ltb-false _ _ found)))
+    by false found e =
+        slice_split_none is bytes
+            (λ k other below. fails_before_first is bytes k other (omega (arith, ltb-false _ _ found)))
 
 -- the bytes before the first of them are the first part
-pub cut_at : (at : ℕ) (bytes : List ℕ) (place : ℕ) → position (λ byte. byte == at) bytes ≡ Some place → (place < length bytes) × (parts_at at bytes ≡ take place bytes ∷ parts_at at (drop (place + 1) bytes))
+pub cut_at : (at : ℕ) (bytes : List ℕ) (place : ℕ) → position (λ byte. byte == at) bytes ≡ Some place
+    → (place < length bytes) × (parts_at at bytes ≡ take place bytes ∷ parts_at at (drop (place + 1) bytes))
 cut_at at bytes place e = by (nat_lt (position_or_len is bytes) (length bytes)) refl e
   where
     is : ℕ → Bool
     is byte = byte == at
 
-    by : (found : Bool) → nat_lt (position_or_len is bytes) (length bytes) ≡ found → cond found (Some (position_or_len is bytes)) None ≡ Some place
+    by : (found : Bool) → nat_lt (position_or_len is bytes) (length bytes) ≡ found
+        → cond found (Some (position_or_len is bytes)) None ≡ Some place
         → (place < length bytes) × (parts_at at bytes ≡ take place bytes ∷ parts_at at (drop (place + 1) bytes))
     by true found e =
         let same : position_or_len is bytes ≡ place = cc e in

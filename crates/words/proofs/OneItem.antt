@@ -13,7 +13,8 @@ use Rattle.words.specs.OpenLines.{IsOpenLine, line_words, way_word}
 use Rattle.words.specs.Spelling.{IsInRange, command_words, spelling}
 use Rattle.words.specs.Words.{words_of}
 use Rattle.words.specs.declared.command.Command.{Command}
-use Rattle.words.specs.declared.command.Command.TheVariants.{Abort, Commit, Deliver, Expire, Field, Firm, More, Open, Rebound, Release, Transfer, Use, Writeoff}
+use Rattle.words.specs.declared.command.Command.TheVariants.{Abort, Commit, Deliver, Expire, Field, Firm, More, Open,
+    Rebound, Release, Transfer, Use, Writeoff}
 use Rattle.words.specs.declared.command.Request.{Request as RequestOf}
 use Rattle.words.specs.declared.item.Item.{Item}
 use Rattle.words.specs.declared.item.Item.TheVariants.{AskField, AskOrder, Bad, Request}
@@ -59,7 +60,8 @@ open_of ws = Expire 0
 
 pub command_of : List (List ℕ) → Command
 command_of [] = Expire 0
-command_of (w ∷ ws) = if bytes_eq w (codes "field") then of_5 (λ b a lo hi start. Field b a (value lo) (value hi) (value start)) ws
+command_of (w ∷ ws) =
+    if bytes_eq w (codes "field") then of_5 (λ b a lo hi start. Field b a (value lo) (value hi) (value start)) ws
     else (if bytes_eq w (codes "deliver") then of_3 (λ b a q. Deliver b a (value q)) ws
     else (if bytes_eq w (codes "writeoff") then of_3 (λ b a q. Writeoff b a (value q)) ws
     else (if bytes_eq w (codes "rebound") then of_4 (λ b a lo hi. Rebound b a (value lo) (value hi)) ws
@@ -96,22 +98,37 @@ lines_of-line_words (l ∷ ls) h =
 pub command_of-command_words : (c : Command) → IsInRange c → command_of (command_words c) ≡ c
 unfolding command_of of_1 of_3 of_4 of_5 of_6 open_of
 command_of-command_words (Field b a lo hi start) h =
-    let x = value-decimal lo (let q = h.2 in omega arith) in let y = value-decimal hi (let q = h.3 in omega arith) in let z = value-decimal start (let q = h.4 in omega arith) in λ i. Field b a (x i) (y i) (z i)
+    let x = value-decimal lo (let q = h.2 in omega arith) in
+    let y = value-decimal hi (let q = h.3 in omega arith) in
+    let z = value-decimal start (let q = h.4 in omega arith) in
+    λ i. Field b a (x i) (y i) (z i)
 command_of-command_words (Deliver b a q) h = let x = value-decimal q (let y = h.2.1 in omega arith) in λ i. Deliver b a (x i)
 command_of-command_words (Writeoff b a q) h = let x = value-decimal q (let y = h.2.1 in omega arith) in λ i. Writeoff b a (x i)
 command_of-command_words (Rebound b a lo hi) h =
-    let x = value-decimal lo (let q = h.2 in omega arith) in let y = value-decimal hi (let q = h.3 in omega arith) in λ i. Rebound b a (x i) (y i)
+    let x = value-decimal lo (let q = h.2 in omega arith) in
+    let y = value-decimal hi (let q = h.3 in omega arith) in
+    λ i. Rebound b a (x i) (y i)
 command_of-command_words (Open n until lines) h =
     let x = value-decimal n (let y = h.0.1 in omega arith) in let u = value-decimal until (let y = h.1 in omega arith) in
     let r = lines_of-line_words lines (recursion_from_All IsOpenLine lines h.2.each) in λ i. Open (x i) (u i) (r i)
 command_of-command_words (Transfer n until a from to q) h =
-    let x = value-decimal n (let y = h.0.1 in omega arith) in let u = value-decimal until (let y = h.1 in omega arith) in let z = value-decimal q (let y = h.5.1 in omega arith) in λ i. Transfer (x i) (u i) a from to (z i)
+    let x = value-decimal n (let y = h.0.1 in omega arith) in
+    let u = value-decimal until (let y = h.1 in omega arith) in
+    let z = value-decimal q (let y = h.5.1 in omega arith) in
+    λ i. Transfer (x i) (u i) a from to (z i)
 command_of-command_words (More n way b a q) h =
-    let x = value-decimal n (let y = h.0.1 in omega arith) in let w = way_of-way_word way in let z = value-decimal q (let y = h.3.1 in omega arith) in λ i. More (x i) (w i) b a (z i)
+    let x = value-decimal n (let y = h.0.1 in omega arith) in
+    let w = way_of-way_word way in
+    let z = value-decimal q (let y = h.3.1 in omega arith) in
+    λ i. More (x i) (w i) b a (z i)
 command_of-command_words (Use n b a q) h =
-    let x = value-decimal n (let y = h.0.1 in omega arith) in let z = value-decimal q (let y = h.3.1 in omega arith) in λ i. Use (x i) b a (z i)
+    let x = value-decimal n (let y = h.0.1 in omega arith) in
+    let z = value-decimal q (let y = h.3.1 in omega arith) in
+    λ i. Use (x i) b a (z i)
 command_of-command_words (Release n b a q) h =
-    let x = value-decimal n (let y = h.0.1 in omega arith) in let z = value-decimal q (let y = h.3.1 in omega arith) in λ i. Release (x i) b a (z i)
+    let x = value-decimal n (let y = h.0.1 in omega arith) in
+    let z = value-decimal q (let y = h.3.1 in omega arith) in
+    λ i. Release (x i) b a (z i)
 command_of-command_words (Commit n) h = let x = value-decimal n (let y = h.1 in omega arith) in λ i. Commit (x i)
 command_of-command_words (Abort n) h = let x = value-decimal n (let y = h.1 in omega arith) in λ i. Abort (x i)
 command_of-command_words (Firm n) h = let x = value-decimal n (let y = h.1 in omega arith) in λ i. Firm (x i)
@@ -153,12 +170,15 @@ request_one : (line : List ℕ) (r s : RequestOf) → IsRequest line r → IsReq
 request_one line r s h k =
     let e = sym (words_of_request line r h) ∙ words_of_request line s k in
     let key = first_one r.key s.key (command_words r.command) (command_words s.command) e in
-    let command = command_one r.command s.command h.1 k.1 (rest_one r.key s.key (command_words r.command) (command_words s.command) e) in
+    let command =
+        command_one r.command s.command h.1 k.1
+            (rest_one r.key s.key (command_words r.command) (command_words s.command) e) in
     λ i. record { key = key i; command = command i }
 
 -- a request is no ask
 no_ask : (line : List ℕ) (r : RequestOf) (ws : List (List ℕ)) → IsRequest line r → words_of line ≡ codes "?" ∷ ws → ⊥
-no_ask line r ws h e = no_mark r.key h.0 (first_one r.key (codes "?") (command_words r.command) ws (sym (words_of_request line r h) ∙ e))
+no_ask line r ws h e =
+    no_mark r.key h.0 (first_one r.key (codes "?") (command_words r.command) ws (sym (words_of_request line r h) ∙ e))
 
 field_order : (b a : List ℕ) (n : ℕ) → codes "?" ∷ codes "field" ∷ b ∷ a ∷ [] ≡ codes "?" ∷ codes "order" ∷ decimal n ∷ [] → ⊥
 field_order b a n e = (cc e)

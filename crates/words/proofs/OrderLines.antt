@@ -12,10 +12,13 @@ pub record Spelled (words : List (List ℕ)) : Type 0 where
 
 pub line_words-append : (xs ys : List OpenLine) → line_words (xs ++ ys) ≡ line_words xs ++ line_words ys
 line_words-append [] ys = refl
-line_words-append (x ∷ xs) ys = ap (λ (words : List (List ℕ)). way_word x.way ∷ x.branch ∷ x.article ∷ decimal x.qty ∷ words) (line_words-append xs ys)
+line_words-append (x ∷ xs) ys =
+    ap (λ (words : List (List ℕ)). way_word x.way ∷ x.branch ∷ x.article ∷ decimal x.qty ∷ words)
+        (line_words-append xs ys)
 
 -- behind the first line stand the others
-pub spelled_after : (line : OpenLine) (words after : List (List ℕ)) → words ≡ line_words (line ∷ []) ++ after → Spelled words → Spelled after
+pub spelled_after : (line : OpenLine) (words after : List (List ℕ)) → words ≡ line_words (line ∷ []) ++ after
+    → Spelled words → Spelled after
 spelled_after line words after e s = by s.lines s.each s.are
   where
     by : (lines : List OpenLine) → Each IsOpenLine lines → words ≡ line_words lines → Spelled after
@@ -24,7 +27,8 @@ spelled_after line words after e s = by s.lines s.each s.are
 
 -- no line stands first, with or without others behind it
 pub spelled_none : (words : List (List ℕ)) → (words ≡ [] → ⊥)
-    → ((line : OpenLine) (word : List ℕ) (more : List (List ℕ)) → IsOpenLine line → words ≡ line_words (line ∷ []) ++ (word ∷ more) → ⊥)
+    → ((line : OpenLine) (word : List ℕ) (more : List (List ℕ)) → IsOpenLine line
+        → words ≡ line_words (line ∷ []) ++ (word ∷ more) → ⊥)
     → ((line : OpenLine) → IsOpenLine line → words ≡ line_words (line ∷ []) → ⊥) → Spelled words → ⊥
 spelled_none words some first last s = by s.lines s.each s.are
   where
@@ -38,11 +42,13 @@ pub length_of_words : (xs ys : List OpenLine) → line_words xs ≡ line_words y
 length_of_words [] [] e = refl
 length_of_words [] (y ∷ ys) e = (cc)
 length_of_words (x ∷ xs) [] e = (cc)
-length_of_words (x ∷ xs) (y ∷ ys) e = let f : line_words xs ≡ line_words ys = cc e in let g = length_of_words xs ys f in omega arith
+length_of_words (x ∷ xs) (y ∷ ys) e =
+    let f : line_words xs ≡ line_words ys = cc e in let g = length_of_words xs ys f in omega arith
 
 -- a line more is read
 pub one_more : (words rest after : List (List ℕ)) (before : List OpenLine) (line : OpenLine) (new : List OpenLine)
-    → words ≡ line_words before ++ rest → rest ≡ line_words (line ∷ []) ++ after → new ≡ before ++ line ∷ [] → words ≡ line_words new ++ after
+    → words ≡ line_words before ++ rest → rest ≡ line_words (line ∷ []) ++ after → new ≡ before ++ line ∷ []
+    → words ≡ line_words new ++ after
 one_more words rest after before line new p q e =
     p ∙ ap (λ (r : List (List ℕ)). line_words before ++ r) q
     ∙ sym (append_assoc (line_words before) (line_words (line ∷ [])) after)
@@ -56,7 +62,8 @@ one_last words rest before line new p q e =
     p ∙ ap (λ (r : List (List ℕ)). line_words before ++ r) q ∙ sym (line_words-append before (line ∷ [])) ∙ ap line_words (sym e)
 
 -- lines have a first word
-pub first_word : (lines : List OpenLine) → 1 ≤ length lines → (word : List ℕ) × (more : List (List ℕ)) × (line_words lines ≡ word ∷ more)
+pub first_word : (lines : List OpenLine) → 1 ≤ length lines
+    → (word : List ℕ) × (more : List (List ℕ)) × (line_words lines ≡ word ∷ more)
 first_word [] some = absurd (omega arith)
 first_word (line ∷ lines) some = (way_word line.way, line.branch ∷ line.article ∷ decimal line.qty ∷ line_words lines, refl)
 

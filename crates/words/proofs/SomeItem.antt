@@ -12,7 +12,8 @@ use Rattle.words.specs.declared.command.Request.{Request as RequestOf}
 use Rattle.words.specs.declared.item.Item.{Item}
 use Rattle.words.specs.declared.item.Item.TheVariants.{AskField, AskOrder, Bad, Request}
 use Rattle.words.proofs.ByItem.{says_none, words_of_request}
-use Rattle.words.proofs.Decisions.{Decided, decided_article, decided_both, decided_branch, decided_by, decided_in_range, decided_key, decided_le, decided_order_no, decided_word, decided_words}
+use Rattle.words.proofs.Decisions.{Decided, decided_article, decided_both, decided_branch, decided_by, decided_in_range,
+    decided_key, decided_le, decided_order_no, decided_word, decided_words}
 use Rattle.words.proofs.OneItem.{command_of, command_of-command_words}
 use Rattle.words.proofs.LineWords.{line_of}
 
@@ -34,7 +35,8 @@ decided_command words = decided_by to from (decided_both (decided_in_range c) (d
 
     from : CommandWords words → IsInRange c × (words ≡ command_words c)
     from (d, range, e) =
-        let same : d ≡ c = sym (command_of-command_words d range) ∙ ap command_of (sym e) in (subst IsInRange same range, e ∙ ap command_words same)
+        let same : d ≡ c = sym (command_of-command_words d range) ∙ ap command_of (sym e) in
+        (subst IsInRange same range, e ∙ ap command_words same)
 
 -- the words are a request's
 abbrev RequestWords : List (List ℕ) → Type 0
@@ -62,13 +64,15 @@ decided_field (m ∷ []) = inr (λ h. cc (h.4))
 decided_field (m ∷ n ∷ []) = inr (λ h. cc (h.4))
 decided_field (m ∷ n ∷ b ∷ []) = inr (λ h. cc (h.4))
 decided_field (m ∷ n ∷ b ∷ a ∷ []) =
-    decided_by to from (decided_both (decided_both (decided_word m (codes "?")) (decided_word n (codes "field"))) (decided_both (decided_branch b) (decided_article a)))
+    decided_by to from (decided_both (decided_both (decided_word m (codes "?")) (decided_word n (codes "field")))
+        (decided_both (decided_branch b) (decided_article a)))
   where
     to : ((m ≡ codes "?") × (n ≡ codes "field")) × (IsBranch b × IsArticle a) → FieldWords (m ∷ n ∷ b ∷ a ∷ [])
     to h = let e : m ≡ codes "?" = h.0.0 in let f : n ≡ codes "field" = h.0.1 in (b, a, h.1.0, h.1.1, cc (e, f))
 
     from : FieldWords (m ∷ n ∷ b ∷ a ∷ []) → ((m ≡ codes "?") × (n ≡ codes "field")) × (IsBranch b × IsArticle a)
-    from (b', a', h, k, e) = let x : b' ≡ b = cc e in let y : a' ≡ a = cc e in ((cc e, cc e), (subst IsBranch x h, subst IsArticle y k))
+    from (b', a', h, k, e) =
+        let x : b' ≡ b = cc e in let y : a' ≡ a = cc e in ((cc e, cc e), (subst IsBranch x h, subst IsArticle y k))
 decided_field (m ∷ n ∷ b ∷ a ∷ w ∷ words) = inr (λ h. cc (h.4))
 
 -- the words are those of an ask for an order
@@ -80,14 +84,19 @@ decided_order [] = inr (λ h. cc (h.2))
 decided_order (m ∷ []) = inr (λ h. cc (h.2))
 decided_order (m ∷ v ∷ []) = inr (λ h. cc (h.2))
 decided_order (m ∷ v ∷ w ∷ []) =
-    decided_by to from (decided_both (decided_both (decided_word m (codes "?")) (decided_word v (codes "order"))) (decided_both (decided_order_no n) (decided_word w (decimal n))))
+    decided_by to from (decided_both (decided_both (decided_word m (codes "?")) (decided_word v (codes "order")))
+        (decided_both (decided_order_no n) (decided_word w (decimal n))))
   where
     -- only one number can have the text, the one that its digits write
     n : ℕ
     n = digits_value 10 w
 
     to : ((m ≡ codes "?") × (v ≡ codes "order")) × (IsOrderNo n × (w ≡ decimal n)) → OrderWords (m ∷ v ∷ w ∷ [])
-    to h = let e : m ≡ codes "?" = h.0.0 in let f : v ≡ codes "order" = h.0.1 in let g : w ≡ decimal n = h.1.1 in (n, h.1.0, cc (e, f, g))
+    to h =
+        let e : m ≡ codes "?" = h.0.0 in
+        let f : v ≡ codes "order" = h.0.1 in
+        let g : w ≡ decimal n = h.1.1 in
+        (n, h.1.0, cc (e, f, g))
 
     from : OrderWords (m ∷ v ∷ w ∷ []) → ((m ≡ codes "?") × (v ≡ codes "order")) × (IsOrderNo n × (w ≡ decimal n))
     from (k, range, e) =
@@ -99,9 +108,12 @@ decided_order (m ∷ v ∷ w ∷ x ∷ words) = inr (λ h. cc (h.2))
 -- ---- lines
 
 pub some_item : (line : List ℕ) → (item : Item) × IsItem line item
-some_item line = by (decided_le (length line) longest_line) (decided_field (words_of line)) (decided_order (words_of line)) (decided_request (words_of line))
+some_item line =
+    by (decided_le (length line) longest_line) (decided_field (words_of line)) (decided_order (words_of line))
+        (decided_request (words_of line))
   where
-    by : Decided (length line ≤ longest_line) → Decided (FieldWords (words_of line)) → Decided (OrderWords (words_of line)) → Decided (RequestWords (words_of line))
+    by : Decided (length line ≤ longest_line) → Decided (FieldWords (words_of line))
+        → Decided (OrderWords (words_of line)) → Decided (RequestWords (words_of line))
         → (item : Item) × IsItem line item
     by (inr long) field order request = (Bad, λ item short says. long short)
     by (inl short) (inl (b, a, h, k, e)) order request = (AskField b a, (short, (h, k, line_of line _ e)))

@@ -1,5 +1,6 @@
 -- A stream in two pieces, and the same in one.
-use Rattle.std.proofs.Common.{◌≡◌, ◌∙◌, ℕ, ◌<◌, ◌==◌, Bool, true, false, cond, List, [], ◌∷◌, ◌++◌, Option, None, Some, ap, append_assoc, arith, inl, inr, length, length-append, nat_le, refl, sym, subst}
+use Rattle.std.proofs.Common.{◌≡◌, ◌∙◌, ℕ, ◌<◌, ◌==◌, Bool, true, false, cond, List, [], ◌∷◌, ◌++◌, Option, None, Some,
+    ap, append_assoc, arith, inl, inr, length, length-append, nat_le, refl, sym, subst}
 use Rattle.std.specs.List.{onto_first}
 use Rattle.std.proofs.lemmas.Bool.{cases_Bool}
 use Rattle.words.specs.Items.{IsItem, longest_line}
@@ -67,8 +68,12 @@ last_behind (p ∷ ps) some h = h
 last_has_none : (bytes : List ℕ) → LastHasNone (parts_at 10 bytes)
 last_has_none [] = refl
 last_has_none (x ∷ xs) = elim (cases_Bool (x == 10)) [
-  | inl is ↦ subst LastHasNone (sym (slice_split-cons_yes (λ b. b == 10) x xs is)) (last_behind (parts_at 10 xs) (parts_some 10 xs) (last_has_none xs))
-  | inr other ↦ subst LastHasNone (sym (slice_split-cons_no (λ b. b == 10) x xs other)) (last_onto x (parts_at 10 xs) other (parts_some 10 xs) (last_has_none xs))
+  | inl is ↦
+      subst LastHasNone (sym (slice_split-cons_yes (λ b. b == 10) x xs is))
+          (last_behind (parts_at 10 xs) (parts_some 10 xs) (last_has_none xs))
+  | inr other ↦
+      subst LastHasNone (sym (slice_split-cons_no (λ b. b == 10) x xs other))
+          (last_onto x (parts_at 10 xs) other (parts_some 10 xs) (last_has_none xs))
 ]
 
 joined_some : (p : List ℕ) (ps qs : List (List ℕ)) → joined (p ∷ ps) qs ≡ [] → ⊥
@@ -85,41 +90,52 @@ kept_none bytes long = by (nat_le (length bytes) longest_line) refl
     by false e = refl
 
 -- a line that was too long already goes on
-long_on : (last : List ℕ) (qs : List (List ℕ)) (ys : List Item) (new : Option (List ℕ)) → longest_line < length last → EndsOverlong qs ys new → Ends (joined (last ∷ []) qs) ys new
+long_on : (last : List ℕ) (qs : List (List ℕ)) (ys : List Item) (new : Option (List ℕ)) → longest_line < length last
+    → EndsOverlong qs ys new → Ends (joined (last ∷ []) qs) ys new
 long_on last [] ys new long h = absurd h
 long_on last (q ∷ []) ys new long h = (h.0, h.1 ∙ sym (kept_none (last ++ q) (omega (arith, length-append last q))))
 long_on last (q ∷ r ∷ qs) ys new long h =
-    subst (λ (is : List Item). Ends ((last ++ q) ∷ r ∷ qs) is new) (sym h.1) (too_long (last ++ q) (omega (arith, length-append last q)), h.2)
+    subst (λ (is : List Item). Ends ((last ++ q) ∷ r ∷ qs) is new) (sym h.1)
+        (too_long (last ++ q) (omega (arith, length-append last q)), h.2)
 
 -- what was kept goes on
-kept_on : (last q : List ℕ) (ys : List Item) (new : Option (List ℕ)) → parts_at 10 last ≡ last ∷ [] → Feeds (pending last) q ys new → Ends (joined (last ∷ []) (parts_at 10 q)) ys new
+kept_on : (last q : List ℕ) (ys : List Item) (new : Option (List ℕ)) → parts_at 10 last ≡ last ∷ []
+    → Feeds (pending last) q ys new → Ends (joined (last ∷ []) (parts_at 10 q)) ys new
 kept_on last q ys new one h = by (nat_le (length last) longest_line) refl h
   where
-    by : (fits : Bool) → nat_le (length last) longest_line ≡ fits → Feeds (cond fits (Some last) None) q ys new → Ends (joined (last ∷ []) (parts_at 10 q)) ys new
-    by true e h = subst (λ (ps : List (List ℕ)). Ends ps ys new) (parts-append 10 last q ∙ ap (λ (ps : List (List ℕ)). joined ps (parts_at 10 q)) one) h
+    by : (fits : Bool) → nat_le (length last) longest_line ≡ fits → Feeds (cond fits (Some last) None) q ys new
+        → Ends (joined (last ∷ []) (parts_at 10 q)) ys new
+    by true e h =
+        subst (λ (ps : List (List ℕ)). Ends ps ys new)
+            (parts-append 10 last q ∙ ap (λ (ps : List (List ℕ)). joined ps (parts_at 10 q)) one) h
     by false e h = long_on last (parts_at 10 q) ys new (leb-false _ _ e) h
 
-ends_append : (ps : List (List ℕ)) (xs ys : List Item) (mid new : Option (List ℕ)) (q : List ℕ) → LastHasNone ps → Ends ps xs mid → Feeds mid q ys new → Ends (joined ps (parts_at 10 q)) (xs ++ ys) new
+ends_append : (ps : List (List ℕ)) (xs ys : List Item) (mid new : Option (List ℕ)) (q : List ℕ) → LastHasNone ps
+    → Ends ps xs mid → Feeds mid q ys new → Ends (joined ps (parts_at 10 q)) (xs ++ ys) new
 ends_append [] xs ys mid new q none first second = absurd first
 ends_append (last ∷ []) xs ys mid new q none first second =
     subst (λ (is : List Item). Ends (joined (last ∷ []) (parts_at 10 q)) (is ++ ys) new) (sym first.0)
     (kept_on last q ys new none (subst (λ (m : Option (List ℕ)). Feeds m q ys new) first.1 second))
 ends_append (line ∷ next ∷ ps) [] ys mid new q none first second = absurd first
 ends_append (line ∷ next ∷ ps) (x ∷ xs) ys mid new q none first second =
-    ends_more line x (joined (line ∷ next ∷ ps) (parts_at 10 q)) (joined (next ∷ ps) (parts_at 10 q)) (xs ++ ys) new first.0 refl (joined_some next ps (parts_at 10 q))
+    ends_more line x (joined (line ∷ next ∷ ps) (parts_at 10 q)) (joined (next ∷ ps) (parts_at 10 q)) (xs ++ ys) new
+    first.0 refl (joined_some next ps (parts_at 10 q))
     (ends_append (next ∷ ps) xs ys mid new q none first.1 second)
 
 -- the same behind a line that is too long already
-overlong_on : (last : List ℕ) (qs : List (List ℕ)) (ys : List Item) (new : Option (List ℕ)) → EndsOverlong qs ys new → EndsOverlong (joined (last ∷ []) qs) ys new
+overlong_on : (last : List ℕ) (qs : List (List ℕ)) (ys : List Item) (new : Option (List ℕ)) → EndsOverlong qs ys new
+    → EndsOverlong (joined (last ∷ []) qs) ys new
 overlong_on last [] ys new h = absurd h
 overlong_on last (q ∷ []) ys new h = h
 overlong_on last (q ∷ r ∷ qs) ys new h = h
 
-overlong_more : (line : List ℕ) (parts : List (List ℕ)) (items : List Item) (new : Option (List ℕ)) → (parts ≡ [] → ⊥) → EndsBehind Bad parts items new → EndsOverlong (line ∷ parts) items new
+overlong_more : (line : List ℕ) (parts : List (List ℕ)) (items : List Item) (new : Option (List ℕ)) → (parts ≡ [] → ⊥)
+    → EndsBehind Bad parts items new → EndsOverlong (line ∷ parts) items new
 overlong_more line [] items new some h = absurd (some refl)
 overlong_more line (p ∷ ps) items new some h = h
 
-overlong_append : (ps : List (List ℕ)) (xs ys : List Item) (mid new : Option (List ℕ)) (q : List ℕ) → LastHasNone ps → EndsOverlong ps xs mid → Feeds mid q ys new → EndsOverlong (joined ps (parts_at 10 q)) (xs ++ ys) new
+overlong_append : (ps : List (List ℕ)) (xs ys : List Item) (mid new : Option (List ℕ)) (q : List ℕ) → LastHasNone ps
+    → EndsOverlong ps xs mid → Feeds mid q ys new → EndsOverlong (joined ps (parts_at 10 q)) (xs ++ ys) new
 overlong_append [] xs ys mid new q none first second = absurd first
 overlong_append (last ∷ []) xs ys mid new q none first second =
     subst (λ (is : List Item). EndsOverlong (joined (last ∷ []) (parts_at 10 q)) (is ++ ys) new) (sym first.0)
@@ -129,10 +145,12 @@ overlong_append (line ∷ next ∷ ps) xs ys mid new q none first second =
     (first.0 ++ ys, ap (λ (is : List Item). is ++ ys) first.1, ends_append (next ∷ ps) first.0 ys mid new q none first.2 second)
 
 -- two pieces, one after the other, feed as the two in one
-pub feeds_joined : (old mid new : Option (List ℕ)) (p q : List ℕ) (xs ys : List Item) → Feeds old p xs mid → Feeds mid q ys new → Feeds old (p ++ q) (xs ++ ys) new
+pub feeds_joined : (old mid new : Option (List ℕ)) (p q : List ℕ) (xs ys : List Item) → Feeds old p xs mid
+    → Feeds mid q ys new → Feeds old (p ++ q) (xs ++ ys) new
 feeds_joined None mid new p q xs ys first second =
     subst (λ (ps : List (List ℕ)). EndsOverlong ps (xs ++ ys) new) (sym (parts-append 10 p q))
     (overlong_append (parts_at 10 p) xs ys mid new q (last_has_none p) first second)
 feeds_joined (Some rest) mid new p q xs ys first second =
-    subst (λ (ps : List (List ℕ)). Ends ps (xs ++ ys) new) (sym (ap (parts_at 10) (sym (append_assoc rest p q)) ∙ parts-append 10 (rest ++ p) q))
+    subst (λ (ps : List (List ℕ)). Ends ps (xs ++ ys) new)
+    (sym (ap (parts_at 10) (sym (append_assoc rest p q)) ∙ parts-append 10 (rest ++ p) q))
     (ends_append (parts_at 10 (rest ++ p)) xs ys mid new q (last_has_none (rest ++ p)) first second)

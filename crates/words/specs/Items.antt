@@ -1,4 +1,4 @@
--- What a line is.
+-- What a line of a script says.
 use Rattle.std.specs.Prelude.{◌≡◌, ◌⊎◌, ℕ, ◌≤◌, List, [], ◌∷◌, codes, decimal, length}
 use Rattle.escrow.specs.Codes.{IsArticle, IsBranch, IsKey}
 use Rattle.escrow.specs.Ranges.{IsOrderNo}
@@ -8,7 +8,7 @@ use Rattle.words.specs.declared.command.Request.{Request as RequestOf}
 use Rattle.words.specs.declared.item.Item.{Item}
 use Rattle.words.specs.declared.item.Item.TheVariants.{AskField, AskOrder, Bad, Request}
 
--- the greatest length of a line, as a number, so that another limit of the code is refused
+-- the greatest length of a line, as a number, so that the prover refuses another limit in the code
 abbrev pub longest_line : ℕ
 longest_line = 4096
 

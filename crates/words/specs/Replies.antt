@@ -1,7 +1,9 @@
 -- The text of a reply.
 use Rattle.std.specs.Prelude.{ℕ, List, [], ◌∷◌, codes, decimal}
 use Rattle.words.specs.declared.reply.Refusal.{Refusal}
-use Rattle.words.specs.declared.reply.Refusal.TheVariants.{KeyReused, Full, FieldThere, NoField, BadBounds, OrderThere, NoOrder, Ended, Past, SameField, OtherWay, TooManyLines, TooLittle, TooMuch, NotHeld, OverUse, TransferFixed, ClockBack, Firm, BadCommand}
+use Rattle.words.specs.declared.reply.Refusal.TheVariants.{KeyReused, Full, FieldThere, NoField, BadBounds, OrderThere,
+    NoOrder, Ended, Past, SameField, OtherWay, TooManyLines, TooLittle, TooMuch, NotHeld, OverUse, TransferFixed,
+    ClockBack, Firm, BadCommand}
 use Rattle.words.specs.declared.reply.Reply.{Reply}
 use Rattle.words.specs.declared.reply.Reply.TheVariants.{Done, Refused}
 use Rattle.words.specs.Words.{spaced}
@@ -29,7 +31,7 @@ refusal_code ClockBack = 18
 refusal_code Firm = 19
 refusal_code BadCommand = 20
 
--- its name
+-- the name of a refusal
 abbrev pub refusal_name : Refusal → List ℕ
 refusal_name KeyReused = codes "KeyReused"
 refusal_name Full = codes "Full"
@@ -52,7 +54,7 @@ refusal_name ClockBack = codes "ClockBack"
 refusal_name Firm = codes "Firm"
 refusal_name BadCommand = codes "BadCommand"
 
--- a reply: the place of a command that is done, or a refusal with the line at fault
+-- the text of a reply: `done` with the command's place, or `refused` with number, name and line
 abbrev pub reply_text : Reply → List ℕ
 reply_text (Done place) = spaced (codes "done" ∷ decimal place ∷ [])
 reply_text (Refused refusal line) =

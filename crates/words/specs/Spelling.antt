@@ -5,7 +5,8 @@ use Rattle.escrow.specs.Ranges.{IsLevel, IsMoment, IsOrderNo, IsQty}
 use Rattle.words.specs.OpenLines.{AreOpenLines, line_words, way_word}
 use Rattle.words.specs.Words.{spaced}
 use Rattle.words.specs.declared.command.Command.{Command}
-use Rattle.words.specs.declared.command.Command.TheVariants.{Abort, Commit, Deliver, Expire, Field, Firm, More, Open, Rebound, Release, Transfer, Use, Writeoff}
+use Rattle.words.specs.declared.command.Command.TheVariants.{Abort, Commit, Deliver, Expire, Field, Firm, More, Open,
+    Rebound, Release, Transfer, Use, Writeoff}
 
 -- the words of a command; numbers are in decimal, with no zero in front
 abbrev pub command_words : Command → List (List ℕ)
@@ -24,7 +25,7 @@ command_words (Abort n) = codes "abort" ∷ decimal n ∷ []
 command_words (Firm n) = codes "firm" ∷ decimal n ∷ []
 command_words (Expire now) = codes "expire" ∷ decimal now ∷ []
 
--- its codes are codes, its numbers are in their ranges, and its lines are 1 to 64
+-- the codes have their forms, the numbers are in their ranges, and the order lines are 1 to 64
 abbrev pub IsInRange : Command → Type 0
 IsInRange (Field b a lo hi start) = IsBranch b × IsArticle a × IsLevel lo × IsLevel hi × IsLevel start
 IsInRange (Deliver b a qty) = IsBranch b × IsArticle a × IsQty qty
@@ -41,7 +42,7 @@ IsInRange (Abort n) = IsOrderNo n
 IsInRange (Firm n) = IsOrderNo n
 IsInRange (Expire now) = IsMoment now
 
--- the words in a row
+-- the words of the command in a row
 abbrev pub spelling : Command → List ℕ
 spelling c = spaced (command_words c)
 

@@ -1,5 +1,5 @@
--- A stream of lines that comes in pieces. What has come of a line that has not ended is its bytes (`Some`), or that
--- they are more than a line may have (`None`).
+-- A stream of lines that comes in pieces. Of a line that has not ended, either its bytes are kept (`Some`), or only
+-- the fact that they are more than a line may have (`None`).
 use Rattle.std.specs.Prelude.{◌≡◌, ℕ, List, [], ◌∷◌, ◌++◌, Option, None, Some, if◌then◌else◌, length, nat_le}
 use Rattle.words.specs.Items.{IsItem, longest_line}
 use Rattle.words.specs.Words.{parts_at}
@@ -10,7 +10,7 @@ use Rattle.words.specs.declared.item.Item.TheVariants.{Bad}
 abbrev pub pending : List ℕ → Option (List ℕ)
 pending bytes = if nat_le (length bytes) longest_line then Some bytes else None
 
--- what is kept of a line with these bytes more
+-- what is kept of a line once these bytes have come behind it
 abbrev pub extended : Option (List ℕ) → List ℕ → Option (List ℕ)
 extended None bytes = None
 extended (Some rest) bytes = pending (rest ++ bytes)
@@ -31,17 +31,18 @@ Ends (last ∷ []) items new = (items ≡ []) × (new ≡ pending last)
 Ends (line ∷ next ∷ parts) [] new = ⊥
 Ends (line ∷ next ∷ parts) (item ∷ items) new = IsItem line item × Ends (next ∷ parts) items new
 
--- the same behind an item
+-- the same, with an item before those of the lines
 abbrev pub EndsBehind : Item → List (List ℕ) → List Item → Option (List ℕ) → Type 0
 EndsBehind first parts items new = (more : List Item) × (items ≡ first ∷ more) × Ends parts more new
 
--- the same behind a line that is too long already: where it ends it is bad
+-- The same where the first part goes on a line that is too long already: where that line ends, its item is `Bad`.
 abbrev pub EndsOverlong : List (List ℕ) → List Item → Option (List ℕ) → Type 0
 EndsOverlong [] items new = ⊥
 EndsOverlong (last ∷ []) items new = (items ≡ []) × (new ≡ None)
 EndsOverlong (line ∷ next ∷ parts) items new = EndsBehind Bad (next ∷ parts) items new
 
--- A piece behind what was kept: the items of the lines that end in the two joined, and what is kept behind them.
+-- A piece has come behind what was kept: these are the items of the lines that end in the two joined, and this is
+-- kept then.
 abbrev pub Feeds : Option (List ℕ) → List ℕ → List Item → Option (List ℕ) → Type 0
 Feeds None piece items new = EndsOverlong (parts_at 10 piece) items new
 Feeds (Some rest) piece items new = Ends (parts_at 10 (rest ++ piece)) items new

@@ -1,8 +1,8 @@
--- Bytes in parts, and words with a space between each two.
+-- Bytes in parts, and words with one space between each two.
 use Rattle.std.specs.Prelude.{ℕ, ◌==◌, List, [], ◌∷◌, ◌++◌}
 use Rattle.std.specs.List.{join_with_byte, slice_split}
 
--- what stands between this byte, from its first place to its last
+-- the parts before, between and behind all bytes of that value
 abbrev pub parts_at : ℕ → List ℕ → List (List ℕ)
 parts_at at bytes = slice_split (λ byte. byte == at) bytes
 

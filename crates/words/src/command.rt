@@ -1,10 +1,10 @@
-//! What can be asked of the desk.
+//! What a client can ask the desk to do.
 
 use crate::open_line::OpenLines;
 use crate::spelled::SpelledCommand;
 use escrow::{Article, Branch, Key, Level, Moment, OrderNo, Qty, Way};
 
-/// What is to be done.
+/// A command: one of the thirteen forms that may change the ledger.
 #[derive(Drop)]
 pub enum Command {
     /// Adds a field: the stock of an article at a branch, with its bounds and its start.
@@ -49,7 +49,7 @@ pub enum Command {
         to: Branch,
         qty: Qty,
     },
-    /// Holds an amount more for an order.
+    /// Raises what an order holds on a field.
     More {
         number: OrderNo,
         way: Way,
@@ -79,11 +79,11 @@ pub enum Command {
     Abort {
         number: OrderNo,
     },
-    /// Makes an order firm: it is no longer to be aborted, and what it uses is settled at once.
+    /// Makes an order firm: from then on it is never aborted, and what it uses is settled at once.
     Firm {
         number: OrderNo,
     },
-    /// Moves the clock on, and aborts each open order whose time has come and that is not firm.
+    /// Moves the clock on, and aborts each open order whose moment has come and that is not firm.
     Expire {
         now: Moment,
     },

@@ -1,4 +1,4 @@
-//! What a line is.
+//! What a line of a script says.
 
 ghost use Rattle.std.specs.Prelude.{◌≡◌, ◌≤◌, ◌∷◌, [], List, ℕ, IfNone, IfOk, IfSome, OnErr, codes, decimal, length};
 ghost use Rattle.escrow.specs.Codes.{IsArticle, IsBranch};
@@ -18,7 +18,7 @@ use crate::word::{last_word, word_then};
 use escrow::{Article, Branch, Key, OrderNo};
 use std::alloc::Global;
 
-/// What a line is.
+/// What a line of a script says.
 #[derive(Drop)]
 pub enum Item {
     /// A key and a command.
@@ -31,7 +31,7 @@ pub enum Item {
     Bad,
 }
 
-/// What stands behind the words of an ask.
+/// Returns what stands after the first two words of a question, which are `?` and the noun.
 fn ask_then<'a>(bytes: &'a [u8], noun: &[u8]) -> Option<&'a [u8]>
     ensures found { IfSome result (λ rest. words_of bytes.now ≡ codes "?" ∷ noun.now ∷ words_of rest.now) }
     ensures none { IfNone result ((word : List ℕ) (words : List (List ℕ))
@@ -48,7 +48,7 @@ fn ask_then<'a>(bytes: &'a [u8], noun: &[u8]) -> Option<&'a [u8]>
     Some(rest)
 }
 
-/// An ask for a field.
+/// Reads a question for a field.
 fn read_ask_field(bytes: &[u8]) -> Option<(Branch, Article)>
     ensures form { IfSome result (λ r. IsBranch r.0 × IsArticle r.1) }
     ensures found { IfSome result (λ r. words_of bytes.now ≡ codes "?" ∷ codes "field" ∷ r.0 ∷ r.1 ∷ []) }
@@ -63,7 +63,7 @@ fn read_ask_field(bytes: &[u8]) -> Option<(Branch, Article)>
     Some((branch, article))
 }
 
-/// An ask for an order.
+/// Reads a question for an order.
 fn read_ask_order(bytes: &[u8]) -> Option<OrderNo>
     ensures form { IfSome result IsOrderNo }
     ensures found { IfSome result (λ n. words_of bytes.now ≡ codes "?" ∷ codes "order" ∷ decimal n ∷ []) }
@@ -74,7 +74,7 @@ fn read_ask_order(bytes: &[u8]) -> Option<OrderNo>
     last_word::<OrderNo>(rest)
 }
 
-/// A key and a command.
+/// Reads a key and a command.
 fn read_request(alloc: Global, bytes: &[u8]) -> Result<Option<Request>, Memory>
     ensures found { IfOk result (λ found. IfSome found (IsRequest bytes.now)) }
     ensures none { IfOk result (λ found. IfNone found ((r : Request) → IsRequest bytes.now r → ⊥)) }
@@ -93,8 +93,8 @@ fn read_request(alloc: Global, bytes: &[u8]) -> Result<Option<Request>, Memory>
     }
 }
 
-/// The item that a line is; the line stands without its newline. Memory is wanted only for a request, and for a key
-/// with an `open` behind it.
+/// Reads a line, which is given without its newline. `Memory` is the answer only where the line is a request, or a key
+/// that is followed by what begins as an `open` does.
 pub fn read_item(alloc: Global, line: &[u8]) -> Result<Item, Memory>
     ensures item { IfOk result (λ item. IsItem line.now item) }
     ensures memory { OnErr result (MayWantMemory line.now) }
@@ -115,14 +115,15 @@ pub fn read_item(alloc: Global, line: &[u8]) -> Result<Item, Memory>
     }
 }
 
-/// A line is one item and no other.
+/// Does nothing when run; the contract is a law: each line is exactly one item.
 pub fn exactly_one_item()
     ensures some { (line : List ℕ) → (item : Item) × IsItem line item }
     ensures one { (line : List ℕ) (i j : Item) → IsItem line i → IsItem line j → i ≡ j }
 {}
 
-/// No line that is a request is longer than 2,558 bytes, those of an `open` of 64 lines with the longest key, codes and
-/// numbers. A line may be longer, so the limit of a line refuses no request.
+/// Does nothing when run; the contract is a law. No request is longer than 2,558 bytes: an `open` of 64 order lines
+/// with the longest key, codes and numbers has so many. A line of a script may be longer than that, so the limit of a
+/// line refuses no request.
 pub fn no_request_is_too_long()
     ensures length { (line : List ℕ) (r : Request) → IsRequest line r → length line ≤ 2558 }
     ensures limit { 2558 ≤ MAX_LINE_LEN }

@@ -1,5 +1,5 @@
-//! The desk's grammar: commands and replies, read and written exactly, and a stream of lines cut in any
-//! pieces. Beside it stand the one read and the one write that every stream above goes through.
+//! The desk's grammar: commands and replies, read and written exactly, and a stream of lines cut into any pieces.
+//! Beside the grammar stand the one function that reads and the one that writes for every stream in the crates above.
 #![tactic(auto)]
 
 mod command;

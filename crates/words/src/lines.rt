@@ -13,7 +13,7 @@ use crate::reply::Memory;
 use std::alloc::Global;
 use std::marker::Model;
 
-/// What has come of a line that has not ended: its bytes, at most 4,096, or that they are more.
+/// What has come of a line that has not ended: its bytes, at most 4,096, or only the fact that they are more.
 #[derive(Drop)]
 pub struct Lines {
     rest: Vec<u8>,
@@ -33,7 +33,7 @@ impl Model for Lines {
 }
 
 impl Lines {
-    /// The beginning of a stream. Takes no memory.
+    /// Returns the beginning of a stream. Takes no memory.
     pub fn new(alloc: Global) -> Lines
         ensures { result ≡ Some [] }
     {
@@ -43,8 +43,8 @@ impl Lines {
         }
     }
 
-    /// The stream has ended: `Bad` exactly where bytes stand behind the last newline, which are let go.
-    /// Takes no memory.
+    /// Ends the stream. The result is `Bad` exactly where bytes stand after the last newline. They are dropped, so that
+    /// another stream may begin. Takes no memory.
     pub fn finish(&mut self) -> Option<Item>
         ensures bad { MatchOption result (self.old ≡ Some []) (λ item. (item ≡ Item.Bad) × (self.old ≢ Some [])) }
         ensures empty { self.new ≡ Some [] }
@@ -55,8 +55,8 @@ impl Lines {
         if is_ended { None } else { Some(Item::Bad) }
     }
 
-    /// Takes the next piece of the stream: the items of the lines that end in it. An `Err` has taken in
-    /// nothing. More of a line that is too long wants no memory.
+    /// Takes the next piece of the stream, and returns the items of the lines that end in it. After an `Err` all is as
+    /// before the call. A piece that only lengthens a line which is too long already wants no memory.
     pub fn feed(&mut self, alloc: Global, piece: &[u8]) -> Result<Vec<Item>, Memory>
         ensures ok { IfOk result (λ items. Feeds self.old piece.now items.items self.new) }
         ensures err { OnErr result (self.new ≡ self.old) }
@@ -80,7 +80,7 @@ impl Lines {
         }
     }
 
-    /// A piece in which no line ends.
+    /// Takes a piece in which no line ends.
     fn extend(&mut self, piece: &[u8]) -> Result<(), Memory>
         requires { parts_at 10 piece.now ≡ piece.now ∷ [] }
         ensures ok { OnOk result (self.new ≡ extended self.old piece.now) }
@@ -102,7 +102,7 @@ impl Lines {
         Ok(())
     }
 
-    /// The item of the line that ends with these bytes.
+    /// Returns the item of the line that ends with these bytes.
     fn end_line(&self, alloc: Global, end: &[u8]) -> Result<Item, Memory>
         ensures ok { IfOk result (EndsLine self.now end.now) }
         ensures one { HasNoNewline self.now }
@@ -119,7 +119,7 @@ impl Lines {
         read_item(alloc, &line)
     }
 
-    /// What stands behind the last newline.
+    /// Begins the next line with what stands after the last newline.
     fn restart(&mut self, alloc: Global, rest: &[u8]) -> Result<(), Memory>
         requires { parts_at 10 rest.now ≡ rest.now ∷ [] }
         ensures ok { OnOk result (self.new ≡ pending rest.now) }
@@ -139,7 +139,7 @@ impl Lines {
     }
 }
 
-/// An item, the items of the lines that end in the bytes, and what stands behind the last newline.
+/// Returns the first item with the items of the lines that end in the bytes, and what stands after the last newline.
 fn ended_items(alloc: Global, first: Item, bytes: &[u8]) -> Result<(Vec<Item>, &[u8]), Memory>
     ensures items { IfOk result (λ r. EndsBehind first (parts_at 10 bytes.now) r.0.items (pending r.1.now)) }
     ensures rest { IfOk result (λ r. parts_at 10 r.1.now ≡ r.1.now ∷ []) }
@@ -161,8 +161,8 @@ fn ended_items(alloc: Global, first: Item, bytes: &[u8]) -> Result<(Vec<Item>, &
     Ok((items, rest))
 }
 
-/// A stream may be cut anywhere: a piece gives its items and what is kept behind them, and no others; two
-/// pieces, one after the other, give what the two in one give.
+/// Does nothing when run; the contract is a law. A stream may be cut anywhere. A piece gives exactly one list of items,
+/// and leaves exactly one rest; two pieces, one after the other, give and leave what the two joined do.
 pub fn cuts_do_not_matter()
     ensures some { (old : Option (List ℕ)) (piece : List ℕ) → (items : List Item) × (new : Option (List ℕ))
         × Feeds old piece items new }

@@ -1,4 +1,4 @@
-//! The lines of an `open`.
+//! The order lines of an `open`.
 
 ghost use Rattle.std.specs.Prelude.{◌≡◌, ◌≤◌, ◌↔◌, IsSome, IfSome, length};
 ghost use Rattle.std.specs.List.{All};
@@ -8,7 +8,7 @@ use crate::limits::MAX_ORDER_LINES;
 use escrow::{Article, Branch, Qty, Way};
 use std::marker::Model;
 
-/// A line of an order: an amount to take or to add, of one article at one branch.
+/// An order line of an `open`: an amount to take or to add, of one article at one branch.
 #[derive(Clone, Copy)]
 pub struct OpenLine {
     pub way: Way,
@@ -17,7 +17,7 @@ pub struct OpenLine {
     pub qty: Qty,
 }
 
-/// 1 to 64 lines of an order, in their order.
+/// The 1 to 64 order lines of an `open`, in their order.
 #[derive(Drop)]
 pub struct OpenLines {
     lines: Vec<OpenLine>,
@@ -38,7 +38,7 @@ impl Model for OpenLines {
 impl OpenLines {
     ghost use Rattle.words.specs.OpenLines.{AreOpenLines};
 
-    /// These lines, or `None` exactly where they are none or more than 64.
+    /// Returns these order lines, or `None` exactly where there are none, or more than 64.
     pub fn new(lines: Vec<OpenLine>) -> Option<OpenLines>
         ensures some { IsSome result ↔ ((1 ≤ length lines.items) × (length lines.items ≤ most_lines)) }
         ensures lines { IfSome result (λ made. made ≡ lines.items) }
@@ -51,7 +51,7 @@ impl OpenLines {
         Some(OpenLines { lines })
     }
 
-    /// The lines.
+    /// Returns the order lines.
     pub fn as_slice(&self) -> &[OpenLine]
         ensures value { result.now ≡ self.now }
         ensures form { AreOpenLines self.now }
@@ -59,7 +59,7 @@ impl OpenLines {
         &self.lines
     }
 
-    /// The lines, without taking memory.
+    /// Returns the order lines, without taking memory.
     pub fn into_vec(self) -> Vec<OpenLine>
         ensures value { result.items ≡ self }
         ensures form { AreOpenLines self }
@@ -68,6 +68,7 @@ impl OpenLines {
     }
 }
 
+/// Does nothing when run; the prover learns that the values of each line are in range.
 fn all_in_range(lines: &[OpenLine])
     ensures { All IsOpenLine lines.now }
 {

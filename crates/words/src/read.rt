@@ -18,7 +18,7 @@ use escrow::{Article, Branch, Level, Moment, OrderNo, Qty, Way};
 use std::alloc::{AllocFailed, Global};
 use thiserror::Error;
 
-/// Two bounds and a start that end the line.
+/// Reads two bounds and a start that end the line.
 fn read_levels(bytes: &[u8]) -> Option<(Level, Level, Level)>
     ensures form { IfSome result (λ r. IsLevel r.0 × IsLevel r.1 × IsLevel r.2) }
     ensures found { IfSome result (λ r. words_of bytes.now ≡ decimal r.0 ∷ decimal r.1 ∷ decimal r.2 ∷ []) }
@@ -35,7 +35,7 @@ fn read_levels(bytes: &[u8]) -> Option<(Level, Level, Level)>
     Some((lo, hi, start))
 }
 
-/// A field and a quantity that end the line.
+/// Reads a field and a quantity that end the line.
 fn read_move(bytes: &[u8]) -> Option<(Branch, Article, Qty)>
     ensures form { IfSome result (λ r. IsBranch r.0 × IsArticle r.1 × IsQty r.2) }
     ensures found { IfSome result (λ r. words_of bytes.now ≡ r.0 ∷ r.1 ∷ decimal r.2 ∷ []) }
@@ -52,7 +52,7 @@ fn read_move(bytes: &[u8]) -> Option<(Branch, Article, Qty)>
     Some((branch, article, qty))
 }
 
-/// A field with its bounds and its start.
+/// Reads a field with its bounds and its start.
 fn read_field(bytes: &[u8]) -> Option<Command>
     ensures form { IfSome result IsInRange }
     ensures found { IfSome result (λ c. codes "field" ∷ words_of bytes.now ≡ command_words c) }
@@ -74,7 +74,7 @@ fn read_field(bytes: &[u8]) -> Option<Command>
     })
 }
 
-/// A field with other bounds.
+/// Reads a field with other bounds.
 fn read_rebound(bytes: &[u8]) -> Option<Command>
     ensures form { IfSome result IsInRange }
     ensures found { IfSome result (λ c. codes "rebound" ∷ words_of bytes.now ≡ command_words c) }
@@ -98,7 +98,7 @@ fn read_rebound(bytes: &[u8]) -> Option<Command>
     })
 }
 
-/// A number, a field and a quantity that end the line.
+/// Reads a number, a field and a quantity that end the line.
 fn read_part(bytes: &[u8]) -> Option<(OrderNo, Branch, Article, Qty)>
     ensures form { IfSome result (λ r. IsOrderNo r.0 × IsBranch r.1 × IsArticle r.2 × IsQty r.3) }
     ensures found { IfSome result (λ r. words_of bytes.now ≡ decimal r.0 ∷ r.1 ∷ r.2 ∷ decimal r.3 ∷ []) }
@@ -112,7 +112,7 @@ fn read_part(bytes: &[u8]) -> Option<(OrderNo, Branch, Article, Qty)>
     Some((number, branch, article, qty))
 }
 
-/// A number, a way, a field and a quantity.
+/// Reads a number, a way, a field and a quantity.
 fn read_more(bytes: &[u8]) -> Option<Command>
     ensures form { IfSome result IsInRange }
     ensures found { IfSome result (λ c. codes "more" ∷ words_of bytes.now ≡ command_words c) }
@@ -134,7 +134,7 @@ fn read_more(bytes: &[u8]) -> Option<Command>
     })
 }
 
-/// An article, two branches and a quantity that end the line.
+/// Reads an article, two branches and a quantity that end the line.
 fn read_goods(bytes: &[u8]) -> Option<(Article, Branch, Branch, Qty)>
     ensures form { IfSome result (λ r. IsArticle r.0 × IsBranch r.1 × IsBranch r.2 × IsQty r.3) }
     ensures found { IfSome result (λ r. words_of bytes.now ≡ r.0 ∷ r.1 ∷ r.2 ∷ decimal r.3 ∷ []) }
@@ -154,7 +154,7 @@ fn read_goods(bytes: &[u8]) -> Option<(Article, Branch, Branch, Qty)>
     Some((article, from, to, qty))
 }
 
-/// A number and a moment, and what stands after the space behind them.
+/// Reads a number and a moment, and returns with them what stands after the next space.
 fn terms_then(bytes: &[u8]) -> Option<(OrderNo, Moment, &[u8])>
     ensures form { IfSome result (λ r. IsOrderNo r.0 × IsMoment r.1) }
     ensures found { IfSome result (λ r. words_of bytes.now ≡ decimal r.0 ∷ decimal r.1 ∷ words_of r.2.now) }
@@ -170,7 +170,7 @@ fn terms_then(bytes: &[u8]) -> Option<(OrderNo, Moment, &[u8])>
     Some((number.0, until.0, until.1))
 }
 
-/// A number, a moment, an article, two branches and a quantity.
+/// Reads a number, a moment, an article, two branches and a quantity.
 fn read_transfer(bytes: &[u8]) -> Option<Command>
     ensures form { IfSome result IsInRange }
     ensures found { IfSome result (λ c. codes "transfer" ∷ words_of bytes.now ≡ command_words c) }
@@ -190,7 +190,7 @@ fn read_transfer(bytes: &[u8]) -> Option<Command>
     })
 }
 
-/// A way, a field and a quantity, and what stands after the space behind them.
+/// Reads a way, a field and a quantity, and returns with them what stands after the next space.
 fn line_then(bytes: &[u8]) -> Option<(OpenLine, &[u8])>
     ensures form { IfSome result (λ r. IsOpenLine r.0) }
     ensures found { IfSome result (λ r. words_of bytes.now ≡ line_words (r.0 ∷ []) ++ words_of r.1.now) }
@@ -219,7 +219,7 @@ fn line_then(bytes: &[u8]) -> Option<(OpenLine, &[u8])>
     Some((line, rest))
 }
 
-/// A way, a field and a quantity that end the line.
+/// Reads a way, a field and a quantity that end the line.
 fn last_line(bytes: &[u8]) -> Option<OpenLine>
     ensures form { IfSome result IsOpenLine }
     ensures found { IfSome result (λ line. words_of bytes.now ≡ line_words (line ∷ [])) }
@@ -244,12 +244,12 @@ pub enum WordsFault {
     /// The bytes are no spelling of a command.
     #[error("not a command")]
     BadCommand,
-    /// Memory for the lines of an `open`, or for the words to be kept, was refused.
+    /// Memory was refused: for the order lines of an `open`, or for a copy of the words.
     #[error("out of memory")]
     Memory,
 }
 
-/// Lines that end the line, one at least.
+/// Reads order lines that end the line, one at least.
 fn read_lines(alloc: Global, bytes: &[u8]) -> Result<Vec<OpenLine>, WordsFault>
     ensures found { IfOk result (λ lines. words_of bytes.now ≡ line_words lines.items) }
     ensures bad { IsErrOf result WordsFault.BadCommand → (lines : List OpenLine) → AreOpenLines lines
@@ -272,7 +272,7 @@ fn read_lines(alloc: Global, bytes: &[u8]) -> Result<Vec<OpenLine>, WordsFault>
     Ok(lines)
 }
 
-/// A number, a moment and lines.
+/// Reads a number, a moment and order lines.
 fn read_open(alloc: Global, bytes: &[u8]) -> Result<Command, WordsFault>
     ensures form { IfOk result IsInRange }
     ensures found { IfOk result (λ c. codes "open" ∷ words_of bytes.now ≡ command_words c) }
@@ -295,7 +295,7 @@ fn read_open(alloc: Global, bytes: &[u8]) -> Result<Command, WordsFault>
     }
 }
 
-/// A command about stock: a field, a delivery, a write-off or other bounds.
+/// Reads a command about stock: a field, a delivery, a write-off or other bounds.
 fn read_stock(verb: &[u8], rest: &[u8]) -> Option<Command>
     ensures form { IfSome result IsInRange }
     ensures found { IfSome result (λ c. verb.now ∷ words_of rest.now ≡ command_words c) }
@@ -326,7 +326,7 @@ fn read_stock(verb: &[u8], rest: &[u8]) -> Option<Command>
     None
 }
 
-/// A command that changes what an order holds, or a transfer.
+/// Reads a command that changes what an order holds, or a transfer.
 fn read_order(verb: &[u8], rest: &[u8]) -> Option<Command>
     ensures form { IfSome result IsInRange }
     ensures found { IfSome result (λ c. verb.now ∷ words_of rest.now ≡ command_words c) }
@@ -359,7 +359,7 @@ fn read_order(verb: &[u8], rest: &[u8]) -> Option<Command>
     None
 }
 
-/// A command that ends an order or makes it firm, or moves the clock on.
+/// Reads a command that ends an order or makes it firm, or moves the clock on.
 fn read_end(verb: &[u8], rest: &[u8]) -> Option<Command>
     ensures form { IfSome result IsInRange }
     ensures found { IfSome result (λ c. verb.now ∷ words_of rest.now ≡ command_words c) }
@@ -384,8 +384,8 @@ fn read_end(verb: &[u8], rest: &[u8]) -> Option<Command>
     None
 }
 
-/// The command of which the bytes are the one spelling. `BadCommand` where they are no command's spelling;
-/// `Memory` only where memory for the lines of an `open` was refused.
+/// Returns the command whose one spelling the bytes are. Fails with `BadCommand` where they are no command's spelling,
+/// and with `Memory` only where the bytes begin as an `open` does, and memory for its order lines was refused.
 pub fn read_command(alloc: Global, bytes: &[u8]) -> Result<Command, WordsFault>
     ensures found { IfOk result (λ c. Spells c bytes.now) }
     ensures bad { IsErrOf result WordsFault.BadCommand → (c : Command) → Spells c bytes.now → ⊥ }
@@ -403,7 +403,7 @@ pub fn read_command(alloc: Global, bytes: &[u8]) -> Result<Command, WordsFault>
     }
 }
 
-/// A command that is no `open`.
+/// Reads a command that is no `open`.
 fn read_plain(verb: &[u8], rest: &[u8]) -> Option<Command>
     requires { verb.now ≢ codes "open" }
     ensures form { IfSome result IsInRange }

@@ -28,11 +28,11 @@ impl<T: Drop> From<AllocFailed<T>> for Memory {
 /// Why a command is refused.
 #[derive(Clone, Copy, PartialEq, Eq)]
 pub enum Refusal {
-    /// The key is kept with another command.
+    /// Another command is kept under the key.
     KeyReused,
-    /// No place, field or order more fits.
+    /// The desk is full: it has no place, field or order left for the command.
     Full,
-    /// The field is there.
+    /// The field is there already.
     FieldThere,
     /// There is no such field.
     NoField,
@@ -58,9 +58,9 @@ pub enum Refusal {
     TooMuch,
     /// The order has no line on this field.
     NotHeld,
-    /// More than is held and not used.
+    /// The quantity is more than the order's line holds and has not used.
     OverUse,
-    /// A transfer's lines are fixed.
+    /// The order is a transfer, whose lines are fixed.
     TransferFixed,
     /// The moment is before the clock.
     ClockBack,
@@ -71,7 +71,7 @@ pub enum Refusal {
 }
 
 impl Refusal {
-    /// Its number.
+    /// Returns the number of the refusal.
     pub fn code(self) -> u64
         ensures { result ≡ refusal_code self }
     {
@@ -99,7 +99,7 @@ impl Refusal {
         }
     }
 
-    /// Its name.
+    /// Returns the name of the refusal.
     pub fn name(self) -> &'static str
         ensures { result.now ≡ refusal_name self }
     {
@@ -128,12 +128,13 @@ impl Refusal {
     }
 }
 
-/// The answer to a request.
+/// The reply to a request.
 #[derive(Clone, Copy, PartialEq, Eq)]
 pub enum Reply {
-    /// Done, at this place.
+    /// The command is done, and this is its place.
     Done(u64),
-    /// Refused, with the number of the line at fault, from 1, where a line's check refuses; else 0.
+    /// The command is refused. Where the check of an order line failed, the number is that line's, counted from 1;
+    /// else it is 0.
     Refused(Refusal, u64),
 }
 

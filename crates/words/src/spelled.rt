@@ -1,4 +1,4 @@
-//! A command and its words, which are kept as long as it is.
+//! A command together with its words.
 
 ghost use Rattle.std.specs.Prelude.{◌≡◌, ◌⊎◌, IfOk, IsErrOf};
 ghost use Rattle.words.specs.Spelling.{IsInRange, IsOpening, Spells, spelling};
@@ -30,8 +30,9 @@ impl Model for SpelledCommand {
 }
 
 impl SpelledCommand {
-    /// The command of which the bytes are the one spelling, with these bytes. `BadCommand` where they are no command's
-    /// spelling; `Memory` only where memory for the lines of an `open`, or for the bytes of a command, was refused.
+    /// Returns the command whose one spelling the bytes are, with a copy of them. Fails with `BadCommand` where they
+    /// are no command's spelling, and with `Memory` only where memory was refused for the order lines of an `open`, or
+    /// for the copy of a command's bytes.
     pub fn read(alloc: Global, bytes: &[u8]) -> Result<SpelledCommand, WordsFault>
         ensures found { IfOk result (λ spelled. Spells spelled bytes.now) }
         ensures bad { IsErrOf result WordsFault.BadCommand → (c : Command) → Spells c bytes.now → ⊥ }
@@ -47,7 +48,7 @@ impl SpelledCommand {
         }
     }
 
-    /// The command, spelled.
+    /// Returns the command together with its spelling.
     pub fn of(alloc: Global, command: Command) -> Result<SpelledCommand, Memory>
         ensures { IfOk result (λ spelled. spelled ≡ command) }
     {
@@ -56,7 +57,7 @@ impl SpelledCommand {
         Ok(SpelledCommand { command, bytes })
     }
 
-    /// The command, without its words.
+    /// Returns the command, without its words.
     pub fn command(&self) -> &Command
         ensures value { result.now ≡ self.now }
         ensures range { IsInRange self.now }
@@ -64,7 +65,7 @@ impl SpelledCommand {
         &self.command
     }
 
-    /// The words of the command.
+    /// Returns the words of the command.
     pub fn words(&self) -> &[u8]
         ensures value { result.now ≡ spelling self.now }
         ensures range { IsInRange self.now }

@@ -1,4 +1,4 @@
-//! A piece of a reader, and a whole text to a writer, by single reads and writes.
+//! Reads one piece from a reader, and writes a whole text to a writer.
 
 ghost use Rattle.std.specs.Prelude.{◌≡◌, ◌≤◌, ◌<◌, ℕ, IfOk, OnErr, OnOk, length, take};
 ghost use Rattle.std.specs.Io.KnownBytes.{Appends, Consumes, IsAtEnd, Keeps};
@@ -16,8 +16,9 @@ pub struct ReadFault;
 #[error("writing failed")]
 pub struct WriteFault;
 
-/// One read: how many bytes have come, which stand at the front of the buffer; none only at the end. A
-/// failing read, of whatever kind, is a fault at once and takes nothing.
+/// Makes one read. Returns how many bytes came; they stand at the front of the buffer, and 0 means that the reader is
+/// at its end. Where the read fails, in whatever way, that is the answer at once, and nothing was taken from the
+/// reader.
 pub fn read_piece<R: Read>(reader: &mut R, buffer: &mut [u8]) -> Result<usize, ReadFault>
     requires { 0 < length buffer.old }
     ensures within { IfOk result (λ count. count ≤ length buffer.new) }
@@ -33,8 +34,8 @@ pub fn read_piece<R: Read>(reader: &mut R, buffer: &mut [u8]) -> Result<usize, R
     }
 }
 
-/// Writes the whole text. A failing write, of whatever kind, and one that takes nothing is a fault at once;
-/// then a beginning of the text is written. A text without bytes has no fault.
+/// Writes the whole text. Where a write fails, in whatever way, or takes nothing, that is the answer at once, and a
+/// beginning of the text is written. For a text without bytes the call always succeeds.
 pub fn write_whole<W: Write>(writer: &mut W, text: &[u8]) -> Result<(), WriteFault>
     ensures whole { OnOk result (Appends (W.contents writer.old) (W.contents writer.new) text.now) }
     ensures some { OnErr result (0 < length text.now) }

@@ -12,20 +12,21 @@ use itoa::Buffer;
 
 /// A value that is written as one word.
 pub trait Word: Sized {
-    /// Holds of the values of the type.
+    /// What holds of each value of the type.
     ghost is_value: { Self → Type 0 };
 
     /// The one word of a value.
     ghost text: { Self → List ℕ };
 
-    /// The value of a word, where it is the word of one.
+    /// Returns the value whose word the bytes are, or `None` exactly where they are no value's word.
     fn read_word(bytes: &[u8]) -> Option<Self>
         ensures form { IfSome result is_value }
         ensures found { IfSome result (λ x. bytes.now ≡ text x) }
         ensures none { IfNone result ((x : Self) → is_value x → bytes.now ≢ text x) };
 }
 
-/// The value of the first word, and what stands after the space behind it.
+/// Returns the value of the first word, and what stands after the space that follows it; `None` exactly where there is
+/// no space, or the first word is no value's word.
 pub fn word_then<W: Word>(bytes: &[u8]) -> Option<(W, &[u8])>
     ensures form { IfSome result (λ r. W.is_value r.0) }
     ensures found { IfSome result (λ r. words_of bytes.now ≡ W.text r.0 ∷ words_of r.1.now) }
@@ -42,7 +43,7 @@ pub fn word_then<W: Word>(bytes: &[u8]) -> Option<(W, &[u8])>
     Some((value, rest))
 }
 
-/// The value of the last word.
+/// Returns the value whose word all of the bytes are, or `None` exactly where they are no value's word.
 pub fn last_word<W: Word>(bytes: &[u8]) -> Option<W>
     ensures form { IfSome result W.is_value }
     ensures found { IfSome result (λ x. words_of bytes.now ≡ W.text x ∷ []) }
@@ -54,7 +55,8 @@ pub fn last_word<W: Word>(bytes: &[u8]) -> Option<W>
     W::read_word(bytes)
 }
 
-/// The number that the bytes write in decimal with no zero in front, where it is at most 4,000,000,000.
+/// Returns the number that the bytes spell in decimal without a zero in front, or `None` exactly where they spell none
+/// that is at most 4,000,000,000.
 pub fn read_number(bytes: &[u8]) -> Option<u64>
     ensures range { IfSome result (λ n. n ≤ MAX_MOMENT) }
     ensures found { IfSome result (λ n. bytes.now ≡ decimal n) }
@@ -77,7 +79,7 @@ pub fn read_number(bytes: &[u8]) -> Option<u64>
     }
 }
 
-/// The way that is written `take` or `add`.
+/// Returns the way that the bytes spell, as `take` or `add`.
 pub fn read_way(bytes: &[u8]) -> Option<Way>
     ensures found { IfSome result (λ way. bytes.now ≡ way_word way) }
     ensures none { IfNone result ((way : Way) → bytes.now ≢ way_word way) }

@@ -57,7 +57,7 @@ fn push_way(out: &mut Vec<u8>, way: Way) -> Result<(), AllocError>
     }
 }
 
-/// Appends a line of an order.
+/// Appends an order line.
 fn push_line(out: &mut Vec<u8>, line: &OpenLine) -> Result<(), AllocError>
     ensures { OnOk result (out.new.items ≡ out.old.items ++ after_space (line_words (line.now ∷ []))) }
 {
@@ -65,7 +65,7 @@ fn push_line(out: &mut Vec<u8>, line: &OpenLine) -> Result<(), AllocError>
     push_move(out, line.branch, line.article, line.qty)
 }
 
-/// Appends lines of an order.
+/// Appends order lines.
 fn push_lines(out: &mut Vec<u8>, lines: &[OpenLine]) -> Result<(), AllocError>
     ensures { OnOk result (out.new.items ≡ out.old.items ++ after_space (line_words lines.now)) }
 {
@@ -283,7 +283,7 @@ fn push_command(out: &mut Vec<u8>, command: &Command) -> Result<(), AllocError>
     }
 }
 
-/// Appends the one spelling of a command. After a refusal the vector's content is as it was.
+/// Appends the one spelling of a command. Where memory is refused, the content of the vector stays as it was.
 pub fn write_command(command: &Command, out: &mut Vec<u8>) -> Result<(), Memory>
     ensures ok { OnOk result (out.new.items ≡ out.old.items ++ spelling command.now) }
     ensures range { OnOk result (IsInRange command.now) }

@@ -1,22 +1,19 @@
--- How lines and orders change in place, and when they may; a command's effect as the code has it.
-use Rattle.std.specs.Prelude.{ℕ, ◌+◌, ◌<◌, ◌≤◌, ◌≡◌, ◌||◌, true, List, [], ◌∷◌, ◌++◌, MatchOption, Some, find, if◌then◌else◌, is_some, map}
+-- How lines and orders change in place, and when they may change so.
+use Rattle.std.specs.Prelude.{ℕ, ◌+◌, ◌<◌, ◌≤◌, ◌≡◌, ◌||◌, true, List, [], ◌∷◌, ◌++◌, MatchOption, Some, find,
+    if◌then◌else◌, is_some, map}
 use Rattle.std.specs.List.{AllByRecursion as Each}
-use Rattle.std.specs.Option.{option_map_or}
 use Rattle.std.specs.Vec.{vec_capacity, vec_len}
 use Rattle.escrow.specs.Ranges.{IsLevel}
 use Rattle.words.specs.declared.open_line.OpenLine.{OpenLine}
-use Rattle.book.specs.declared.book.made.Effect.{Effect as Seen}
-use Rattle.book.specs.declared.book.made.Effect.TheVariants as seen
 use Rattle.book.specs.declared.book.made.LineChange.{LineChange}
 use Rattle.book.specs.declared.book.made.LineChange.TheVariants.{Hold, Release, Use}
 use Rattle.book.specs.declared.book.made.OrderChange.{OrderChange}
 use Rattle.book.specs.declared.book.made.OrderChange.TheVariants.{ChangeLines, End, HoldMore, MakeFirm}
 use Rattle.book.specs.declared.order.OrderEntry.{OrderEntry}
 use Rattle.ledger.specs.declared.order.Line.{Line}
-use Rattle.ledger.specs.declared.order.State.TheVariants.{Aborted}
 use Rattle.ledger.specs.Ledger.{Ledger, Order, line_name, on, order_numbered, transfer_kind}
 use Rattle.book.specs.Model.{order_of}
-use Rattle.ledger.specs.Next.{Changes, Effect, Nothing, Opens, add_hold, change_lines, expires, lower_held, new_line, numbered, raise_held, raise_used, set_firm, set_state}
+use Rattle.ledger.specs.Next.{add_hold, change_lines, lower_held, new_line, raise_held, raise_used, set_firm, set_state}
 
 abbrev pub changed_line : LineChange → Line → Line
 changed_line (Hold q) l = raise_held q l
@@ -35,13 +32,13 @@ changed_order (ChangeLines f change) o = change_lines f (changed_line change) o
 changed_order (End state) o = set_state state o
 changed_order MakeFirm o = set_firm o
 
--- the lines of an order, of which the one on the field holds more, or with one more at the end
+-- the lines of an order, where the one on the field holds more, or else with one more line at the end
 abbrev pub held_lines : OpenLine → List Line → List Line
 held_lines l lines = let f = line_name (new_line l) in
     if is_some (find (on f) lines) then map (λ m. if on f m then raise_held l.qty m else m) lines
     else lines ++ new_line l ∷ []
 
--- Each line that changes may; a line more at the end fits without memory.
+-- Each line that changes may change so, and a line more at the end fits without more memory.
 abbrev pub MayChangeOrder : OrderChange → OrderEntry → Type 0
 MayChangeOrder (HoldMore l) o =
     MatchOption (find (on (line_name (new_line l))) o.lines.items) (vec_len o.lines < vec_capacity o.lines)
@@ -51,23 +48,12 @@ MayChangeOrder (ChangeLines f change) o =
 MayChangeOrder (End state) o = Unit {0}
 MayChangeOrder MakeFirm o = Unit {0}
 
--- what the command does to the orders
-abbrev pub effect_seen : Seen → Effect
-effect_seen seen.Nothing = Nothing
-effect_seen (seen.Opens o) = Opens (order_of o)
-effect_seen (seen.Changes n change) = Changes (numbered n) (changed_order change)
-effect_seen (seen.Expires now) = Changes (expires now) (set_state Aborted)
-
--- the order under that number, changed, if there is one
-abbrev pub made_of : Ledger → OrderChange → ℕ → List Order
-made_of A change n = option_map_or (λ o. changed_order change o ∷ []) (order_numbered A n) []
-
 -- how many lines more the change may want
 abbrev pub lines_wanted : OrderChange → ℕ
 lines_wanted (HoldMore l) = 1
 lines_wanted change = 0
 
--- a copy with room for these may be changed so
+-- a copy of the order with room for these lines may be changed so
 abbrev pub MayChangeUnder : Ledger → ℕ → OrderChange → Type 0
 MayChangeUnder A n change = (entry : OrderEntry) → order_numbered A n ≡ Some (order_of (n, entry))
     → vec_len entry.lines + lines_wanted change ≤ vec_capacity entry.lines → MayChangeOrder change entry

@@ -11,7 +11,7 @@ use Rattle.words.specs.declared.command.Command.{Command}
 use Rattle.words.specs.declared.command.Command.TheVariants as command
 use Rattle.words.specs.declared.open_line.OpenLine.{OpenLine}
 
--- the command that these bytes spell
+-- a command that these bytes spell
 abbrev pub Spelled : List ℕ → Type 0
 Spelled bytes = (c : Command) × Spells c bytes
 
@@ -33,7 +33,7 @@ range-prop (command.Abort n) = hlevel props
 range-prop (command.Firm n) = hlevel props
 range-prop (command.Expire now) = hlevel props
 
--- they spell one
+-- the bytes spell at most one command
 pub Spelled-prop : (bytes : List ℕ) → IsProp (Spelled bytes)
 Spelled-prop bytes (c, h) (d, k) =
     Σ_prop_path (λ c. ×_prop (range-prop c) (Coded-set (coded_list coded_ℕ) _ _))

@@ -6,7 +6,7 @@ use Rattle.std.specs.Ordering.{match_ordering, nat_cmp}
 use Rattle.ledger.specs.Ledger.{open_state}
 use Rattle.book.specs.declared.order.OrderEntry.{OrderEntry}
 
--- the numbers of those that are open
+-- the numbers of the orders that are open
 abbrev pub open_numbers : List (ℕ × OrderEntry) → List ℕ
 open_numbers entries = keys_of (filter (λ e. open_state e.1.state) entries)
 
@@ -14,7 +14,8 @@ open_numbers entries = keys_of (filter (λ e. open_state e.1.state) entries)
 abbrev pub is_open_from : ℕ → ℕ × OrderEntry → Bool
 is_open_from n e = open_state e.1.state && nat_le n e.0
 
--- for how many orders more there is room, where their list has room for so many, and that of open ones for so many in all
+-- For how many orders more there is room, where the list of all has room for `room` more, and the list of open ones
+-- has room for `capacity` in all.
 abbrev pub room_for : (room capacity count : ℕ) → ℕ
 room_for room capacity count = min room (capacity - count)
 

@@ -1,5 +1,7 @@
 -- Plans as the book sees them: parts, and the rows that change.
 use Rattle.std.specs.Prelude.{◌≡◌, pos, [], ◌∷◌, map, option_map}
+use Rattle.escrow.specs.Codes.{IsKey}
+use Rattle.words.specs.Spelling.{IsInRange}
 use Rattle.book.specs.Model.{entry_row, move_of, order_of, slots_of}
 use Rattle.ledger.specs.Next.{move_made}
 use Rattle.book.specs.Plans.{PlanView}
@@ -16,8 +18,10 @@ plan_of p changes = record {
   changes = changes;
 }
 
--- What the parts hold beside that is told by the rows and the command: the clock, the fields, and the move.
+-- The rows and the command say what else the parts hold: the clock, the fields, and the move. Key and words are in range.
 pub record AreTold (p : PlanParts) (changes : Content) : Type 0 where
+  pub key : IsKey p.key
+  pub range : IsInRange p.words
   pub clock : map (λ row. row.clock) changes.desk ≡ pos p.clock ∷ []
   pub fields : map entry_row p.fields.entries ≡ changes.fields
   pub moved : option_map move_of p.moved ≡ move_made p.place p.words

@@ -1,5 +1,6 @@
--- What the rows of tables tell: each row an entry, and rows of orders and lines together the orders.
-use Rattle.std.specs.Prelude.{ℕ, ◌+◌, ◌+ℤ◌, ◌-ℤ◌, ◌≤◌, ◌≡◌, ◌≢◌, pos, nat_abs, nat_eq, List, [], ◌∷◌, length, map, flat_map, if◌then◌else◌, string_bytes, IsSomeAnd, IsTrue, Option}
+-- What the rows of tables say: each row gives an entry, and the rows of orders and of lines together give the orders.
+use Rattle.std.specs.Prelude.{ℕ, ◌+◌, ◌+ℤ◌, ◌-ℤ◌, ◌≤◌, ◌≡◌, ◌≢◌, pos, nat_abs, nat_eq, List, [], ◌∷◌, length, map,
+    flat_map, if◌then◌else◌, string_bytes, IsSomeAnd, IsTrue, Option}
 use Rattle.std.specs.Ordering.{nat_cmp}
 use Rattle.std.specs.Cmp.Lexicographic.{slice_cmp}
 use Rattle.std.specs.List.Sorted.{IsStrictlySortedBy}
@@ -27,12 +28,13 @@ use Rattle.ledger.specs.declared.rows.MoveRow.{MoveRow}
 use Rattle.ledger.specs.declared.rows.OrderRow.{OrderRow}
 use Rattle.ledger.specs.Good.{Good, IsGoodField, IsGoodKept, IsTransferPair}
 use Rattle.ledger.specs.Ledger.{Ledger, Move, Name, Order, is_transfer, line_name, name_cmp, open_orders, places, same_name}
-use Rattle.ledger.specs.Rows.{FirmCells, LineCells, OrderCells, firm_row, firm_rows, kind_code, kept_row, move_row, order_lines, order_row, state_code, way_code}
+use Rattle.ledger.specs.Rows.{FirmCells, LineCells, OrderCells, firm_row, firm_rows, kind_code, kept_row, move_row,
+    order_lines, order_row, state_code, way_code}
 use Rattle.book.specs.inner.RunningNumbers.{IsUpToDate}
 use Rattle.ledger.specs.Tables.{kept_cells, line_cells, move_cells, order_cells}
 use Rattle.book.specs.Model.{field_of, kept_of, move_of, order_of}
 
--- the row tells the line, of whatever order and number
+-- the row gives the line, of whatever order and number
 pub record TellsLine (l : Line) (row : LineCells) : Type 0 where
   pub branch : row.branch ≡ l.branch
   pub article : row.article ≡ l.article
@@ -50,7 +52,7 @@ pub record IsBounded (q : Stock) : Type 0 where
   pub low : q.lo + q.held_to_take ≤ q.value
   pub high : q.value + q.held_to_add ≤ q.hi
 
--- the row has the numbers of the quantity
+-- the row gives the numbers of the quantity
 pub record IsQuantityTold (q : Stock) (row : FieldRow) : Type 0 where
   pub bounded : IsBounded q
   pub greatest : IsLevel q.hi
@@ -96,11 +98,11 @@ pub record IsKeptTold (e : List ℕ × KeptEntry) (row : KeptRow) : Type 0 where
 abbrev pub head_of : Order → Head
 head_of o = record { number = o.number; kind = o.kind; until = o.until; state = o.state; firm = o.firm }
 
--- the row that marks it, if it is firm
+-- the row that marks the order as firm, if it is firm
 abbrev pub mark_rows : Head → List FirmCells
 mark_rows h = if h.firm then firm_row h.number ∷ [] else []
 
--- the rows of orders, and those of firm ones, tell these heads
+-- the rows of orders, and those of firm ones, give these heads
 pub record TellHeads (heads : List Head) (orders : List OrderCells) (firms : List FirmCells) : Type 0 where
   pub orders_are : map head_row heads ≡ orders
   pub firms_are : flat_map mark_rows heads ≡ firms
@@ -119,13 +121,14 @@ abbrev pub BeginsOther : ℕ → List LineRow → Type 0
 BeginsOther number [] = Unit {0}
 BeginsOther number (row ∷ rows) = row.number ≡ pos number → ⊥
 
--- the rows of orders and lines tell these orders
+-- the rows of orders and lines give these orders
 pub record TellOrders (orders : List Order) (heads : List Head) (lines : List LineCells) : Type 0 where
   pub heads_are : map head_of orders ≡ heads
   pub lines_are : flat_map order_lines orders ≡ lines
 
 -- these are the rows of the orders, of their lines, and of those that are firm
-pub record AreRowsOfOrders (os : List Order) (orders : List OrderCells) (lines : List LineCells) (firms : List FirmCells) : Type 0 where
+pub record AreRowsOfOrders (os : List Order) (orders : List OrderCells) (lines : List LineCells)
+    (firms : List FirmCells) : Type 0 where
   pub orders_are : orders ≡ map order_row os
   pub lines_are : lines ≡ flat_map order_lines os
   pub firms_are : firms ≡ flat_map firm_rows os
@@ -141,19 +144,20 @@ told_ledger e = record {
   kept = map kept_of e.kept.items;
 }
 
--- what its clock, its fields and its kept keys are by themselves
+-- the clock is in range, and fields and kept keys are good by themselves
 pub record IsInForm (A : Ledger) : Type 0 where
   pub clock : IsMoment A.clock
   pub fields : Each IsGoodField A.fields
   pub kept : Each IsGoodKept A.kept
 
--- its place is taken, and its amount is a quantity, up or down; whether its field is there is not said
+-- a move is good by itself: its place is taken, and its amount is a quantity, up or down; it is not said whether its
+-- field is there
 pub record IsMoveByItself (places : ℕ) (m : Move) : Type 0 where
   pub first : 1 ≤ m.place
   pub last : m.place ≤ places
   pub size : IsQty (nat_abs m.amount)
 
--- all that makes an order good but that its fields are there
+-- an order is good by itself: all that makes it good, but that its fields are there
 pub record IsOrderByItself (o : Order) : Type 0 where
   pub number : IsOrderNo o.number
   pub until : IsMoment o.until
@@ -176,7 +180,8 @@ pub record IsWithinLimits (A : Ledger) : Type 0 where
   pub orders : length A.orders ≤ MAX_ORDERS
   pub places : places A + open_orders A ≤ MAX_PLACES
 
--- all that makes what was told a good ledger but its form, that the fields are there, and that each is safe
+-- all that makes the ledger of these entries good, but its form, that the fields are there, and that each field is
+-- safe
 pub record IsWhole (e : Entries) : Type 0 where
   pub in_order : AreInOrder e
   pub limits : IsWithinLimits (told_ledger e)
@@ -195,6 +200,6 @@ pub record HasNumbers (n : Numbers) (e : FieldEntry) : Type 0 where
 abbrev pub HaveNumbers : (Name → Numbers) → List (Name × FieldEntry) → Type 0
 HaveNumbers numbers fields = Each (λ e. HasNumbers (numbers e.0) e.1) fields
 
--- what was told is a good ledger, and the entry of each field is up to date
+-- the entries are those of a good ledger, and the entry of each field is up to date
 abbrev pub AreGood : Entries → Type 0
 AreGood e = Good (told_ledger e) × Each (IsUpToDate (told_ledger e)) e.fields.items

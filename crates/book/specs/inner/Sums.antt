@@ -1,5 +1,6 @@
 -- What all moves and orders add up to on each of the fields.
-use Rattle.std.specs.Prelude.{◌≡◌, ℕ, ◌<◌, ◌≤◌, Bool, nat_abs, pos, ◌+ℤ◌, List, [], ◌∷◌, length, map, Option, find, if◌then◌else◌, IsSome}
+use Rattle.std.specs.Prelude.{◌≡◌, ℕ, ℤ, ◌<◌, ◌≤◌, Bool, nat_abs, pos, ◌+ℤ◌, List, [], ◌∷◌, length, map, Option, find,
+    if◌then◌else◌, IsSome}
 use Rattle.std.specs.List.{AllByRecursion as Each, HoldsAt}
 use Rattle.std.specs.List.Sorted.{IsStrictlySortedBy}
 use Rattle.std.specs.Map.{keys_of}
@@ -12,19 +13,19 @@ use Rattle.book.specs.declared.book.MoveEntry.{MoveEntry}
 use Rattle.book.specs.declared.order.OrderEntry.{OrderEntry}
 use Rattle.ledger.specs.declared.order.Line.{Line}
 use Rattle.ledger.specs.declared.order.State.{State}
-use Rattle.ledger.specs.Ledger.{Field, Name, line_name, name_cmp, open_state, same_name, settled_state, unsettled}
-use Rattle.ledger.specs.Outcomes.{signed, total}
-use Rattle.ledger.specs.Held.{if_add, if_take}
+use Rattle.ledger.specs.Ledger.{Field, Name, line_name, name_cmp, on, same_name}
+use Rattle.ledger.specs.Outcomes.{Part, settled_part, share_of, total}
+use Rattle.ledger.specs.Held.{add_part, take_part}
 use Rattle.book.specs.Model.{field_of, move_of}
-use Rattle.book.specs.inner.Walk.{added_by_entry, moved_by_line, moved_by_move, moved_by_entry, nothing, IsSmall, plus, taken_by_entry}
-use Rattle.ledger.specs.Held.{added_by_line, taken_by_line}
+use Rattle.book.specs.inner.RunningNumbers.{share_numbers}
+use Rattle.book.specs.inner.Walk.{moved_by_move, nothing, IsSmall, part_of_entry, plus}
 
 -- what the moves and the orders add up to on the field
 abbrev pub numbers_on : List MoveEntry → List (ℕ × OrderEntry) → Name → Numbers
 numbers_on ms os f = record {
-  moved = total (moved_by_move f) ms +ℤ total (moved_by_entry f) os;
-  takes = total (taken_by_entry f) os;
-  adds = total (added_by_entry f) os;
+  moved = total (moved_by_move f) ms +ℤ total (part_of_entry settled_part f) os;
+  takes = total (part_of_entry take_part f) os;
+  adds = total (part_of_entry add_part f) os;
 }
 
 -- ---- the fields that entries are on
@@ -68,12 +69,12 @@ AreOnFields fs ms os = AreMovesOnFields fs ms × AreOrdersOnFields fs os
 
 -- ---- how much there may be
 
--- so many moves, of such amounts, as there can be
+-- there are at most so many moves as there can be, and their amounts are in range
 pub record AreFewMoves (ms : List MoveEntry) : Type 0 where
   pub few : length ms ≤ MAX_PLACES
   pub amounts : Each (λ m. IsQty (nat_abs m.amount)) ms
 
--- so many orders, of so many lines, as there can be
+-- there are at most so many orders as there can be, each with at most so many lines
 pub record AreFewOrders (os : List (ℕ × OrderEntry)) : Type 0 where
   pub few : length os ≤ MAX_ORDERS
   pub short : Each (λ o. length o.1.lines.items ≤ MAX_ORDER_LINES) os
@@ -98,16 +99,16 @@ added part (f ∷ fs) (n ∷ ns) = plus n (part (entry_name f)) ∷ added part f
 
 -- what a line adds to its field, where its order has the state, and is firm or not
 abbrev pub part_of_line : State → Bool → Line → Numbers
-part_of_line s firm l = record {
-  moved = if settled_state s firm then signed l.way l.used else pos 0;
-  takes = if open_state s then pos (if_take l.way (unsettled firm l l.held)) else pos 0;
-  adds = if open_state s then pos (if_add l.way (unsettled firm l l.held)) else pos 0;
-}
+part_of_line s firm l = share_numbers l.way (share_of s firm l)
+
+-- what it adds to a part of the field's stock
+abbrev pub line_part : Part → State → Bool → Name → Line → ℤ
+line_part part s firm f l = if on f l then part l.way (share_of s firm l) else pos 0
 
 -- what the lines of an order in that state add up to on the field
 abbrev pub lines_numbers : State → Bool → List Line → Name → Numbers
 lines_numbers s firm ls f = record {
-  moved = if settled_state s firm then total (moved_by_line f) ls else pos 0;
-  takes = if open_state s then total (taken_by_line firm f) ls else pos 0;
-  adds = if open_state s then total (added_by_line firm f) ls else pos 0;
+  moved = total (line_part settled_part s firm f) ls;
+  takes = total (line_part take_part s firm f) ls;
+  adds = total (line_part add_part s firm f) ls;
 }

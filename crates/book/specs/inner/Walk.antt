@@ -6,29 +6,17 @@ use Rattle.ledger.specs.declared.limits.TheConstants.{MAX_ORDERS, MAX_PLACES}
 use Rattle.book.specs.declared.book.tables.sums.Numbers.{Numbers}
 use Rattle.book.specs.declared.book.MoveEntry.{MoveEntry}
 use Rattle.book.specs.declared.order.OrderEntry.{OrderEntry}
-use Rattle.ledger.specs.declared.order.Line.{Line}
-use Rattle.ledger.specs.Ledger.{Name, on, same_name}
-use Rattle.ledger.specs.Outcomes.{moved_by_order, signed}
-use Rattle.ledger.specs.Held.{added_by_order, taken_by_order}
+use Rattle.ledger.specs.Ledger.{Name, same_name}
+use Rattle.ledger.specs.Outcomes.{Part, part_of}
 use Rattle.book.specs.Model.{move_of, order_of}
 
 -- what a delivery or a write-off moves on the field
 abbrev pub moved_by_move : Name → MoveEntry → ℤ
 moved_by_move f e = if same_name f (move_of e).field then e.amount else pos 0
 
--- what a line moves on the field once it is settled
-abbrev pub moved_by_line : Name → Line → ℤ
-moved_by_line f l = if on f l then signed l.way l.used else pos 0
-
--- what an order has moved, if that is settled, and what it holds to take and to add, if it is open
-abbrev pub moved_by_entry : Name → ℕ × OrderEntry → ℤ
-moved_by_entry f o = moved_by_order f (order_of o)
-
-abbrev pub taken_by_entry : Name → ℕ × OrderEntry → ℤ
-taken_by_entry f o = taken_by_order f (order_of o)
-
-abbrev pub added_by_entry : Name → ℕ × OrderEntry → ℤ
-added_by_entry f o = added_by_order f (order_of o)
+-- what the entry's order adds to a part of the field's stock
+abbrev pub part_of_entry : Part → Name → ℕ × OrderEntry → ℤ
+part_of_entry part f o = part_of part f (order_of o)
 
 -- ---- numbers together
 

@@ -1,6 +1,5 @@
 //! The rows that an accepted request changes.
 
-ghost use Rattle.std.specs.List.{AllByRecursion as Each};
 ghost use Rattle.std.specs.Option.{option_copied};
 ghost use Rattle.std.specs.Prelude.{◌≡◌, ◌≤◌, string_bytes, IfOk, ◌∷◌, [], length, map, OnOk};
 ghost use Rattle.std.specs.Str.{IsUtf8};
@@ -9,11 +8,15 @@ ghost use Rattle.ledger.specs.Changes.{amount_rows};
 ghost use Rattle.ledger.specs.Next.{next};
 ghost use Rattle.ledger.specs.Rows.{desk_of, kept_row, kind_code, line_row, move_row, order_row, state_code, way_code};
 ghost use Rattle.ledger.specs.inner.Shares.{Accepts};
-ghost use Rattle.book.specs.inner.StepsSeen.{Makes, joined, step_rows, step_seen, step_to};
+ghost use Rattle.words.specs.declared.command.Command.{Command};
+ghost use Rattle.book.specs.inner.Checking.{IsFound};
+ghost use Rattle.book.specs.inner.StepsSeen.{Makes, joined, step_rows, step_seen};
+ghost use Rattle.ledger.specs.Steps.{steps_of};
 ghost use Rattle.ledger.specs.Tables.{desk_cells, field_cells, kept_cells, line_cells, move_cells, no_content, order_cells, rows_among};
 ghost use Rattle.book.specs.Model.{entry_row, move_of, order_of};
 ghost use Rattle.book.specs.Plans.{ChangesTo};
 
+use super::checks::Found;
 use super::plan::PlanParts;
 use super::steps::{becomes_firm, changes_line, changes_state, line_before};
 use super::{Book, FieldEntry, MoveEntry};
@@ -26,9 +29,9 @@ use ledger::{
     OrderRow, SCHEMA_VERSION, State,
 };
 use std::alloc::Global;
-use words::{Command, Memory, Request};
+use words::{Memory, Request};
 
-/// The text of these bytes.
+/// Returns the text of these bytes.
 fn text_of(alloc: Global, bytes: &[u8]) -> Result<String, Memory>
     requires { IsUtf8 bytes.now }
     ensures { IfOk result (λ text. string_bytes text ≡ bytes.now) }
@@ -42,19 +45,19 @@ fn text_of(alloc: Global, bytes: &[u8]) -> Result<String, Memory>
 fn branch_text(alloc: Global, branch: Branch) -> Result<String, Memory>
     ensures { IfOk result (λ text. string_bytes text ≡ branch) }
 {
-    text_of(alloc, branch.as_bytes())
+    Ok(String::from_str(alloc, branch.as_str())?)
 }
 
 fn article_text(alloc: Global, article: Article) -> Result<String, Memory>
     ensures { IfOk result (λ text. string_bytes text ≡ article) }
 {
-    text_of(alloc, article.as_bytes())
+    Ok(String::from_str(alloc, article.as_str())?)
 }
 
 fn key_text(alloc: Global, key: Key) -> Result<String, Memory>
     ensures { IfOk result (λ text. string_bytes text ≡ key) }
 {
-    text_of(alloc, key.as_bytes())
+    Ok(String::from_str(alloc, key.as_str())?)
 }
 
 fn kind_code(kind: Kind) -> i64
@@ -85,7 +88,7 @@ fn way_code(way: Way) -> i64
     }
 }
 
-/// The row of a field.
+/// Returns the row of a field.
 fn field_row(alloc: Global, field: &(FieldName, FieldEntry)) -> Result<FieldRow, Memory>
     ensures { IfOk result (λ row. field_cells row ≡ entry_row field.now) }
 {
@@ -103,7 +106,7 @@ fn field_row(alloc: Global, field: &(FieldName, FieldEntry)) -> Result<FieldRow,
     })
 }
 
-/// The row of the order.
+/// Returns the row of the order.
 fn order_row(order: &Order) -> OrderRow
     ensures { order_cells result ≡ order_row (order_of order.now) }
 {
@@ -116,7 +119,7 @@ fn order_row(order: &Order) -> OrderRow
     }
 }
 
-/// The row of a line of the order, which counts from 1.
+/// Returns the row of an order line; `nr` is its number in the order, counted from 1.
 fn line_row(alloc: Global, number: OrderNo, nr: usize, line: &Line) -> Result<LineRow, Memory>
     requires { nr ≤ MAX_ORDER_LINES }
     ensures { IfOk result (λ row. line_cells row ≡ line_row number nr line.now) }
@@ -132,7 +135,7 @@ fn line_row(alloc: Global, number: OrderNo, nr: usize, line: &Line) -> Result<Li
     })
 }
 
-/// The row of a move.
+/// Returns the row of a move.
 fn move_row(alloc: Global, entry: &MoveEntry) -> Result<MoveRow, Memory>
     requires { entry.now.place ≤ MAX_PLACES }
     ensures { IfOk result (λ row. move_cells row ≡ move_row (move_of entry.now)) }
@@ -145,7 +148,7 @@ fn move_row(alloc: Global, entry: &MoveEntry) -> Result<MoveRow, Memory>
     })
 }
 
-/// The row of a kept key.
+/// Returns the row of a kept key.
 fn kept_row(alloc: Global, key: Key, place: u64, words: &KeptWords) -> Result<KeptRow, Memory>
     requires { place ≤ MAX_PLACES }
     ensures { IfOk result (λ row. kept_cells row ≡ kept_row
@@ -158,7 +161,7 @@ fn kept_row(alloc: Global, key: Key, place: u64, words: &KeptWords) -> Result<Ke
     })
 }
 
-/// The row of a desk.
+/// Returns the row of a desk.
 fn desk_row(clock: Moment, places: u64) -> DeskRow
     requires { places ≤ MAX_PLACES }
     ensures { desk_cells result ≡ desk_of clock places }
@@ -187,7 +190,7 @@ fn push_fields(
     Ok(())
 }
 
-/// Appends the rows of the lines of the order that are new or of which an amount changes.
+/// Appends the rows of those order lines that are new or whose amounts change.
 fn push_lines(
     alloc: Global,
     changes: &mut Vec<Change>,
@@ -207,69 +210,53 @@ fn push_lines(
     Ok(())
 }
 
+/// Appends the rows that change as the order becomes `after`: its own row, if the order is new or its state changes,
+/// the rows of its lines, and the row that marks it as firm, if that is new.
+#[tactic(auto, using(crate::proofs::Among::appended))]
+pub(super) fn push_rows(
+    alloc: Global,
+    changes: &mut Vec<Change>,
+    before: Option<&OrderEntry>,
+    after: &Order,
+) -> Result<(), Memory>
+    requires { length after.now.1.lines.items ≤ MAX_ORDER_LINES }
+    ensures { OnOk result (rows_among changes.new.items ≡ joined (rows_among changes.old.items)
+        (step_rows (step_seen (option_copied before.entry) after.now ∷ []))) }
+{
+    if changes_state(before, after) {
+        changes.push(Change::Order(order_row(after)))?;
+    }
+    push_lines(alloc, changes, before, after)?;
+    if becomes_firm(before, after) {
+        let number = after.0.get() as i64;
+        changes.push(Change::Firm(FirmRow { number }))?;
+    }
+    Ok(())
+}
+
 impl Book {
-    /// The clock once the command is carried out.
-    pub(super) fn clock_after(&self, command: &Command) -> Moment
-        ensures { result ≡ (next self.now.ledger command.now).clock }
+    /// Returns the clock as it is once a command is carried out; `found` is what its checks found.
+    pub(super) fn clock_after(&self, found: &Found<'_>) -> Moment
+        ensures { (c : Command) → IsFound self.now.ledger c found.now → result ≡ (next self.now.ledger c).clock }
     {
-        match command {
-            Command::Expire { now } => *now,
+        match *found {
+            Found::Clock(now) => now,
             _ => self.clock,
         }
     }
 
-    /// Appends the rows that change as the order becomes this one: its own, if it is new or its state changes, those of
-    /// its lines, and the one that marks it as firm, if that is new.
-    #[tactic(auto, using(crate::proofs::Among::appended))]
-    fn push_step(
-        &self,
-        alloc: Global,
-        changes: &mut Vec<Change>,
-        order: &Order,
-    ) -> Result<(), Memory>
-        requires { length order.now.1.lines.items ≤ MAX_ORDER_LINES }
-        ensures { OnOk result (rows_among changes.new.items ≡ joined (rows_among changes.old.items)
-            (step_rows (step_to self.now.ledger (order_of order.now) ∷ []))) }
-    {
-        let before = self.order_entry(order.0);
-        if changes_state(before, order) {
-            changes.push(Change::Order(order_row(order)))?;
-        }
-        push_lines(alloc, changes, before, order)?;
-        if becomes_firm(before, order) {
-            let number = order.0.get() as i64;
-            changes.push(Change::Firm(FirmRow { number }))?;
-        }
-        Ok(())
-    }
-
-    /// Appends the rows that change as the orders become these.
-    fn push_steps(
-        &self,
-        alloc: Global,
-        changes: &mut Vec<Change>,
-        orders: &[Order],
-    ) -> Result<(), Memory>
-        requires { Each (λ o. length o.1.lines.items ≤ MAX_ORDER_LINES) orders.now }
-        ensures { OnOk result (rows_among changes.new.items ≡ joined (rows_among changes.old.items)
-            (step_rows (map (step_to self.now.ledger) (map order_of orders.now)))) }
-    {
-        for order in orders {
-            self.push_step(alloc, changes, order)?;
-        }
-        Ok(())
-    }
-
-    /// The rows that the accepted request changes, which puts these parts into the book, those of each table in the
-    /// order of its key.
+    /// Returns all rows that the accepted request changes. `parts` is what the request puts into the book, and `rows`
+    /// has the rows of its orders already.
     pub(super) fn changes_of(
         &self,
         alloc: Global,
         request: &Request,
         parts: &PlanParts,
+        mut rows: Vec<Change>,
     ) -> Result<Vec<Change>, Memory>
         requires accepts { Accepts self.now.ledger request.now }
         requires makes { Makes self.now.ledger request.now parts.now }
+        requires steps { rows_among rows.items ≡ step_rows (steps_of self.now.ledger request.now.command) }
         ensures changes { IfOk result (λ changes. ChangesTo self.now.ledger request.now (rows_among changes.items)) }
         ensures fields { IfOk result (λ changes. map entry_row parts.now.fields.entries
             ≡ (rows_among changes.items).fields) }
@@ -280,7 +267,7 @@ impl Book {
         if let Some(entry) = &parts.moved {
             changes.push(Change::Move(move_row(alloc, entry)?))?;
         }
-        self.push_steps(alloc, &mut changes, &parts.orders)?;
+        changes.append(&mut rows)?;
         let kept = kept_row(alloc, parts.key, parts.place, &parts.words)?;
         changes.push(Change::Kept(kept))?;
         Ok(changes)

@@ -1,40 +1,49 @@
-//! Which check of a command fails first, or else which fields the command changes, as they are then.
+//! Which check of a command fails first; where none fails, what the checks found.
 
 ghost use Rattle.std.specs.Bool.{OnTrue};
-ghost use Rattle.std.specs.Prelude.{◌≡◌, ℕ, None, Some, IfOk, IsFalse, IsSome, IsSomeAnd, IsTrue, ◌∷◌, [], find, is_some, map, ◌++◌, ◌+◌, ◌≤◌, ◌<◌, ◌↔◌};
-ghost use Rattle.words.specs.Kinds.{is_change, is_opening};
+ghost use Rattle.std.specs.Prelude.{◌≡◌, ℕ, None, Some, IfOk, IsFalse, IsSomeAnd, IsTrue, ◌∷◌, [], find, is_some, map, ◌++◌, ◌+◌, ◌≤◌, ◌<◌, ◌↔◌};
+ghost use Rattle.words.specs.Kinds.{is_opening};
+ghost use Rattle.words.specs.declared.command.Command.{Command};
 ghost use Rattle.words.specs.declared.command.Command.TheVariants as command;
 ghost use Rattle.ledger.specs.Next.{moved_at_once};
 ghost use Rattle.ledger.specs.Answers.{bounds_checks, checks, loose_checks, no_field, open_checks, order_checks, part_checks, line_checks};
-ghost use Rattle.book.specs.inner.Checking.{Finds, IsFound, bound_checks, hold_checks, refusal_of};
+ghost use Rattle.book.specs.inner.Checking.{Finds, IsFound, IsOrderFound, bound_checks, changed_number, hold_checks, refusal_of};
+ghost use Rattle.book.specs.declared.book.checks.Found.TheVariants as Found;
 ghost use Rattle.ledger.specs.Ledger.{is_open, order_numbered, Ledger, Name, field_named, on, open_orders, places};
 ghost use Rattle.book.specs.Model.{order_of, field_of};
-ghost use Rattle.escrow.specs.Escrow.{bound_of, bounded, holding};
+ghost use Rattle.escrow.specs.Escrow.{bound_of, bounded};
 ghost use Rattle.ledger.specs.Good.{Good};
 ghost use Rattle.ledger.specs.Next.{new_line, new_order};
-ghost use Rattle.book.specs.inner.RunningNumbers.{CountsAll, IsUpToDate, new_share};
+ghost use Rattle.book.specs.inner.RunningNumbers.{IsUpToDate};
 ghost use Rattle.ledger.specs.declared.order.Kind.{Kind};
 
-use super::fields::{Fields, one_field, with_field};
 use super::made::new_line;
-use super::plan::{moved_at_once, transfer_lines};
-use super::{Book, FieldEntry};
+use super::plan::transfer_lines;
+use super::{Book, Field, FieldEntry};
 use crate::order::{OrderEntry, is_on, line_in};
 use escrow::{Bound, FieldName, Level, Moment, OrderNo, Qty, Quantity, Rebound, Way};
-use index::InOrder;
 use ledger::{Kind, MAX_FIELDS, MAX_ORDERS, MAX_PLACES, State};
-use std::alloc::Global;
-use words::{Command, MAX_ORDER_LINES, Memory, OpenLine, Refusal};
+use words::{Command, MAX_ORDER_LINES, OpenLine, Refusal};
 
-/// A refusal, with the number of the line at fault, from 1; 0 where no line is.
+/// A refusal, with the number of the order line at fault, counted from 1; 0 where no line is at fault.
 type Failure = (Refusal, u64);
 
-/// The fields that a command makes or changes, as they are then, or that memory for them was refused; nothing of a
-/// command that asks for no stock.
-pub(super) type Found = Option<Result<Fields, Memory>>;
+/// What the checks of a command found, and what carrying the command out needs.
+#[derive(Clone, Copy)]
+pub(super) enum Found<'a> {
+    /// Nothing: the command opens an order.
+    Nothing,
+    /// The field that the command itself makes or changes, as it is after the command. Where the command moves the value
+    /// of the field at once, also which way and by how much.
+    Field(Field, Option<(Way, Qty)>),
+    /// The open order that the command changes, with its number.
+    Order(OrderNo, &'a OrderEntry),
+    /// The moment to which the clock may move.
+    Clock(Moment),
+}
 
 impl Book {
-    /// Whether so many more places do not fit.
+    /// Returns whether so many places more do not fit.
     fn is_full(&self, more: usize) -> bool
         requires { more ≤ 2 }
         ensures { IsTrue result ↔ (MAX_PLACES < places self.now.ledger + open_orders self.now.ledger + more) }
@@ -42,84 +51,10 @@ impl Book {
         self.kept.len() + self.open_count() + more > MAX_PLACES
     }
 
-    /// The refusal and the line of the first check of the command that fails, or else what was found. No check fails for
-    /// want of memory.
-    pub(super) fn check(&self, alloc: Global, command: &Command) -> Result<Found, Failure>
+    /// Makes the checks of a command. Fails with the refusal and the order line of the first check that fails; where
+    /// none fails, returns what the checks found. Takes no memory.
+    pub(super) fn check(&self, command: &Command) -> Result<Found<'_>, Failure>
         ensures { Finds (checks self.now.ledger command.now) (IsFound self.now.ledger command.now) result }
-    {
-        match *command {
-            Command::Field {
-                branch,
-                article,
-                lo,
-                hi,
-                start,
-            } => self.check_field(alloc, &FieldName { branch, article }, lo, hi, start),
-            Command::Deliver { .. } | Command::Writeoff { .. } => self.check_moving(alloc, command),
-            Command::Rebound {
-                branch,
-                article,
-                lo,
-                hi,
-            } => self.check_rebound(alloc, &FieldName { branch, article }, lo, hi),
-            Command::Open { .. } | Command::Transfer { .. } => self.check_opening(alloc, command),
-            Command::More { .. } => self.check_change(alloc, command),
-            Command::Use { .. } | Command::Release { .. } => self.check_change(alloc, command),
-            Command::Commit { number } => self.check_commit(number),
-            Command::Abort { number } => self.check_abort(number),
-            Command::Firm { number } => self.check_firm(number),
-            Command::Expire { now } => self.check_expire(now),
-        }
-    }
-
-    /// The same for a command that moves a value at once.
-    fn check_moving(&self, alloc: Global, command: &Command) -> Result<Found, Failure>
-        ensures { IsSome (moved_at_once command.now) → Finds (checks self.now.ledger command.now)
-            (IsFound self.now.ledger command.now) result }
-    {
-        let Some(moved) = moved_at_once(command) else {
-            return Ok(None);
-        };
-        if self.is_full(1) {
-            return Err((Refusal::Full, 0));
-        }
-        let mut field = self.field_there(&moved.0, 0)?;
-        match field.quantity.at_once(moved.1, moved.2) {
-            Ok(()) => Ok(Some(one_field(alloc, moved.0, field))),
-            Err(bound) => Err((refusal_of(bound), 0)),
-        }
-    }
-
-    /// The same for a command that opens an order.
-    fn check_opening(&self, alloc: Global, command: &Command) -> Result<Found, Failure>
-        ensures { OnTrue (is_opening command.now) (Finds (checks self.now.ledger command.now)
-            (IsFound self.now.ledger command.now) result) }
-    {
-        match command {
-            Command::Open {
-                number,
-                until,
-                lines,
-            } => self.check_open(alloc, *number, *until, lines.as_slice()),
-            Command::Transfer {
-                number,
-                until,
-                article,
-                from,
-                to,
-                qty,
-            } => {
-                let lines = transfer_lines(*article, *from, *to, *qty);
-                self.check_open(alloc, *number, *until, &lines)
-            }
-            _ => Ok(None),
-        }
-    }
-
-    /// The same for a command that changes what an order holds.
-    fn check_change(&self, alloc: Global, command: &Command) -> Result<Found, Failure>
-        ensures { OnTrue (is_change command.now) (Finds (checks self.now.ledger command.now)
-            (IsFound self.now.ledger command.now) result) }
     {
         match *command {
             Command::More {
@@ -128,7 +63,7 @@ impl Book {
                 branch,
                 article,
                 qty,
-            } => self.check_more(alloc, number, way, &FieldName { branch, article }, qty),
+            } => self.check_more(number, way, &FieldName { branch, article }, qty),
             Command::Use {
                 number,
                 branch,
@@ -141,18 +76,95 @@ impl Book {
                 article,
                 qty,
             } => self.check_part(number, &FieldName { branch, article }, qty),
-            _ => Ok(None),
+            Command::Commit { number } => self.check_commit(number),
+            Command::Abort { number } => self.check_abort(number),
+            Command::Firm { number } => self.check_firm(number),
+            _ => self.check_other(command),
+        }
+    }
+
+    /// Makes the checks of a command that changes no order by its number.
+    fn check_other(&self, command: &Command) -> Result<Found<'_>, Failure>
+        ensures { changed_number command.now ≡ None → Finds (checks self.now.ledger command.now)
+            (IsFound self.now.ledger command.now) result }
+    {
+        match *command {
+            Command::Field {
+                branch,
+                article,
+                lo,
+                hi,
+                start,
+            } => self.check_field(&FieldName { branch, article }, lo, hi, start),
+            Command::Deliver {
+                branch,
+                article,
+                qty,
+            } => self.check_moving(&FieldName { branch, article }, Way::Add, qty),
+            Command::Writeoff {
+                branch,
+                article,
+                qty,
+            } => self.check_moving(&FieldName { branch, article }, Way::Take, qty),
+            Command::Rebound {
+                branch,
+                article,
+                lo,
+                hi,
+            } => self.check_rebound(&FieldName { branch, article }, lo, hi),
+            Command::Expire { now } => self.check_expire(now),
+            _ => self.check_opening(command),
+        }
+    }
+
+    /// Makes the checks of a command that moves the value of that field at once.
+    fn check_moving(&self, name: &FieldName, way: Way, qty: Qty) -> Result<Found<'_>, Failure>
+        ensures { (c : Command) → moved_at_once c ≡ Some (name.now, way, qty) → Finds (checks self.now.ledger c)
+            (IsFound self.now.ledger c) result }
+    {
+        if self.is_full(1) {
+            return Err((Refusal::Full, 0));
+        }
+        let mut field = self.field_there(name, 0)?;
+        match field.quantity.at_once(way, qty) {
+            Ok(()) => Ok(Found::Field((*name, field), Some((way, qty)))),
+            Err(bound) => Err((refusal_of(bound), 0)),
+        }
+    }
+
+    /// Makes the checks of a command that opens an order.
+    fn check_opening(&self, command: &Command) -> Result<Found<'_>, Failure>
+        ensures { OnTrue (is_opening command.now) (Finds (checks self.now.ledger command.now)
+            (IsFound self.now.ledger command.now) result) }
+    {
+        match command {
+            Command::Open {
+                number,
+                until,
+                lines,
+            } => self.check_open(*number, *until, lines.as_slice()),
+            Command::Transfer {
+                number,
+                until,
+                article,
+                from,
+                to,
+                qty,
+            } => {
+                let lines = transfer_lines(*article, *from, *to, *qty);
+                self.check_open(*number, *until, &lines)
+            }
+            _ => Ok(Found::Nothing),
         }
     }
 
     fn check_field(
         &self,
-        alloc: Global,
         name: &FieldName,
         lo: Level,
         hi: Level,
         start: Level,
-    ) -> Result<Found, Failure>
+    ) -> Result<Found<'_>, Failure>
         ensures { let c = command.Field name.now.branch name.now.article lo hi start in
             Finds (checks self.now.ledger c) (IsFound self.now.ledger c) result }
     {
@@ -163,18 +175,12 @@ impl Book {
             return Err((Refusal::FieldThere, 0));
         }
         match Quantity::start(lo, hi, start) {
-            Ok(quantity) => Ok(Some(one_field(alloc, *name, FieldEntry { start, quantity }))),
+            Ok(quantity) => Ok(Found::Field((*name, FieldEntry { start, quantity }), None)),
             Err(_) => Err((Refusal::BadBounds, 0)),
         }
     }
 
-    fn check_rebound(
-        &self,
-        alloc: Global,
-        name: &FieldName,
-        lo: Level,
-        hi: Level,
-    ) -> Result<Found, Failure>
+    fn check_rebound(&self, name: &FieldName, lo: Level, hi: Level) -> Result<Found<'_>, Failure>
         ensures { let c = command.Rebound name.now.branch name.now.article lo hi in
             Finds (checks self.now.ledger c) (IsFound self.now.ledger c) result }
     {
@@ -183,35 +189,33 @@ impl Book {
         }
         let field = self.field_there(name, 0)?;
         let field = rebound(field, lo, hi)?;
-        Ok(Some(one_field(alloc, *name, field)))
+        Ok(Found::Field((*name, field), None))
     }
 
-    /// A new order of these lines, whatever its kind.
+    /// Makes the checks of a new order with these lines, whatever its kind.
     fn check_open(
         &self,
-        alloc: Global,
         number: OrderNo,
         until: Moment,
         lines: &[OpenLine],
-    ) -> Result<Found, Failure>
+    ) -> Result<Found<'_>, Failure>
         ensures { (kind : Kind) → Finds (order_checks self.now.ledger number until ++ line_checks self.now.ledger
-            (new_order number kind until) [] lines.now) (λ found. IsSomeAnd found (λ made. IfOk made
-            (λ fields. CountsAll self.now.ledger (map new_share lines.now) fields.entries))) result }
+            (new_order number kind until) [] lines.now) (λ found. found ≡ Found.Nothing) result }
     {
         self.check_order(number, until)?;
-        Ok(Some(self.check_lines(alloc, lines)?))
+        self.check_lines(lines)?;
+        Ok(Found::Nothing)
     }
 
     fn check_more(
         &self,
-        alloc: Global,
         number: OrderNo,
         way: Way,
         name: &FieldName,
         qty: Qty,
-    ) -> Result<Found, Failure>
-        ensures { let c = command.More number way name.now.branch name.now.article qty in
-            Finds (checks self.now.ledger c) (IsFound self.now.ledger c) result }
+    ) -> Result<Found<'_>, Failure>
+        ensures { Finds (checks self.now.ledger (command.More number way name.now.branch name.now.article qty))
+            (IsOrderFound self.now.ledger number) result }
     {
         if self.is_full(1) {
             return Err((Refusal::Full, 0));
@@ -222,12 +226,12 @@ impl Book {
         }
         let field = self.field_there(name, 0)?;
         check_hold(order, way, name)?;
-        let field = ask(field, way, qty, 0)?;
-        Ok(Some(one_field(alloc, *name, field)))
+        ask(field, way, qty, 0)?;
+        Ok(Found::Order(number, order))
     }
 
-    fn check_expire(&self, now: Moment) -> Result<Found, Failure>
-        ensures { Finds (checks self.now.ledger (command.Expire now)) (λ found. found ≡ None) result }
+    fn check_expire(&self, now: Moment) -> Result<Found<'_>, Failure>
+        ensures { let c = command.Expire now in Finds (checks self.now.ledger c) (IsFound self.now.ledger c) result }
     {
         if self.is_full(1) {
             return Err((Refusal::Full, 0));
@@ -235,12 +239,12 @@ impl Book {
         if now < self.clock {
             return Err((Refusal::ClockBack, 0));
         }
-        Ok(None)
+        Ok(Found::Clock(now))
     }
 
-    /// A use or a release of a part of what the order's line on the field holds.
-    fn check_part(&self, number: OrderNo, name: &FieldName, qty: Qty) -> Result<Found, Failure>
-        ensures { Finds (part_checks self.now.ledger number name.now qty) (λ found. found ≡ None) result }
+    /// Makes the checks of a use or a release of a part of what the order's line on the field holds.
+    fn check_part(&self, number: OrderNo, name: &FieldName, qty: Qty) -> Result<Found<'_>, Failure>
+        ensures { Finds (part_checks self.now.ledger number name.now qty) (IsOrderFound self.now.ledger number) result }
     {
         if self.is_full(1) {
             return Err((Refusal::Full, 0));
@@ -251,27 +255,29 @@ impl Book {
             Some(line) if line.held.get() < line.used.get() + qty.get() => {
                 Err((Refusal::OverUse, 0))
             }
-            Some(_) => Ok(None),
+            Some(_) => Ok(Found::Order(number, order)),
         }
     }
 
-    /// It takes the place that its order has set aside.
-    fn check_commit(&self, number: OrderNo) -> Result<Found, Failure>
-        ensures { Finds (checks self.now.ledger (command.Commit number)) (λ found. found ≡ None) result }
+    /// Makes the checks of a commit. There is no check for `Full`: a commit takes the place that its order has set
+    /// aside.
+    fn check_commit(&self, number: OrderNo) -> Result<Found<'_>, Failure>
+        ensures { Finds (checks self.now.ledger (command.Commit number)) (IsOrderFound self.now.ledger number) result }
     {
-        self.open_order(number)?;
-        Ok(None)
+        let found = self.open_order(number)?;
+        Ok(Found::Order(number, found))
     }
 
-    fn check_abort(&self, number: OrderNo) -> Result<Found, Failure>
-        ensures { Finds (checks self.now.ledger (command.Abort number)) (λ found. found ≡ None) result }
+    /// Makes the checks of an abort. There is none for `Full`: an abort takes the place that its order has set aside.
+    fn check_abort(&self, number: OrderNo) -> Result<Found<'_>, Failure>
+        ensures { Finds (checks self.now.ledger (command.Abort number)) (IsOrderFound self.now.ledger number) result }
     {
-        self.loose_order(number)?;
-        Ok(None)
+        let order = self.loose_order(number)?;
+        Ok(Found::Order(number, order))
     }
 
-    fn check_firm(&self, number: OrderNo) -> Result<Found, Failure>
-        ensures { Finds (checks self.now.ledger (command.Firm number)) (λ found. found ≡ None) result }
+    fn check_firm(&self, number: OrderNo) -> Result<Found<'_>, Failure>
+        ensures { Finds (checks self.now.ledger (command.Firm number)) (IsOrderFound self.now.ledger number) result }
     {
         if self.is_full(1) {
             return Err((Refusal::Full, 0));
@@ -279,7 +285,7 @@ impl Book {
         self.check_abort(number)
     }
 
-    /// A new order, apart from its lines.
+    /// Makes the checks of a new order, but not those of its lines.
     fn check_order(&self, number: OrderNo, until: Moment) -> Result<(), Failure>
         ensures { Finds (order_checks self.now.ledger number until) (λ found. Unit) result }
     {
@@ -295,7 +301,7 @@ impl Book {
         Ok(())
     }
 
-    /// The open order of that number, or why there is none.
+    /// Returns the open order of that number, or the refusal that says why there is none.
     fn open_order(&self, number: OrderNo) -> Result<&OrderEntry, Failure>
         ensures found { Finds (open_checks self.now.ledger number) (λ order. Unit) result }
         ensures order { IfOk result (λ order. order_numbered self.now.ledger number ≡ Some
@@ -309,7 +315,7 @@ impl Book {
         }
     }
 
-    /// The open order of that number that is not firm, or why there is none.
+    /// Returns the open order of that number that is not firm, or the refusal that says why there is none.
     fn loose_order(&self, number: OrderNo) -> Result<&OrderEntry, Failure>
         ensures found { Finds (loose_checks self.now.ledger number) (λ order. Unit) result }
         ensures order { IfOk result (λ order. order_numbered self.now.ledger number ≡ Some
@@ -323,17 +329,11 @@ impl Book {
         }
     }
 
-    /// The first check that fails of the lines of a new order, whatever its number, its kind and its end.
-    fn check_lines(
-        &self,
-        alloc: Global,
-        lines: &[OpenLine],
-    ) -> Result<Result<Fields, Memory>, Failure>
+    /// Makes the checks of the lines of a new order, whatever its number, its kind and its end.
+    fn check_lines(&self, lines: &[OpenLine]) -> Result<(), Failure>
         ensures { (n : ℕ) (kind : Kind) (until : ℕ) → Finds (line_checks self.now.ledger
-            (new_order n kind until) [] lines.now) (λ made. IfOk made
-            (λ fields. CountsAll self.now.ledger (map new_share lines.now) fields.entries)) result }
+            (new_order n kind until) [] lines.now) (λ found. Unit) result }
     {
-        let mut fields = Ok(InOrder::new(alloc));
         for (i, line) in lines.iter().enumerate() {
             let number = i as u64 + 1;
             let (branch, article) = (line.branch, line.article);
@@ -342,13 +342,12 @@ impl Book {
                 return Err((Refusal::SameField, number));
             }
             let field = self.field_there(&name, number)?;
-            let field = ask(field, line.way, line.qty, number)?;
-            fields = with_field(fields, name, field);
+            ask(field, line.way, line.qty, number)?;
         }
-        Ok(fields)
+        Ok(())
     }
 
-    /// The field of that name, for the line at fault where it is not there.
+    /// Returns the field of that name, or the refusal `NoField` with this line where there is none.
     fn field_there(&self, name: &FieldName, line: u64) -> Result<FieldEntry, Failure>
         ensures good { Good self.now.ledger }
         ensures found { Finds (no_field self.now.ledger name.now line ∷ []) (λ entry. field_named self.now.ledger
@@ -362,7 +361,9 @@ impl Book {
     }
 }
 
-/// What keeps the order, whatever its number, from holding more on the field.
+/// Makes the checks of the order, whatever its number is, before it holds more on the field. Fails with `OtherWay`
+/// where its line on the field has the other way, and with `TooManyLines` where it has no line there and no room for
+/// one.
 fn check_hold(order: &OrderEntry, way: Way, name: &FieldName) -> Result<(), Failure>
     ensures { Finds (hold_checks (order_of (0, order.now)) way name.now) (λ found. Unit) result }
 {
@@ -373,21 +374,20 @@ fn check_hold(order: &OrderEntry, way: Way, name: &FieldName) -> Result<(), Fail
     }
 }
 
-/// The field with so much more held the one way, where no outcome passes its bound.
-fn ask(mut field: FieldEntry, way: Way, qty: Qty, line: u64) -> Result<FieldEntry, Failure>
+/// Fails where some outcome would pass a bound of the field if `qty` more were held this way; `line` is the order line
+/// that the refusal names.
+fn ask(mut field: FieldEntry, way: Way, qty: Qty, line: u64) -> Result<(), Failure>
     ensures { (A : Ledger) (name : Name) → Good A → IsUpToDate A (name, field) → field_named A name ≡ Some
-        (field_of (name, field)) → Finds (bound_checks way A name qty line) (λ entry. entry ≡ record {
-          start = field.start;
-          quantity = holding field.quantity way qty;
-        }) result }
+        (field_of (name, field)) → Finds (bound_checks way A name qty line) (λ found. Unit) result }
 {
     match field.quantity.ask(way, qty) {
-        Ok(()) => Ok(field),
+        Ok(()) => Ok(()),
         Err(bound) => Err((refusal_of(bound), line)),
     }
 }
 
-/// The field with these bounds, where every outcome of it lies within them.
+/// Returns the field with these bounds, or a refusal where they are in the wrong order or some outcome of the field
+/// lies outside them.
 fn rebound(mut field: FieldEntry, lo: Level, hi: Level) -> Result<FieldEntry, Failure>
     ensures { (A : Ledger) (name : Name) → Good A → IsUpToDate A (name, field) → field_named A name ≡ Some
         (field_of (name, field)) → Finds (bounds_checks A name lo hi) (λ entry. entry ≡ record {
@@ -403,7 +403,7 @@ fn rebound(mut field: FieldEntry, lo: Level, hi: Level) -> Result<FieldEntry, Fa
     }
 }
 
-/// The refusal that tells of the bound.
+/// Returns the refusal for the bound that would be passed.
 fn refusal_of(bound: Bound) -> Refusal
     ensures { (way : Way) → bound ≡ bound_of way → result ≡ refusal_of way }
 {
@@ -413,7 +413,7 @@ fn refusal_of(bound: Bound) -> Refusal
     }
 }
 
-/// Whether one of the lines is on the field.
+/// Returns whether one of the lines is on the field.
 fn has_line_on(lines: &[OpenLine], name: &FieldName) -> bool
     ensures { result ≡ is_some (find (on name.now) (map new_line lines.now)) }
 {

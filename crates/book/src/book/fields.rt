@@ -1,47 +1,114 @@
-//! The fields that an accepted command makes or changes, as they are then.
+//! The fields that an accepted command makes or changes, as they are after it.
 
-ghost use Rattle.std.specs.Prelude.{◌≡◌, ℕ, ◌∷◌, [], List, IsSome, IfOk, OnOk, flat_map, map, option_map, slice_get};
+ghost use Rattle.std.specs.Prelude.{◌≡◌, ◌≤◌, ◌+◌, ◌-◌, ℕ, ◌∷◌, [], List, IsSome, IfOk, OnOk, map, option_map, slice_get};
 ghost use Rattle.std.specs.BTreeMap.{insert_entry};
 ghost use Rattle.std.specs.List.{AllByRecursion as Each};
-ghost use Rattle.std.specs.List.Sorted.{IsStrictlySortedBy};
-ghost use Rattle.std.specs.Map.{keys_of};
 ghost use Rattle.std.specs.Option.{option_copied};
-ghost use Rattle.std.specs.Result.{IsOkAnd};
+ghost use Rattle.escrow.specs.Ranges.{IsLevel};
+ghost use Rattle.escrow.specs.declared.quantity.Way.TheVariants.{Add, Take};
 ghost use Rattle.ledger.specs.inner.FieldRows.{field_rows};
 ghost use Rattle.book.specs.inner.Checking.{IsFound};
 ghost use Rattle.ledger.specs.Ledger.{field_named, line_name, name_cmp};
 ghost use Rattle.book.specs.Model.{entry_row, order_of};
-ghost use Rattle.ledger.specs.inner.Shares.{Accepts, Falls, AreHeld, ShareStep, share_before, share_of, share_step, shares_of_step};
-ghost use Rattle.book.specs.inner.RunningNumbers.{Becomes, Counts, CountsAll, CountsMore, MayBecome, MayCount, share_numbers};
-ghost use Rattle.ledger.specs.Steps.{orders_made};
-ghost use Rattle.book.specs.inner.StepsSeen.{line_seen, lines_before, step_seen, step_to};
+ghost use Rattle.ledger.specs.inner.Shares.{Accepts, ShareStep, share_before, share_step, shares_of_step, share_steps};
+ghost use Rattle.book.specs.inner.RunningNumbers.{Becomes, Counts, CountsAll, CountsMore, MayCount, share_numbers, IsShare, LieWithin, becoming};
+ghost use Rattle.book.specs.inner.StepsSeen.{line_seen, lines_before, step_seen};
 
 use super::checks::Found;
 use super::steps::{changes_stock, line_before};
-use super::{Book, FieldEntry};
+use super::{Book, Field, FieldEntry};
 use crate::order::{NO_SHARE, Order, OrderEntry, share_of};
-use escrow::{FieldName, Quantity, Way};
+use escrow::{FieldName, Level, Quantity, Way};
 use index::InOrder;
 use ledger::{Line, Share};
 use std::alloc::Global;
 use words::{Memory, Request};
 
-/// What a line counts for changes from the one to the other.
-fn change_stock(quantity: &mut Quantity, way: Way, before: Share, after: Share)
-    requires { MayBecome quantity.old way before after }
-    ensures { Becomes quantity.old (share_numbers way before) (share_numbers way after) quantity.new }
+/// Returns the value of the quantity, its infimum and its supremum.
+fn numbers_of(quantity: &Quantity) -> (u64, u64, u64)
+    ensures value { result.0 ≡ quantity.now.value }
+    ensures inf { result.1 + quantity.now.held_to_take ≡ quantity.now.value }
+    ensures sup { result.2 ≡ quantity.now.value + quantity.now.held_to_add }
+    ensures level { IsLevel result.2 }
 {
-    quantity.settle(
-        way,
-        before.held - after.held,
-        after.settled - before.settled,
-    );
+    (
+        quantity.value().get(),
+        quantity.inf().get(),
+        quantity.sup().get(),
+    )
 }
 
-/// What the line counted for, if there were such an order and such a line.
+/// Returns the quantity with the same bounds and these numbers, which lie within them.
+fn restored(quantity: &Quantity, value: u64, inf: u64, sup: u64) -> Quantity
+    requires { (quantity.now.lo ≤ inf) × (inf ≤ value) × (value ≤ sup) × (sup ≤ quantity.now.hi) }
+    ensures { result ≡ record quantity.now {
+      value = value;
+      held_to_take = value - inf;
+      held_to_add = sup - value;
+    } }
+{
+    let (lo, hi) = (quantity.lo(), quantity.hi());
+    let (value, inf, sup) = (Level::of(value), Level::of(inf), Level::of(sup));
+    match Quantity::restore(lo, hi, value, inf, sup) {
+        Ok(quantity) => quantity,
+        Err(_) => unreachable!(),
+    }
+}
+
+/// Returns the quantity as it is once the share of an order line that takes from it has changed from `before` to
+/// `after`.
+fn with_take(quantity: &Quantity, before: Share, after: Share) -> Quantity
+    requires levels { IsShare before × IsShare after }
+    requires within { LieWithin quantity.now.lo quantity.now.hi
+        (becoming quantity.now (share_numbers Take before) (share_numbers Take after)) }
+    ensures { Becomes quantity.now (becoming quantity.now (share_numbers Take before) (share_numbers Take after)) result }
+{
+    let (value, inf, sup) = numbers_of(quantity);
+    let (held, holds) = (before.settled + before.held, after.settled + after.held);
+    restored(
+        quantity,
+        value + before.settled - after.settled,
+        inf + held - holds,
+        sup + before.settled - after.settled,
+    )
+}
+
+/// Returns the quantity as it is once the share of an order line that adds to it has changed from `before` to `after`.
+fn with_add(quantity: &Quantity, before: Share, after: Share) -> Quantity
+    requires levels { IsShare before × IsShare after }
+    requires within { LieWithin quantity.now.lo quantity.now.hi
+        (becoming quantity.now (share_numbers Add before) (share_numbers Add after)) }
+    ensures { Becomes quantity.now (becoming quantity.now (share_numbers Add before) (share_numbers Add after)) result }
+{
+    let (value, inf, sup) = numbers_of(quantity);
+    let (held, holds) = (before.settled + before.held, after.settled + after.held);
+    restored(
+        quantity,
+        value + after.settled - before.settled,
+        inf + after.settled - before.settled,
+        sup + holds - held,
+    )
+}
+
+/// Returns the quantity as it is once the share of an order line on it, of this way, has changed from `before` to
+/// `after`.
+fn with_share(quantity: &Quantity, way: Way, before: Share, after: Share) -> Quantity
+    requires levels { IsShare before × IsShare after }
+    requires within { LieWithin quantity.now.lo quantity.now.hi
+        (becoming quantity.now (share_numbers way before) (share_numbers way after)) }
+    ensures { Becomes quantity.now (becoming quantity.now (share_numbers way before) (share_numbers way after)) result }
+{
+    match way {
+        Way::Take => with_take(quantity, before, after),
+        Way::Add => with_add(quantity, before, after),
+    }
+}
+
+/// Returns what the line counted for before; nothing, where there was no such order or no such line.
 fn share_before(before: Option<&OrderEntry>, old: Option<&Line>) -> Share
-    ensures { (n : ℕ) → result ≡ share_before (option_map (λ e. order_of (n, e)) (option_copied before.entry))
+    ensures share { (n : ℕ) → result ≡ share_before (option_map (λ e. order_of (n, e)) (option_copied before.entry))
         (option_copied old.entry) }
+    ensures levels { IsShare result }
 {
     match (before, old) {
         (Some(order), Some(line)) => share_of(line, order.state, order.firm),
@@ -52,39 +119,26 @@ fn share_before(before: Option<&OrderEntry>, old: Option<&Line>) -> Share
 /// Fields by their names.
 pub(super) type Fields = InOrder<FieldName, FieldEntry>;
 
-/// Puts a field in, in place of the one of that name if there is one.
+/// Puts in a field; it replaces the one of that name, if there is one.
 fn put(fields: &mut Fields, name: FieldName, entry: FieldEntry) -> Result<(), Memory>
-    ensures put { OnOk result (fields.new.entries ≡ insert_entry name_cmp fields.old.entries name entry) }
-    ensures rising { OnOk result (IsStrictlySortedBy name_cmp (keys_of fields.old.entries)) }
+    ensures { OnOk result (fields.new.entries ≡ insert_entry name_cmp fields.old.entries name entry) }
 {
     fields.reserve(1)?;
     fields.put(name, entry);
     Ok(())
 }
 
-/// With the field put in.
-pub(super) fn with_field(
-    fields: Result<Fields, Memory>,
-    name: FieldName,
-    entry: FieldEntry,
-) -> Result<Fields, Memory>
-    ensures { IfOk result (λ new. IsOkAnd fields (λ old. IsStrictlySortedBy name_cmp (keys_of old.entries)
-        × (new.entries ≡ insert_entry name_cmp old.entries name entry))) }
+/// Returns a list with that field alone.
+fn one_field(alloc: Global, field: Field) -> Result<Fields, Memory>
+    ensures { IfOk result (λ fields. fields.entries ≡ field ∷ []) }
 {
-    let mut fields = fields?;
-    put(&mut fields, name, entry)?;
+    let mut fields = InOrder::new(alloc);
+    put(&mut fields, field.0, field.1)?;
     Ok(fields)
 }
 
-/// That field alone.
-pub(super) fn one_field(alloc: Global, name: FieldName, entry: FieldEntry) -> Result<Fields, Memory>
-    ensures { IfOk result (λ fields. fields.entries ≡ (name, entry) ∷ []) }
-{
-    with_field(Ok(InOrder::new(alloc)), name, entry)
-}
-
 impl Book {
-    /// The field of that name, as the lines counted so far leave it.
+    /// Returns the field of that name, as the lines counted so far leave it.
     fn field_so_far(&self, fields: &Fields, name: &FieldName) -> FieldEntry
         requires { IsSome (field_named self.now.ledger name.now) }
         ensures { (done : List ShareStep) → CountsAll self.now.ledger done fields.now.entries
@@ -99,7 +153,8 @@ impl Book {
         }
     }
 
-    /// Puts in the field of the line at that place of the order, as the line leaves it, where its stock changes.
+    /// Puts the field of the order line, as the line leaves it, into `fields`, where the line changes the field's
+    /// stock. `place` is the index of the line in the order.
     fn count_line(
         &self,
         fields: &mut Fields,
@@ -109,8 +164,6 @@ impl Book {
         line: &Line,
     ) -> Result<(), Memory>
         requires there { IsSome (field_named self.now.ledger (line_name line.now)) }
-        requires falls { (nr : ℕ) → Falls (share_step (step_seen (option_copied before) after.now)
-            (line_seen nr (slice_get (lines_before (option_copied before)) place) line.now)) }
         requires may { (nr : ℕ) → MayCount self.now.ledger (share_step (step_seen (option_copied before) after.now)
             (line_seen nr (slice_get (lines_before (option_copied before)) place) line.now) ∷ []) fields.old.entries }
         ensures { OnOk result ((nr : ℕ) → CountsMore self.now.ledger
@@ -126,66 +179,47 @@ impl Book {
         let mut entry = self.field_so_far(fields, &name);
         let counted = share_before(before, old);
         let counts = share_of(line, after.1.state, after.1.firm);
-        change_stock(&mut entry.quantity, line.way, counted, counts);
+        entry.quantity = with_share(&entry.quantity, line.way, counted, counts);
         put(fields, name, entry)
     }
 
-    /// Puts in the fields of the lines of the order whose stock changes as it becomes this one.
-    fn count_order(&self, fields: &mut Fields, order: &Order) -> Result<(), Memory>
-        requires there { Each (λ l. IsSome (field_named self.now.ledger (line_name l))) order.now.1.lines.items }
-        requires falls { Each Falls (shares_of_step (step_to self.now.ledger (order_of order.now))) }
-        requires may { MayCount self.now.ledger (shares_of_step (step_to self.now.ledger (order_of order.now)))
+    /// Puts into `fields`, for each line of the order that changes its field's stock as the order becomes `after`, the
+    /// field with its new numbers.
+    pub(super) fn count_order(
+        &self,
+        fields: &mut Fields,
+        before: Option<&OrderEntry>,
+        after: &Order,
+    ) -> Result<(), Memory>
+        requires there { Each (λ l. IsSome (field_named self.now.ledger (line_name l))) after.now.1.lines.items }
+        requires may { MayCount self.now.ledger (shares_of_step (step_seen (option_copied before) after.now))
             fields.old.entries }
         ensures { OnOk result (CountsMore self.now.ledger
-            (shares_of_step (step_to self.now.ledger (order_of order.now))) fields.old.entries fields.new.entries) }
+            (shares_of_step (step_seen (option_copied before.entry) after.now)) fields.old.entries fields.new.entries) }
     {
-        let before = self.order_entry(order.0);
-        for (place, line) in order.1.lines.iter().enumerate() {
-            self.count_line(fields, before, order, place, line)?;
+        for (place, line) in after.1.lines.iter().enumerate() {
+            self.count_line(fields, before, after, place, line)?;
         }
         Ok(())
     }
 
-    /// The fields of the lines of the orders whose stock changes as they become these.
-    fn count_orders(&self, alloc: Global, orders: &[Order]) -> Result<Fields, Memory>
-        requires there { Each (λ o. Each (λ l. IsSome (field_named self.now.ledger (line_name l))) o.1.lines.items)
-            orders.now }
-        requires falls { Each Falls (flat_map shares_of_step (map (step_to self.now.ledger)
-            (map order_of orders.now))) }
-        requires may { AreHeld self.now.ledger (flat_map shares_of_step (map (step_to self.now.ledger)
-            (map order_of orders.now))) }
-        ensures counted { IfOk result (λ fields. CountsAll self.now.ledger (flat_map shares_of_step
-            (map (step_to self.now.ledger) (map order_of orders.now))) fields.entries) }
-        ensures rising { IfOk result (λ fields. IsStrictlySortedBy name_cmp (keys_of fields.entries)) }
-    {
-        let mut fields = InOrder::new(alloc);
-        for order in orders {
-            self.count_order(&mut fields, order)?;
-        }
-        // so that the proof has their order
-        let _ = fields.len();
-        Ok(fields)
-    }
-
-    /// The fields that the accepted request makes or changes, as they are then: those that its check found, else those
-    /// of the orders that it changes.
+    /// Returns the fields that the accepted request makes or changes, as they are after it: the one that its checks
+    /// found (`found`), or else those whose stock the orders change (`counted`).
     pub(super) fn fields_after(
         &self,
         alloc: Global,
         request: &Request,
-        found: Found,
-        orders: &[Order],
+        found: &Found<'_>,
+        counted: Fields,
     ) -> Result<Fields, Memory>
         requires accepts { Accepts self.now.ledger request.now }
-        requires found { IsFound self.now.ledger request.now.command found }
-        requires orders { map order_of orders.now ≡ orders_made self.now.ledger request.now.command }
+        requires found { IsFound self.now.ledger request.now.command found.now }
+        requires counted { CountsAll self.now.ledger (share_steps self.now.ledger request.now.command) counted.entries }
         ensures { IfOk result (λ fields. map entry_row fields.entries ≡ field_rows self.now.ledger request.now) }
     {
-        if let Some(fields) = found {
-            let fields = fields?;
-            let _ = fields.len();
-            return Ok(fields);
+        if let Found::Field(field, _) = *found {
+            return one_field(alloc, field);
         }
-        self.count_orders(alloc, orders)
+        Ok(counted)
     }
 }

@@ -1,25 +1,32 @@
-//! What a command does to the orders: those that it opens or changes, as they are then.
+//! What a command does to the orders: those that it opens or changes, as they are after it.
 
-ghost use Rattle.book.specs.inner.InPlace.{MayChange, MayChangeOrder, changed_line, changed_order, effect_seen, held_lines, lines_wanted, made_of, MayChangeUnder};
-ghost use Rattle.ledger.specs.Ledger.{line_name, on, open_state};
-ghost use Rattle.ledger.specs.Next.{Changes, Opens, change_lines, effect, expires, new_line, new_order, numbered};
+ghost use Rattle.book.specs.inner.Checking.{IsFound, changed_number};
+ghost use Rattle.book.specs.inner.InPlace.{MayChange, MayChangeOrder, changed_line, changed_order, held_lines, lines_wanted, MayChangeUnder};
+ghost use Rattle.ledger.specs.Ledger.{line_name, on, open_state, order_numbered};
+ghost use Rattle.ledger.specs.Next.{Changes, Opens, effect, expires, new_line, new_order, numbered};
 ghost use Rattle.ledger.specs.inner.Shares.{Accepts};
-ghost use Rattle.ledger.specs.Steps.{orders_made};
+ghost use Rattle.ledger.specs.Steps.{steps_of};
+ghost use Rattle.book.specs.inner.StepsSeen.{Adds, IsMadeBy, MayMake, step_seen, steps_under};
+ghost use Rattle.std.specs.Option.{option_copied};
 ghost use Rattle.book.specs.Model.{order_of};
-ghost use Rattle.book.specs.declared.book.made.LineChange.TheVariants as LineChange;
-ghost use Rattle.book.specs.declared.book.made.OrderChange.TheVariants as OrderChange;
 ghost use Rattle.ledger.specs.declared.order.State.TheVariants.{Aborted};
 ghost use Rattle.words.specs.Kinds.{is_opening};
 ghost use Rattle.words.specs.declared.open_line.OpenLine.{OpenLine};
 ghost use Rattle.std.specs.List.{AllByRecursion as Each, filter};
-ghost use Rattle.std.specs.Prelude.{◌≡◌, ℕ, ◌<◌, ◌≤◌, ◌+◌, ◌||◌, true, false, MatchOption, find, if◌then◌else◌, map, IfOk, Some, ◌∷◌, ◌++◌, [], ◌&&◌, not, nat_le, OnOk, flat_map};
+ghost use Rattle.std.specs.Prelude.{◌≡◌, ℕ, ◌<◌, ◌≤◌, ◌+◌, ◌||◌, true, IfSome, IsSome, IsTrue, MatchOption, find, if◌then◌else◌, map, IfOk, Some, ◌∷◌, ◌++◌, [], ◌&&◌, not, nat_le, OnOk, flat_map};
 ghost use Rattle.std.specs.Vec.{vec_capacity, vec_len};
+ghost use Rattle.book.specs.declared.book.made.LineChange.TheVariants as LineChange;
+ghost use Rattle.book.specs.declared.book.made.OrderChange.TheVariants as OrderChange;
 
 use super::Book;
+use super::changed_rows::push_rows;
+use super::checks::Found;
+use super::fields::Fields;
 use super::plan::transfer_lines;
 use crate::order::{Order, OrderEntry, is_on, line_in};
 use escrow::{FieldName, Level, Moment, OrderNo, Qty};
-use ledger::{Kind, Line, State};
+use index::InOrder;
+use ledger::{Change, Kind, Line, State};
 use std::alloc::Global;
 use words::{Command, Memory, OpenLine, Request};
 
@@ -37,27 +44,14 @@ pub enum LineChange {
 /// A change of an order.
 #[derive(Clone, Copy)]
 pub enum OrderChange {
-    /// Its line on a field holds more; without such a line, it gets one more at the end.
+    /// The order's line on a field holds more; where it has no such line, it gets one at the end.
     HoldMore(OpenLine),
-    /// Its line on a field changes, on a transfer both lines.
+    /// The order's line on a field changes; on a transfer both lines change.
     ChangeLines(FieldName, LineChange),
-    /// It ends.
+    /// The order ends.
     End(State),
-    /// It is made firm.
+    /// The order is made firm.
     MakeFirm,
-}
-
-/// What a command does to the orders.
-#[derive(Drop)]
-pub enum Effect {
-    /// Nothing.
-    Nothing,
-    /// It opens one.
-    Opens(Order),
-    /// It changes the one of that number.
-    Changes(OrderNo, OrderChange),
-    /// It aborts those that expire at that moment.
-    Expires(Moment),
 }
 
 fn change_line(line: &mut Line, change: &LineChange)
@@ -72,7 +66,7 @@ fn change_line(line: &mut Line, change: &LineChange)
     }
 }
 
-/// The line changes where it is on the field, or the order is a transfer, of which both lines change.
+/// Changes the line where it is on the field, or where the order is a transfer: of that both lines change.
 fn change_where(line: &mut Line, is_transfer: bool, name: &FieldName, change: &LineChange)
     requires { (is_transfer || on name.now line.old) ≡ true → MayChange change.now line.old }
     ensures { line.new ≡ (if is_transfer || on name.now line.old then changed_line change.now line.old else line.old) }
@@ -91,7 +85,7 @@ fn change_lines(lines: &mut [Line], is_transfer: bool, name: &FieldName, change:
     }
 }
 
-/// The line on the field holds more; without such a line there is one more at the end.
+/// Lets the line on the field hold more; where there is no such line, appends one.
 fn hold_more(lines: &mut Vec<Line>, more: &OpenLine)
     requires { let name = line_name (new_line more.now) in MatchOption (find (on name) lines.old.items)
         (vec_len lines.old < vec_capacity lines.old)
@@ -107,7 +101,7 @@ fn hold_more(lines: &mut Vec<Line>, more: &OpenLine)
     lines.push_reserved(new_line(more));
 }
 
-/// A line that holds its amount and has used nothing.
+/// Returns a line that holds its amount and has used nothing.
 pub(super) fn new_line(line: &OpenLine) -> Line
     ensures { result ≡ new_line line.now }
 {
@@ -135,7 +129,7 @@ fn change_order(order: &mut OrderEntry, change: &OrderChange)
     }
 }
 
-/// The lines of an order, which hold their amounts and have used nothing.
+/// Returns the lines of a new order, which hold their amounts and have used nothing.
 fn new_lines(alloc: Global, lines: &[OpenLine]) -> Result<Vec<Line>, Memory>
     ensures { IfOk result (λ made. made.items ≡ map new_line lines.now) }
 {
@@ -146,15 +140,15 @@ fn new_lines(alloc: Global, lines: &[OpenLine]) -> Result<Vec<Line>, Memory>
     Ok(made)
 }
 
-/// An open order of these lines.
-fn opened(
+/// Returns an open order of these lines.
+fn new_order(
     alloc: Global,
     number: OrderNo,
     kind: Kind,
     until: Moment,
     lines: &[OpenLine],
-) -> Result<Effect, Memory>
-    ensures { IfOk result (λ made. effect_seen made ≡ Opens (new_order number kind until lines.now)) }
+) -> Result<Order, Memory>
+    ensures { IfOk result (λ made. order_of made ≡ new_order number kind until lines.now) }
 {
     let entry = OrderEntry {
         kind,
@@ -163,19 +157,20 @@ fn opened(
         firm: false,
         lines: new_lines(alloc, lines)?,
     };
-    Ok(Effect::Opens((number, entry)))
+    Ok((number, entry))
 }
 
-/// What the command does to the orders.
-fn effect_of(alloc: Global, command: &Command) -> Result<Effect, Memory>
-    ensures { IfOk result (λ made. effect_seen made ≡ effect command.now) }
+/// Returns the order that a command opens.
+fn opened(alloc: Global, command: &Command) -> Result<Order, Memory>
+    requires { IsTrue (is_opening command.now) }
+    ensures { IfOk result (λ made. Opens (order_of made) ≡ effect command.now) }
 {
     match command {
         Command::Open {
             number,
             until,
             lines,
-        } => opened(alloc, *number, Kind::Plain, *until, lines.as_slice()),
+        } => new_order(alloc, *number, Kind::Plain, *until, lines.as_slice()),
         Command::Transfer {
             number,
             until,
@@ -185,66 +180,51 @@ fn effect_of(alloc: Global, command: &Command) -> Result<Effect, Memory>
             qty,
         } => {
             let lines = transfer_lines(*article, *from, *to, *qty);
-            opened(alloc, *number, Kind::Transfer, *until, &lines)
+            new_order(alloc, *number, Kind::Transfer, *until, &lines)
         }
-        _ => Ok(change_of(command)),
+        _ => unreachable!(),
     }
 }
 
-/// What a command that opens no order does to the orders.
-fn change_of(command: &Command) -> Effect
-    ensures { is_opening command.now ≡ false → effect_seen result ≡ effect command.now }
+/// Returns what a command does to the order that it changes by its number.
+fn change_of(command: &Command) -> OrderChange
+    requires { IsSome (changed_number command.now) }
+    ensures { (n : ℕ) → changed_number command.now ≡ Some n → Changes (numbered n) (changed_order result)
+        ≡ effect command.now }
 {
     match *command {
         Command::More {
-            number,
             way,
             branch,
             article,
             qty,
-        } => {
-            let line = OpenLine {
-                way,
-                branch,
-                article,
-                qty,
-            };
-            Effect::Changes(number, OrderChange::HoldMore(line))
-        }
+            ..
+        } => OrderChange::HoldMore(OpenLine {
+            way,
+            branch,
+            article,
+            qty,
+        }),
         Command::Use {
-            number,
             branch,
             article,
             qty,
-        } => lines_change(number, FieldName { branch, article }, LineChange::Use(qty)),
+            ..
+        } => OrderChange::ChangeLines(FieldName { branch, article }, LineChange::Use(qty)),
         Command::Release {
-            number,
             branch,
             article,
             qty,
-        } => lines_change(
-            number,
-            FieldName { branch, article },
-            LineChange::Release(qty),
-        ),
-        Command::Commit { number } => {
-            Effect::Changes(number, OrderChange::End(State::Committed))
-        }
-        Command::Abort { number } => Effect::Changes(number, OrderChange::End(State::Aborted)),
-        Command::Firm { number } => Effect::Changes(number, OrderChange::MakeFirm),
-        Command::Expire { now } => Effect::Expires(now),
-        _ => Effect::Nothing,
+            ..
+        } => OrderChange::ChangeLines(FieldName { branch, article }, LineChange::Release(qty)),
+        Command::Commit { .. } => OrderChange::End(State::Committed),
+        Command::Abort { .. } => OrderChange::End(State::Aborted),
+        Command::Firm { .. } => OrderChange::MakeFirm,
+        _ => unreachable!(),
     }
 }
 
-/// A change of the order's line on that field, on a transfer of both lines.
-fn lines_change(number: OrderNo, name: FieldName, change: LineChange) -> Effect
-    ensures { effect_seen result ≡ Changes (numbered number) (change_lines name (changed_line change)) }
-{
-    Effect::Changes(number, OrderChange::ChangeLines(name, change))
-}
-
-/// How many lines more the change may want.
+/// Returns how many lines more the change may want.
 fn lines_wanted(change: &OrderChange) -> usize
     ensures { result ≡ lines_wanted change.now }
 {
@@ -254,7 +234,7 @@ fn lines_wanted(change: &OrderChange) -> usize
     }
 }
 
-/// A copy of the order, with room for so many lines more.
+/// Returns a copy of the order, with room for so many lines more.
 fn copy_of_order(alloc: Global, entry: &OrderEntry, more: usize) -> Result<OrderEntry, Memory>
     ensures same { IfOk result (λ copy. (n : ℕ) → order_of (n, copy) ≡ order_of (n, entry.now)) }
     ensures room { IfOk result (λ copy. vec_len copy.lines + more ≤ vec_capacity copy.lines) }
@@ -270,65 +250,141 @@ fn copy_of_order(alloc: Global, entry: &OrderEntry, more: usize) -> Result<Order
     })
 }
 
+/// What an accepted command makes of the orders, step by step: the orders as they are after it, the fields whose
+/// stock their lines change, and the rows that change.
+#[derive(Drop)]
+pub(super) struct Made {
+    pub orders: Vec<Order>,
+    pub fields: Fields,
+    pub changes: Vec<Change>,
+}
+
 impl Book {
-    /// Appends the order under that number, changed, if there is one.
+    /// Adds the step that leads to `after` from the order before it, if there was one.
+    fn push_step(
+        &self,
+        alloc: Global,
+        made: &mut Made,
+        before: Option<&OrderEntry>,
+        after: Order,
+    ) -> Result<(), Memory>
+        requires { MayMake self.now.ledger (step_seen (option_copied before) after ∷ []) made.old }
+        ensures { OnOk result (Adds self.now.ledger (step_seen (option_copied before.entry) after ∷ []) made.old made.new) }
+    {
+        self.count_order(&mut made.fields, before, &after)?;
+        push_rows(alloc, &mut made.changes, before, &after)?;
+        Ok(made.orders.push(after)?)
+    }
+
+    /// Adds the step that changes this order, which has that number.
     fn push_changed(
         &self,
         alloc: Global,
-        orders: &mut Vec<Order>,
+        made: &mut Made,
         number: OrderNo,
+        entry: &OrderEntry,
         change: &OrderChange,
     ) -> Result<(), Memory>
-        requires { MayChangeUnder self.now.ledger number change.now }
-        ensures { OnOk result (map order_of orders.new.items ≡ map order_of orders.old.items
-            ++ made_of self.now.ledger change.now number) }
+        requires there { order_numbered self.now.ledger number ≡ Some (order_of (number, entry.now)) }
+        requires change { MayChangeUnder self.now.ledger number change.now }
+        requires may { MayMake self.now.ledger (steps_under self.now.ledger change.now number) made.old }
+        ensures { OnOk result (Adds self.now.ledger (steps_under self.now.ledger change.now number) made.old made.new) }
     {
-        let Some(entry) = self.order_entry(number) else {
-            return Ok(());
-        };
         let mut copy = copy_of_order(alloc, entry, lines_wanted(change))?;
         change_order(&mut copy, change);
-        Ok(orders.push((number, copy))?)
+        self.push_step(alloc, made, Some(entry), (number, copy))
     }
 
-    /// Appends the orders under these numbers, aborted.
+    /// Adds the step that aborts the order under that number, if there is one.
+    fn push_abort(&self, alloc: Global, made: &mut Made, number: OrderNo) -> Result<(), Memory>
+        requires { MayMake self.now.ledger (steps_under self.now.ledger (OrderChange.End Aborted) number) made.old }
+        ensures { OnOk result (Adds self.now.ledger (steps_under self.now.ledger (OrderChange.End Aborted) number)
+            made.old made.new) }
+    {
+        match self.order_entry(number) {
+            Some(entry) => {
+                self.push_changed(
+                    alloc,
+                    made,
+                    number,
+                    entry,
+                    &OrderChange::End(State::Aborted),
+                )
+            }
+            None => Ok(()),
+        }
+    }
+
+    /// Adds the steps that abort the orders under these numbers.
     fn push_aborted(
         &self,
         alloc: Global,
-        orders: &mut Vec<Order>,
+        made: &mut Made,
         numbers: &[OrderNo],
     ) -> Result<(), Memory>
-        ensures { OnOk result (map order_of orders.new.items ≡ map order_of orders.old.items
-            ++ flat_map (made_of self.now.ledger (OrderChange.End Aborted)) numbers.now) }
+        requires { MayMake self.now.ledger (flat_map (steps_under self.now.ledger (OrderChange.End Aborted)) numbers.now)
+            made.old }
+        ensures { OnOk result (Adds self.now.ledger (flat_map (steps_under self.now.ledger (OrderChange.End Aborted))
+            numbers.now) made.old made.new) }
     {
         for number in numbers {
-            self.push_changed(alloc, orders, *number, &OrderChange::End(State::Aborted))?;
+            self.push_abort(alloc, made, *number)?;
         }
         Ok(())
     }
 
-    /// The orders that the accepted request opens or changes, as they are then, by their numbers.
-    pub(super) fn orders_made(&self, alloc: Global, request: &Request) -> Result<Vec<Order>, Memory>
-        requires { Accepts self.now.ledger request.now }
-        ensures { IfOk result (λ orders. map order_of orders.items ≡ orders_made self.now.ledger request.now.command) }
+    /// Adds the steps that the accepted request makes; `found` is what its checks found.
+    fn push_steps(
+        &self,
+        alloc: Global,
+        made: &mut Made,
+        request: &Request,
+        found: &Found<'_>,
+    ) -> Result<(), Memory>
+        requires accepts { Accepts self.now.ledger request.now }
+        requires found { IsFound self.now.ledger request.now.command found.now }
+        requires first { made.old.fields.entries ≡ [] }
+        ensures { OnOk result (Adds self.now.ledger (steps_of self.now.ledger request.now.command) made.old made.new) }
     {
-        let mut orders = Vec::new(alloc);
-        match effect_of(alloc, request.command.command())? {
-            Effect::Nothing => {}
-            Effect::Opens(order) => orders.push(order)?,
-            Effect::Changes(number, change) => {
-                self.push_changed(alloc, &mut orders, number, &change)?;
+        match *found {
+            Found::Nothing => {
+                let order = opened(alloc, request.command.command())?;
+                self.push_step(alloc, made, None, order)
             }
-            Effect::Expires(now) => {
+            Found::Field(..) => Ok(()),
+            Found::Order(number, entry) => {
+                let change = change_of(request.command.command());
+                self.push_changed(alloc, made, number, entry, &change)
+            }
+            Found::Clock(now) => {
                 let numbers = self.due(alloc, now)?;
-                self.push_aborted(alloc, &mut orders, &numbers)?;
+                self.push_aborted(alloc, made, &numbers)
             }
         }
-        Ok(orders)
     }
 
-    /// The numbers of the orders that an expiry at that moment aborts, in their order. It looks at all orders as they lie,
-    /// and is the one that does.
+    /// Returns what the accepted request makes of the orders; `found` is what its checks found.
+    pub(super) fn made(
+        &self,
+        alloc: Global,
+        request: &Request,
+        found: &Found<'_>,
+    ) -> Result<Made, Memory>
+        requires accepts { Accepts self.now.ledger request.now }
+        requires found { IsFound self.now.ledger request.now.command found.now }
+        ensures { IfOk result (IsMadeBy self.now.ledger request.now.command) }
+    {
+        let mut made = Made {
+            orders: Vec::new(alloc),
+            fields: InOrder::new(alloc),
+            changes: Vec::new(alloc),
+        };
+        self.push_steps(alloc, &mut made, request, found)?;
+        Ok(made)
+    }
+
+    /// Returns the numbers of the orders that an expiry at that moment aborts, in their order. Of the calls at a
+    /// book that is there, this one alone walks over all orders.
     pub fn due(&self, alloc: Global, now: Moment) -> Result<Vec<OrderNo>, Memory>
         ensures { IfOk result (λ numbers. numbers.items ≡ map (λ o. o.number)
             (filter (expires now) self.now.ledger.orders)) }
@@ -339,7 +395,7 @@ impl Book {
     }
 }
 
-/// Whether the expiry aborts the order.
+/// Returns whether an expiry at the moment `now` aborts the order.
 fn expires(order: &OrderEntry, now: Moment) -> bool
     ensures { result ≡ open_state order.now.state && not order.now.firm && nat_le order.now.until now }
 {
@@ -347,7 +403,7 @@ fn expires(order: &OrderEntry, now: Moment) -> bool
     order.until <= now && !order.firm && matches!(order.state, State::Open)
 }
 
-/// Appends the order's number, where it expires.
+/// Appends the order's number, where an expiry at the moment `now` aborts the order.
 fn push_expiring(numbers: &mut Vec<OrderNo>, order: &Order, now: Moment) -> Result<(), Memory>
     ensures { OnOk result (numbers.new.items ≡ numbers.old.items ++ map (λ o. o.number)
         (filter (expires now) (order_of order.now ∷ []))) }
@@ -358,7 +414,7 @@ fn push_expiring(numbers: &mut Vec<OrderNo>, order: &Order, now: Moment) -> Resu
     Ok(())
 }
 
-/// The numbers of those of the orders that expire, as the orders lie.
+/// Returns the numbers of those orders that an expiry at the moment `now` aborts, in the sequence that they have.
 fn expiring(alloc: Global, orders: &[Order], now: Moment) -> Result<Vec<OrderNo>, Memory>
     ensures { IfOk result (λ numbers. numbers.items ≡ map (λ o. o.number)
         (filter (expires now) (map order_of orders.now))) }

@@ -1,12 +1,15 @@
-//! What is answered to a request, before it is carried out; plans of accepted requests.
+//! What is answered to a request before it is carried out, and the plans of accepted requests.
 
 ghost use Rattle.ledger.specs.Answers.{IsAccepted};
-ghost use Rattle.book.specs.inner.StepsSeen.{Makes};
+ghost use Rattle.ledger.specs.Steps.{steps_of};
+ghost use Rattle.book.specs.inner.StepsSeen.{Makes, step_rows};
 ghost use Rattle.book.specs.inner.Checking.{IsFound};
-ghost use Rattle.ledger.specs.Next.{move_made, moved_at_once, transfer_lines};
+ghost use Rattle.ledger.specs.Ledger.{Ledger};
+ghost use Rattle.ledger.specs.Next.{move_made, transfer_lines};
 ghost use Rattle.book.specs.PlanAnswers.{Plans};
 ghost use Rattle.book.specs.inner.PlansSeen.{AreTold, plan_of};
 ghost use Rattle.ledger.specs.inner.Shares.{Accepts};
+ghost use Rattle.words.specs.declared.command.Command.{Command};
 ghost use Rattle.ledger.specs.Tables.{rows_among};
 ghost use Rattle.book.specs.Model.{move_of};
 ghost use Rattle.std.specs.Prelude.{◌≡◌, length, option_map, IfOk, OnErr};
@@ -20,10 +23,10 @@ use index::InOrder;
 use ledger::Change;
 use std::alloc::Global;
 use std::marker::Model;
-use words::{Command, Memory, OpenLine, Refusal, Request};
+use words::{Memory, OpenLine, Refusal, Request};
 
-/// What an accepted request puts into the book: its key, its words and its place, the clock then, and the
-/// fields, the move and the orders that it makes or changes.
+/// What an accepted request puts into the book: its key, its words and its place, the clock after it, and the fields,
+/// the move and the orders that it makes or changes.
 #[derive(Drop)]
 pub(crate) struct PlanParts {
     pub key: Key,
@@ -35,8 +38,8 @@ pub(crate) struct PlanParts {
     pub orders: Vec<Order>,
 }
 
-/// An accepted request with its place, what it puts into the book, and the rows that change.
-/// `Book::plan` gives one that fits the book's ledger.
+/// An accepted request with its place, what it puts into the book, and the rows that change. `Book::plan` returns one
+/// that fits the book's ledger.
 #[derive(Drop)]
 pub struct Plan {
     parts: PlanParts,
@@ -56,29 +59,29 @@ impl Model for Plan {
 }
 
 impl Plan {
-    /// The place that the command gets.
+    /// Returns the place that the command gets.
     pub fn place(&self) -> u64
         ensures { result ≡ self.now.place }
     {
         self.parts.place
     }
 
-    /// The rows that the request changes, those of each table in the order of its key: put into the tables they
-    /// give those of the ledger that `Book::adopt` leaves.
+    /// Returns the rows that the request changes, those of each table in the order of its key. Put into the tables,
+    /// they make these the rows of the ledger that `Book::adopt` leaves.
     pub fn changes(&self) -> &[Change]
         ensures { rows_among result.now ≡ self.now.changes }
     {
         &self.changes
     }
 
-    /// How many fields it makes or changes.
+    /// Returns how many fields the request makes or changes.
     pub(crate) fn field_count(&self) -> usize
         ensures { result ≡ length self.now.changes.fields }
     {
         self.parts.fields.len()
     }
 
-    /// What it puts into the book, and the rows that change.
+    /// Returns what the request puts into the book, and the rows that change.
     pub(crate) fn into_parts(self) -> (PlanParts, Vec<Change>)
         ensures parts { plan_of result.0 (rows_among result.1.items) ≡ self }
         ensures told { AreTold result.0 (rows_among result.1.items) }
@@ -92,13 +95,13 @@ impl Plan {
 pub enum Planned {
     /// Done already, at this place.
     Again(u64),
-    /// Refused, with the number of the line at fault, from 1; 0 where no line is.
+    /// Refused, with the number of the order line at fault, counted from 1; 0 where no line is at fault.
     Refused(Refusal, u64),
     /// Accepted.
     Accept(Plan),
 }
 
-/// The lines of a transfer: a take at the one branch, an add at the other.
+/// Returns the lines of a transfer: a take at the one branch, an add at the other.
 pub(super) fn transfer_lines(article: Article, from: Branch, to: Branch, qty: Qty) -> [OpenLine; 2]
     ensures { result ≡ transfer_lines article from to qty }
 {
@@ -116,31 +119,14 @@ pub(super) fn transfer_lines(article: Article, from: Branch, to: Branch, qty: Qt
     [take, add]
 }
 
-/// The field whose value the command moves at once, the way, and how much.
-pub(super) fn moved_at_once(command: &Command) -> Option<(FieldName, Way, Qty)>
-    ensures { result ≡ moved_at_once command.now }
+/// Returns the move that a command makes at that place, if it makes one; `found` is what its checks found.
+fn move_made(place: u64, found: &Found<'_>) -> Option<MoveEntry>
+    ensures { (A : Ledger) (c : Command) → IsFound A c found.now → option_map move_of result ≡ move_made place c }
 {
-    match *command {
-        Command::Deliver {
-            branch,
-            article,
-            qty,
-        } => Some((FieldName { branch, article }, Way::Add, qty)),
-        Command::Writeoff {
-            branch,
-            article,
-            qty,
-        } => Some((FieldName { branch, article }, Way::Take, qty)),
-        _ => None,
-    }
-}
-
-/// The move that the command makes at that place, if it makes one.
-fn move_made(place: u64, command: &Command) -> Option<MoveEntry>
-    ensures { option_map move_of result ≡ move_made place command.now }
-{
-    let (name, way, qty) = moved_at_once(command)?;
-    let amount = qty.get() as i64;
+    let Found::Field(field, Some((way, qty))) = *found else {
+        return None;
+    };
+    let (name, amount) = (field.0, qty.get() as i64);
     Some(MoveEntry {
         place,
         branch: name.branch,
@@ -153,7 +139,8 @@ fn move_made(place: u64, command: &Command) -> Option<MoveEntry>
 }
 
 impl Book {
-    /// What is answered to the request. The book is as it was. Memory is wanted only for a command that is accepted.
+    /// Plans the request: returns what is answered to it, with the plan where it is accepted. The book stays as it was.
+    /// Memory is wanted only for a request that is accepted.
     pub fn plan(&self, alloc: Global, request: &Request) -> Result<Planned, Memory>
         ensures planned { IfOk result (λ planned. Plans self.now.ledger request.now planned) }
         ensures memory { OnErr result (IsAccepted self.now.ledger request.now) }
@@ -165,46 +152,54 @@ impl Book {
                 Ok(Planned::Refused(Refusal::KeyReused, 0))
             };
         }
-        let found = match self.check(alloc, request.command.command()) {
+        let found = match self.check(request.command.command()) {
             Ok(found) => found,
             Err(failure) => return Ok(Planned::Refused(failure.0, failure.1)),
         };
         self.accepts(request);
-        let parts = self.parts_of(alloc, request, found)?;
-        let changes = self.changes_of(alloc, request, &parts)?;
+        let (parts, rows) = self.parts_of(alloc, request, &found)?;
+        let changes = self.changes_of(alloc, request, &parts, rows)?;
         Ok(Planned::Accept(Plan { parts, changes }))
     }
 
-    /// That an accepted request is in range, and leaves a good ledger.
+    /// Does nothing when run; the prover learns that an accepted request is in range, and leaves a good ledger.
     fn accepts(&self, request: &Request)
         requires { IsAccepted self.now.ledger request.now }
         ensures { Accepts self.now.ledger request.now }
     {
-        // so that the proof has the invariants
+        // the prover learns that the book's ledger is good, and that the key and the command are in range
         let _ = &self.kept;
         request.key.as_bytes();
         request.command.words();
     }
 
-    /// What the accepted request puts into the book, with what its check found.
-    fn parts_of(&self, alloc: Global, request: &Request, found: Found) -> Result<PlanParts, Memory>
+    /// Returns what the accepted request puts into the book, and the rows of its orders that change; `found` is what
+    /// its checks found.
+    fn parts_of(
+        &self,
+        alloc: Global,
+        request: &Request,
+        found: &Found<'_>,
+    ) -> Result<(PlanParts, Vec<Change>), Memory>
         requires accepts { Accepts self.now.ledger request.now }
-        requires found { IsFound self.now.ledger request.now.command found }
-        ensures { IfOk result (λ parts. Makes self.now.ledger request.now parts) }
+        requires found { IsFound self.now.ledger request.now.command found.now }
+        ensures makes { IfOk result (λ made. Makes self.now.ledger request.now made.0) }
+        ensures rows { IfOk result (λ made. rows_among made.1.items
+            ≡ step_rows (steps_of self.now.ledger request.now.command)) }
     {
-        let command = request.command.command();
         let words = KeptWords::of(alloc, &request.command)?;
         let place = self.kept.len() as u64 + 1;
-        let orders = self.orders_made(alloc, request)?;
-        let fields = self.fields_after(alloc, request, found, &orders)?;
-        Ok(PlanParts {
+        let made = self.made(alloc, request, found)?;
+        let fields = self.fields_after(alloc, request, found, made.fields)?;
+        let parts = PlanParts {
             key: request.key,
             words,
             place,
-            clock: self.clock_after(command),
+            clock: self.clock_after(found),
             fields,
-            moved: move_made(place, command),
-            orders,
-        })
+            moved: move_made(place, found),
+            orders: made.orders,
+        };
+        Ok((parts, made.changes))
     }
 }

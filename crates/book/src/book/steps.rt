@@ -1,4 +1,4 @@
-//! What differs between an order as it was, if it was there, and as an accepted command leaves it.
+//! What differs between an order as it was before an accepted command, if it was there, and as it is after.
 
 ghost use Rattle.ledger.specs.Steps.{becomes_firm, changes_held, changes_line, changes_state, changes_stock};
 ghost use Rattle.book.specs.inner.StepsSeen.{line_seen, lines_before, step_seen};
@@ -8,7 +8,7 @@ ghost use Rattle.std.specs.Prelude.{◌≡◌, ℕ, slice_get};
 use crate::order::{Order, OrderEntry, is_open};
 use ledger::Line;
 
-/// Whether the order is new, or ends.
+/// Returns whether the order is new, or ends.
 pub(super) fn changes_state(before: Option<&OrderEntry>, after: &Order) -> bool
     ensures { result ≡ changes_state (step_seen (option_copied before.entry) after.now) }
 {
@@ -18,7 +18,7 @@ pub(super) fn changes_state(before: Option<&OrderEntry>, after: &Order) -> bool
     }
 }
 
-/// Whether the order becomes firm.
+/// Returns whether the order becomes firm.
 pub(super) fn becomes_firm(before: Option<&OrderEntry>, after: &Order) -> bool
     ensures { result ≡ becomes_firm (step_seen (option_copied before.entry) after.now) }
 {
@@ -28,7 +28,7 @@ pub(super) fn becomes_firm(before: Option<&OrderEntry>, after: &Order) -> bool
     }
 }
 
-/// The line at that place before, if there was one.
+/// Returns the order line that was at index `place` before, if there was one.
 pub(super) fn line_before<'a>(before: Option<&'a OrderEntry>, place: usize) -> Option<&'a Line>
     ensures { option_copied result ≡ slice_get (lines_before (option_copied before.entry)) place }
 {
@@ -38,7 +38,7 @@ pub(super) fn line_before<'a>(before: Option<&'a OrderEntry>, place: usize) -> O
     }
 }
 
-/// Whether the line is new, or holds another amount.
+/// Returns whether the line is new, or holds another amount.
 fn changes_held(before: Option<&Line>, line: &Line) -> bool
     ensures { (nr : ℕ) → result ≡ changes_held (line_seen nr (option_copied before.entry) line.now) }
 {
@@ -48,7 +48,7 @@ fn changes_held(before: Option<&Line>, line: &Line) -> bool
     }
 }
 
-/// Whether the line is new, or one of its amounts is another.
+/// Returns whether the line is new, or one of its amounts changes.
 pub(super) fn changes_line(before: Option<&Line>, line: &Line) -> bool
     ensures { (nr : ℕ) → result ≡ changes_line (line_seen nr (option_copied before.entry) line.now) }
 {
@@ -58,7 +58,7 @@ pub(super) fn changes_line(before: Option<&Line>, line: &Line) -> bool
     }
 }
 
-/// Whether the stock of the line's field changes.
+/// Returns whether the stock of the line's field changes.
 pub(super) fn changes_stock(
     before: Option<&OrderEntry>,
     after: &Order,

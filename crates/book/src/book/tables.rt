@@ -38,10 +38,10 @@ use std::alloc::Global;
 use thiserror::Error;
 use words::Memory;
 
-/// Why no book was made of tables.
+/// Why no book was made from tables.
 #[derive(Clone, Copy, Debug, PartialEq, Eq, Error)]
 pub enum TablesFault {
-    /// They are the rows of no good ledger.
+    /// The tables are the rows of no good ledger.
     #[error("damaged")]
     Damaged,
     /// Memory was refused.
@@ -49,7 +49,7 @@ pub enum TablesFault {
     Memory,
 }
 
-/// What the rows of tables tell, be the ledger good or not.
+/// What the rows of tables say, whether the ledger is good or not.
 #[derive(Drop)]
 struct Entries {
     clock: Moment,
@@ -59,7 +59,8 @@ struct Entries {
     kept: Vec<(Key, KeptEntry)>,
 }
 
-/// The clock, where the row has it and these places.
+/// Returns the clock of the row, or `None` exactly where the row is not that of a desk of this version with so many
+/// places.
 fn read_desk(row: &DeskRow, places: usize) -> Option<Moment>
     ensures { MatchOption result ((clock : ℕ) → IsMoment clock → desk_cells row.now ≡ desk_of clock places → ⊥)
         (λ clock. IsMoment clock × (desk_cells row.now ≡ desk_of clock places)) }
@@ -71,7 +72,7 @@ fn read_desk(row: &DeskRow, places: usize) -> Option<Moment>
     moment(row.clock)
 }
 
-/// The orders that their rows tell, with those of their lines and of firm ones.
+/// Returns the orders that the rows of orders, of their lines and of firm orders give.
 fn read_orders(
     alloc: Global,
     orders: &[OrderRow],
@@ -89,8 +90,8 @@ fn read_orders(
     group(alloc, &heads, lines, &told)
 }
 
-/// What the rows tell, where they tell a ledger, good or not. The rows of each table are let go as soon as they are
-/// read.
+/// Returns what the rows say, where they are those of a ledger, good or not. The rows of each table are freed as soon
+/// as they are read.
 fn read_tables(alloc: Global, tables: Tables) -> Result<Entries, TablesFault>
     ensures told { IfOk result (λ entries. TellsLedger (told_ledger entries) (content_of tables)) }
     ensures form { IfOk result (λ entries. IsInForm (told_ledger entries)) }
@@ -119,7 +120,7 @@ fn read_tables(alloc: Global, tables: Tables) -> Result<Entries, TablesFault>
     })
 }
 
-/// Whether each list is in the order of its keys.
+/// Returns whether each list is in the order of its keys.
 fn are_in_order(entries: &Entries) -> bool
     ensures { IsTrue result ↔ AreInOrder entries.now }
 {
@@ -129,7 +130,7 @@ fn are_in_order(entries: &Entries) -> bool
     are_keys_in_order(&entries.orders) && are_keys_in_order(&entries.kept)
 }
 
-/// Whether they keep the limits.
+/// Returns whether the entries keep the limits.
 fn keep_limits(entries: &Entries) -> bool
     ensures { IsTrue result ↔ IsWithinLimits (told_ledger entries.now) }
 {
@@ -139,7 +140,8 @@ fn keep_limits(entries: &Entries) -> bool
         && entries.kept.len() + count_open(&entries.orders) <= MAX_PLACES
 }
 
-/// Whether they are those of a good ledger, apart from whether fields are there, and safe.
+/// Returns whether the entries are those of a good ledger, but for two questions that are left open: whether the fields
+/// that they name are there, and whether these are safe.
 fn are_whole(alloc: Global, entries: &Entries) -> Result<bool, Memory>
     ensures { IfOk result (λ whole. IsTrue whole ↔ IsWhole entries.now) }
 {
@@ -152,7 +154,7 @@ fn are_whole(alloc: Global, entries: &Entries) -> Result<bool, Memory>
     are_places_good(alloc, &entries.kept)
 }
 
-/// Whether they are those of a good ledger, with the numbers of its fields.
+/// Returns whether the entries are those of a good ledger, and its fields have the right numbers.
 fn are_good(alloc: Global, entries: &Entries) -> Result<bool, Memory>
     requires form { IsInForm (told_ledger entries.now) }
     requires bounded { Each (λ e. IsBounded e.1.quantity) entries.now.fields.items }
@@ -165,10 +167,11 @@ fn are_good(alloc: Global, entries: &Entries) -> Result<bool, Memory>
 }
 
 impl Book {
-    /// The book of the ledger whose rows the tables are, or `Damaged` where they are the rows of no good ledger;
-    /// unless memory is refused, exactly there. That goes for their order, codes, ranges and places, what one row
-    /// names of another, safety, and the numbers of fields; nothing is mended. Its time is that of the rows, times
-    /// the logarithm of the number of fields; each line is also compared with those before it in its order.
+    /// Returns the book of the ledger whose rows the tables are. Unless memory is refused, the answer is `Damaged`
+    /// exactly where they are the rows of no good ledger. The call checks the order, the codes, the ranges and the
+    /// places of the rows, what one row names of another, that no outcome leaves a field's bounds, and the numbers of
+    /// the fields; it mends nothing. The time grows with the number of rows times the logarithm of the number of
+    /// fields; each order line is also compared with those before it in its order.
     pub fn of_tables(alloc: Global, tables: Tables) -> Result<Book, TablesFault>
         ensures ok { IfOk result (λ book. Good book.ledger × IsRowsOf book.ledger (content_of tables)) }
         ensures damaged { IfErr result (λ fault. fault ≡ TablesFault.Damaged → IsDamaged (content_of tables)) }

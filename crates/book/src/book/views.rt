@@ -44,35 +44,35 @@ pub struct KeptView<'a> {
 }
 
 impl Book {
-    /// The clock.
+    /// Returns the clock.
     pub fn clock(&self) -> Moment
         ensures { result ≡ self.now.ledger.clock }
     {
         self.clock
     }
 
-    /// How many places are taken: one for each command that was accepted.
+    /// Returns how many places are taken: one for each command that was accepted.
     pub fn places(&self) -> usize
         ensures { result ≡ places self.now.ledger }
     {
         self.kept.len()
     }
 
-    /// How many orders there are, open or ended.
+    /// Returns how many orders there are, open or ended.
     pub fn order_count(&self) -> usize
         ensures { result ≡ length self.now.ledger.orders }
     {
         self.orders.len()
     }
 
-    /// How many orders are open.
+    /// Returns how many orders are open.
     pub fn open_count(&self) -> usize
         ensures { result ≡ open_orders self.now.ledger }
     {
         self.orders.open_count()
     }
 
-    /// What is kept under that key, or `None` exactly where nothing is.
+    /// Returns what is kept under that key, or `None` exactly where nothing is.
     pub fn kept(&self, key: Key) -> Option<KeptView<'_>>
         ensures { let found = kept_under self.now.ledger key in MatchOption result (found ≡ None)
             (λ view. IsSomeAnd found (λ k. ShowsKept k view)) }
@@ -84,7 +84,7 @@ impl Book {
         })
     }
 
-    /// The field of that name, or `None` exactly where there is none.
+    /// Returns the field of that name, or `None` exactly where there is none.
     pub fn field(&self, branch: Branch, article: Article) -> Option<FieldView>
         ensures { let found = field_named self.now.ledger (name_of branch article) in MatchOption result (found ≡ None)
             (λ view. IsSomeAnd found (λ f. ShowsField self.now.ledger f view)) }
@@ -93,15 +93,15 @@ impl Book {
         Some(show(name, self.field_entry(&name)?))
     }
 
-    /// How many fields there are.
+    /// Returns how many fields there are.
     pub fn field_count(&self) -> usize
         ensures { result ≡ length self.now.ledger.fields }
     {
         self.fields.len()
     }
 
-    /// The field at that index, from 0 and in the order of branches, then articles, or `None` exactly past the
-    /// last.
+    /// Returns the field at that index, or `None` exactly past the last field. Indexes count from 0, in the order of
+    /// branches, then of articles.
     pub fn field_at(&self, index: usize) -> Option<FieldView>
         ensures found { let found = slice_get self.now.ledger.fields index in MatchOption result (found ≡ None)
             (λ view. IsSomeAnd found (λ f. ShowsField self.now.ledger f view)) }
@@ -112,7 +112,7 @@ impl Book {
         Some(view)
     }
 
-    /// The first open order from that number on, or `None` exactly where there is none.
+    /// Returns the first open order from that number on, or `None` exactly where there is none.
     pub fn open_from(&self, number: OrderNo) -> Option<OrderView<'_>>
         ensures { let found = open_from self.now.ledger number in MatchOption result (found ≡ None)
             (λ view. IsSomeAnd found (λ o. ShowsOrder o view)) }
@@ -123,7 +123,7 @@ impl Book {
         }
     }
 
-    /// The order of that number, or `None` exactly where there is none.
+    /// Returns the order of that number, or `None` exactly where there is none.
     pub fn order(&self, number: OrderNo) -> Option<OrderView<'_>>
         ensures { let found = order_numbered self.now.ledger number in MatchOption result (found ≡ None)
             (λ view. IsSomeAnd found (λ o. ShowsOrder o view)) }
@@ -132,7 +132,7 @@ impl Book {
     }
 }
 
-/// Where an order in that state stands, which is firm or not.
+/// Returns how an order is shown that has this state, and is firm or is not.
 fn shown_state(state: State, firm: bool) -> Standing
     ensures { result ≡ shown_state state firm }
 {
@@ -144,7 +144,7 @@ fn shown_state(state: State, firm: bool) -> Standing
     }
 }
 
-/// What is shown of an order.
+/// Returns what is shown of an order.
 fn show_order(number: OrderNo, entry: &OrderEntry) -> OrderView<'_>
     ensures { ShowsOrder (order_of (number, entry.now)) result }
 {
@@ -157,7 +157,7 @@ fn show_order(number: OrderNo, entry: &OrderEntry) -> OrderView<'_>
     }
 }
 
-/// What is shown of a field.
+/// Returns what is shown of a field.
 fn show(name: FieldName, entry: &FieldEntry) -> FieldView
     ensures { (A : Ledger) → Good A → IsUpToDate A (name, entry.now) → ShowsField A
         (field_of (name, entry.now)) result }

@@ -31,7 +31,7 @@ impl Model for Article {
 }
 
 impl Article {
-    /// The article with this code, or `BadCode` exactly where the bytes are no article's code.
+    /// Returns the article with this code, or `BadCode` exactly where the bytes are no article's code.
     pub fn read(bytes: &[u8]) -> Result<Article, BadCode>
         ensures { OkIff result (IsArticle bytes.now) bytes.now }
     {
@@ -43,12 +43,20 @@ impl Article {
         })
     }
 
-    /// The bytes of the code.
+    /// Returns the bytes of the code.
     pub fn as_bytes(&self) -> &[u8]
         ensures value { result.now ≡ self.now }
         ensures form { IsArticle self.now }
     {
         self.text.as_bytes()
+    }
+
+    /// Returns the code as a text, which is ASCII.
+    pub fn as_str(&self) -> &str
+        ensures value { result.now ≡ self.now }
+        ensures form { IsArticle self.now }
+    {
+        self.text.as_str()
     }
 }
 

@@ -29,7 +29,7 @@ impl Model for Branch {
 }
 
 impl Branch {
-    /// The branch with this code, or `BadCode` exactly where the bytes are no branch's code.
+    /// Returns the branch with this code, or `BadCode` exactly where the bytes are no branch's code.
     pub fn read(bytes: &[u8]) -> Result<Branch, BadCode>
         ensures { OkIff result (IsBranch bytes.now) bytes.now }
     {
@@ -41,12 +41,20 @@ impl Branch {
         })
     }
 
-    /// The bytes of the code.
+    /// Returns the bytes of the code.
     pub fn as_bytes(&self) -> &[u8]
         ensures value { result.now ≡ self.now }
         ensures form { IsBranch self.now }
     {
         self.text.as_bytes()
+    }
+
+    /// Returns the code as a text, which is ASCII.
+    pub fn as_str(&self) -> &str
+        ensures value { result.now ≡ self.now }
+        ensures form { IsBranch self.now }
+    {
+        self.text.as_str()
     }
 }
 

@@ -31,7 +31,7 @@ impl Model for Key {
 }
 
 impl Key {
-    /// The key of these bytes, or `BadCode` exactly where they are no key.
+    /// Returns the key of these bytes, or `BadCode` exactly where they are no key.
     pub fn read(bytes: &[u8]) -> Result<Key, BadCode>
         ensures { OkIff result (IsKey bytes.now) bytes.now }
     {
@@ -43,12 +43,20 @@ impl Key {
         })
     }
 
-    /// The bytes of the key.
+    /// Returns the bytes of the key.
     pub fn as_bytes(&self) -> &[u8]
         ensures value { result.now ≡ self.now }
         ensures form { IsKey self.now }
     {
         self.text.as_bytes()
+    }
+
+    /// Returns the key as a text, which is ASCII.
+    pub fn as_str(&self) -> &str
+        ensures value { result.now ≡ self.now }
+        ensures form { IsKey self.now }
+    {
+        self.text.as_str()
     }
 }
 

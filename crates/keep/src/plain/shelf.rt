@@ -29,7 +29,7 @@ pub(super) struct Shelf {
     pub firms: BlockList<FirmRow>,
 }
 
-/// Where the row with that key stands, or the place for it among the others.
+/// Returns where the row with that key stands, or the place for it among the others.
 fn place_of<R: TableRow>(rows: &BlockList<R>, row: &R) -> Result<usize, usize>
     requires { IsStrictlySortedBy (key_cmp R.which) (map R.cells rows.now.items) }
     ensures there { IfOk result (λ i. (i < length rows.now.items) × (map R.cells (slice_set rows.now.items i row.now)
@@ -54,7 +54,7 @@ fn put_row<R: TableRow>(rows: &mut BlockList<R>, row: R)
     }
 }
 
-/// The rows, each copied.
+/// Copies the rows.
 fn copy_rows<R: TableRow>(alloc: Global, rows: &BlockList<R>) -> Result<Vec<R>, AllocError>
     ensures { IfOk result (λ copies. map R.cells copies.items ≡ map R.cells rows.now.items) }
 {
@@ -79,7 +79,7 @@ fn copy_change(alloc: Global, change: &Change) -> Result<Change, AllocError>
     })
 }
 
-/// The changes, each copied.
+/// Copies the changes.
 fn copy_changes(alloc: Global, changes: &[Change]) -> Result<Vec<Change>, AllocError>
     ensures same { IfOk result (λ copies. rows_among copies.items ≡ rows_among changes.now) }
     ensures length { IfOk result (λ copies. length copies.items ≡ length changes.now) }
@@ -92,7 +92,7 @@ fn copy_changes(alloc: Global, changes: &[Change]) -> Result<Vec<Change>, AllocE
 }
 
 impl Shelf {
-    /// The rows of a new desk. Takes no memory.
+    /// Returns the rows of a new desk. Takes no memory.
     pub fn new(alloc: Global) -> Shelf
         ensures content { shelf_content result ≡ new_content }
         ensures order { IsInOrder result }
@@ -109,7 +109,7 @@ impl Shelf {
         }
     }
 
-    /// A copy of the rows.
+    /// Returns a copy of the rows.
     pub fn copy(&self, alloc: Global) -> Result<Tables, AllocError>
         ensures { IfOk result (λ tables. content_of tables ≡ shelf_content self.now) }
     {

@@ -1,4 +1,4 @@
--- The rows of the fields as sums over the ledger's entries give them.
+-- The rows of the fields, computed as sums over the ledger's entries.
 use Rattle.std.specs.Prelude.{ℤ, pos, ◌+ℤ◌, ◌-ℤ◌, List, [], ◌∷◌, flat_map, if◌then◌else◌}
 use Rattle.std.specs.Option.{option_map_or}
 use Rattle.words.specs.declared.command.Command.{Command}

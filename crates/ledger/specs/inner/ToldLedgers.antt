@@ -1,10 +1,10 @@
--- What rows tell of a ledger, whatever they say of the value, the infimum and the supremum of its fields.
+-- What rows say about a ledger, whatever they give as the value, the infimum and the supremum of its fields.
 use Rattle.std.specs.Prelude.{ℕ, ◌≡◌, pos, List, [], ◌∷◌, map, flat_map}
 use Rattle.std.specs.List.{AllByRecursion as Each, AllZip}
 use Rattle.ledger.specs.Ledger.{Field, Ledger}
 use Rattle.ledger.specs.Rows.{Content, FieldCells, LineCells, desk_row, firm_rows, kept_row, move_row, order_lines, order_row}
 
--- the row tells the field's name, its bounds and its start; of its three other numbers nothing is said
+-- the row gives the field's name, its bounds and its start; about its three other numbers nothing is said
 pub record TellsField (f : Field) (row : FieldCells) : Type 0 where
   pub branch : row.branch ≡ f.name.branch
   pub article : row.article ≡ f.name.article
@@ -14,14 +14,14 @@ pub record TellsField (f : Field) (row : FieldCells) : Type 0 where
 
 -- ---- orders from rows
 
--- none is a row of that order
+-- none of the rows belongs to that order
 abbrev pub AreOthers : ℕ → List LineCells → Type 0
 AreOthers number rows = Each (λ row. row.number ≡ pos number → ⊥) rows
 
 -- ---- ledgers from tables
 
--- The content is the ledger's rows, but for the value, the infimum and the supremum of its fields, of which nothing is
--- said.
+-- The content is the ledger's rows, but for the value, the infimum and the supremum of its fields, about which
+-- nothing is said.
 pub record TellsLedger (A : Ledger) (C : Content) : Type 0 where
   pub desk : C.desk ≡ desk_row A ∷ []
   pub fields : AllZip TellsField A.fields C.fields

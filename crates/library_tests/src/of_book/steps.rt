@@ -2,7 +2,7 @@
 
 use crate::books::{Row, Step};
 
-/// Stock, an order, a transfer that is made firm, an order that is aborted, and one that expires.
+/// Returns stock, an order, a transfer that is made firm, an order that is aborted, and one that expires.
 pub(super) fn each_kind() -> &'static [Step] {
     &EACH_KIND
 }

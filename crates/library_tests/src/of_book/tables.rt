@@ -6,14 +6,14 @@ use ledger::{DeskRow, FieldRow, FirmRow, KeptRow, LineRow, MoveRow, OrderRow, Ro
 use std::alloc::Global;
 use std::test::Fail;
 
-/// The numbers of the fields, moves, orders, lines, kept commands and firm orders, as their rows come. The number of a
-/// line is ten times that of its order, and its own.
+/// The numbers of the fields, moves, orders, order lines, kept commands and firm orders, in the order of their rows.
+/// The number of an order line is ten times its order's number, plus its own in the order.
 type Numbers = [&'static [i64]; 6];
 
 /// Two fields, moves, orders and kept commands, three lines, and the second order firm.
 const GOOD: Numbers = [&[1, 2], &[1, 2], &[1, 2], &[11, 12, 21], &[1, 2], &[2]];
 
-/// Rows out of the order of their keys, and a key that comes twice, as no database gives them.
+/// Returns rows out of the order of their keys, and a key that comes twice, as no database gives them.
 fn damaged() -> &'static [Numbers] {
     &DAMAGED
 }
@@ -32,7 +32,7 @@ fn name(alloc: Global, number: i64) -> Result<String, Fail> {
     Ok(format!(in alloc; "N{number}")?)
 }
 
-/// A branch and the one article.
+/// Returns a branch and the one article.
 fn names(alloc: Global, number: i64) -> Result<(String, String), Fail> {
     let branch = name(alloc, number)?;
     Ok((branch, name(alloc, 1)?))
@@ -56,7 +56,7 @@ fn fields(alloc: Global, numbers: &[i64]) -> Result<Vec<FieldRow>, Fail> {
     Ok(rows)
 }
 
-/// A delivery, and a write-off of as much.
+/// Returns a delivery, and a write-off of the same amount.
 fn moves(alloc: Global, places: &[i64]) -> Result<Vec<MoveRow>, Fail> {
     let mut rows = Vec::new(alloc);
     for place in places {
@@ -72,7 +72,7 @@ fn moves(alloc: Global, places: &[i64]) -> Result<Vec<MoveRow>, Fail> {
     Ok(rows)
 }
 
-/// Orders of which the first is aborted, and the others are committed.
+/// Returns orders of which the first is aborted, and the others are committed.
 fn orders(alloc: Global, numbers: &[i64]) -> Result<Vec<OrderRow>, Fail> {
     let mut rows = Vec::new(alloc);
     for number in numbers {
@@ -111,7 +111,7 @@ fn firms(alloc: Global, numbers: &[i64]) -> Result<Vec<FirmRow>, Fail> {
     Ok(rows)
 }
 
-/// Two commands, at the places 1 and 2.
+/// Returns two commands, at the places 1 and 2.
 fn kept(alloc: Global, numbers: &[i64]) -> Result<Vec<KeptRow>, Fail> {
     let mut rows = Vec::new(alloc);
     for number in numbers {
@@ -144,7 +144,7 @@ fn tables_of(alloc: Global, numbers: &Numbers) -> Result<Tables, Fail> {
     })
 }
 
-/// The book of these rows: the call without its clauses, so that a test's proof need not carry them.
+/// Returns the book of these rows: the call without its clauses, so that a test's proof need not know them.
 fn book_of(alloc: Global, tables: Tables) -> Result<Book, TablesFault> {
     Book::of_tables(alloc, tables)
 }

@@ -1,4 +1,4 @@
-//! Requests that are carried out together: what is found wherever a batch stops, and where a refusal is told.
+//! Requests that are carried out together: what is found wherever a batch stops, and where a refusal is answered.
 
 use super::headline::{Trial, at_each_stop, found};
 use super::three_orders::{COUNT, expect_replies, expect_rows, next_of, three_orders};
@@ -9,15 +9,16 @@ use std::alloc::Global;
 use std::test::Fail;
 use words::{Refusal, Reply, Request};
 
-/// So many are carried out together, of a list of which so many requests are answered before each commit, and at its end.
+/// How a list is carried out in batches of at most `most` requests: `told` says how many requests are answered before
+/// each commit, and at the end.
 #[derive(Clone, Copy)]
 struct Batches {
     most: usize,
     told: &'static [usize],
 }
 
-/// The requests in lists of three and of all. The seventh is refused: it has no commit of its own, and what is accepted
-/// behind it is in no transaction with it.
+/// The requests in batches of three, and all in one. The seventh is refused: it has no commit of its own, and what is
+/// accepted after it is in no transaction with it.
 const LENGTHS: [Batches; 2] = [
     Batches {
         most: 3,
@@ -30,7 +31,7 @@ const LENGTHS: [Batches; 2] = [
 ];
 
 impl Batches {
-    /// How many requests are done behind the next commit, where so many are answered.
+    /// Returns how many requests are done after the next commit, where so many are answered.
     fn behind(self, before: usize) -> usize {
         match self.told.iter().find(|told| **told > before) {
             Some(told) => *told,
@@ -38,8 +39,8 @@ impl Batches {
         }
     }
 
-    /// How many requests may be done where so many are answered: those, or after `Stopped` the ones of a whole batch
-    /// more.
+    /// Returns how many requests may be done where so many are answered: as many, or after `Stopped` those of one whole
+    /// batch more.
     fn most_done(self, told: usize, ending: Ending) -> Result<usize, Fail> {
         if ending != Ending::Stopped {
             return Ok(told);
@@ -51,7 +52,7 @@ impl Batches {
     }
 }
 
-/// The next requests, so many at most, are carried out together: how many are answered then, and how it ended.
+/// Carries out the next requests together, at most `most`. Returns how many are answered then, and how that ended.
 fn answer_some<K: Keep>(
     alloc: Global,
     desk: &mut Desk<K>,
@@ -64,8 +65,8 @@ fn answer_some<K: Keep>(
     Ok((before.checked_add(count).ok_or("too many")?, run.ending))
 }
 
-/// The requests from there on are carried out, so many together at a time, until that ends: how many are answered then,
-/// and how it ended.
+/// Carries out the requests from there on, in batches of at most `most`, until that ends. Returns how many are answered
+/// then, and how it ended.
 fn answer_by<K: Keep>(
     alloc: Global,
     desk: &mut Desk<K>,
@@ -84,7 +85,8 @@ fn answer_by<K: Keep>(
     Ok((told, Ending::All))
 }
 
-/// The same on a desk, which is given up then.
+/// Carries out the requests from there on, in batches of at most `most`, until that ends. Returns the desk's keeper,
+/// how many requests are answered then, and how it ended.
 fn carry_out<K: Keep + Drop>(
     alloc: Global,
     mut desk: Desk<K>,
@@ -98,7 +100,7 @@ fn carry_out<K: Keep + Drop>(
     Ok((keep, told, ending))
 }
 
-/// The requests are carried out in batches up to a stop; the desk is opened behind it, and goes on to the end.
+/// Carries out the requests in batches up to a stop, opens the desk after it, and goes on to the end.
 #[derive(Drop)]
 struct Batched {
     batches: Batches,
@@ -127,23 +129,23 @@ impl Trial for Batched {
 #[test]
 fn a_batch_is_whole_wherever_it_stops(rt: HostRuntime) -> Result<(), Fail> {
     for batches in LENGTHS {
-        // each commit is a write and a sync of the log at least
+        // each commit is at least a write and a sync of the log
         let least = batches.told.len() as u64;
         assert!(rt; at_each_stop(rt.alloc(), &Batched { batches }, batches.told)? >= least);
     }
     Ok(())
 }
 
-/// A delivery that is too much, and behind it a write-off that makes room for it: it has a transaction of its own, so it
-/// is kept only where the refusal is told.
+/// A delivery that is too much, and after it a write-off that makes room for it. The write-off has a transaction of its
+/// own, so it is kept only where the refusal is answered.
 const ROOM_MADE: [&str; 3] = [
     "M1 field N1 A-1 0 100 90",
     "M2 deliver N1 A-1 20",
     "M3 writeoff N1 A-1 30",
 ];
 
-/// The requests are carried out together on the desk that the keeper holds: the keeper, the value that the one field had
-/// before, and the run.
+/// Carries out the requests together on the desk that the keeper holds. Returns the keeper, the value that the one
+/// field had before, and the run.
 fn together<K: Keep + Drop>(
     alloc: Global,
     keep: K,
@@ -155,7 +157,8 @@ fn together<K: Keep + Drop>(
     Ok((desk.into_keep(), value, run))
 }
 
-/// The refusal is told, and the desk stops at the write-off's commit, which lands or not: the keeper, opened anew.
+/// Returns the keeper, opened anew, of a desk that has answered the refusal and stopped at the write-off's commit,
+/// which lands or does not.
 fn stopped_behind_it(alloc: Global, requests: &[Request], lands: bool) -> Result<PlainKeep, Fail> {
     let (keep, _, cut) = together(alloc, PlainKeep::start(alloc, Some(2), lands), requests)?;
     let told = [Reply::Done(1), Reply::Refused(Refusal::TooMuch, 0)];
@@ -165,15 +168,15 @@ fn stopped_behind_it(alloc: Global, requests: &[Request], lands: bool) -> Result
     Ok(keep.reopen(None, false))
 }
 
-/// Whether this value is found, and the write-off is done.
+/// Returns whether the field has this value, and the write-off is then done.
 fn is_done(alloc: Global, keep: PlainKeep, rest: &[Request], value: u64) -> Result<bool, Fail> {
     let (_, there, run) = together(alloc, keep, rest)?;
     let is_done = run.replies.as_slice() == [Reply::Done(2)].as_slice();
     Ok(there == Some(value) && run.ending == Ending::All && is_done)
 }
 
-/// Whether this value is found where the write-off's commit failed, which landed or not, and the write-off is done behind
-/// it.
+/// Returns whether the field has this value where the write-off's commit failed, which landed or did not, and the
+/// write-off is then done.
 fn goes_on_behind_it(alloc: Global, lands: bool, value: u64) -> Result<bool, Fail> {
     let requests = requests(alloc, &ROOM_MADE)?;
     let rest = requests.get(2..).ok_or("no such number")?;

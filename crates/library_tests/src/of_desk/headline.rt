@@ -1,5 +1,5 @@
-//! The headline, wherever a session stops: at each call of a disk with a power cut behind it, at each commit of a keeper
-//! in memory, at each write of a script.
+//! The headline, wherever a session stops: at each call of a disk with a power cut after it, at each commit of a
+//! keeper in memory, at each write of a script.
 
 ghost use Rattle.std.specs.Prelude.{◌≡◌, false, IfOk, IsTrue};
 
@@ -19,11 +19,11 @@ use std::alloc::Global;
 use std::test::Fail;
 use words::Request;
 
-/// How many of the requests are answered before each commit, where they are carried out one after the other, and at the
-/// end: the seventh is refused, so it has no commit.
+/// How many requests are answered before each commit, and at the end, where they are carried out one after the other.
+/// The seventh is refused, so it has no commit.
 const TOLD: [usize; 8] = [0, 1, 2, 3, 4, 5, 7, 8];
 
-/// What is found, where the keeper recovers and the opening does not fail.
+/// Returns what is found, where the keeper recovers and the opening does not fail.
 pub(super) fn found<T, K: Drop>(opened: Option<Result<T, (OpenFault, K)>>) -> Result<T, Fail> {
     match opened.ok_or("not recovered")? {
         Ok(found) => Ok(found),
@@ -31,15 +31,15 @@ pub(super) fn found<T, K: Drop>(opened: Option<Result<T, (OpenFault, K)>>) -> Re
     }
 }
 
-/// How many requests may be done behind so many replies.
+/// Returns how many requests may be done, where the run has so many replies.
 fn most_done(run: &Run) -> usize {
     let more = usize::from(run.ending == Ending::Stopped);
     run.replies.len().saturating_add(more)
 }
 
-/// What is tried on a desk, over any keeper that recovers.
+/// Something to try on a desk, over any keeper that recovers.
 pub(super) trait Trial {
-    /// How many replies came before the stop.
+    /// Tries it. Returns how many replies came before the stop.
     fn on<K: Recover + Drop>(
         &self,
         alloc: Global,
@@ -48,7 +48,7 @@ pub(super) trait Trial {
     ) -> Result<usize, Fail>;
 }
 
-/// The desk, where it is not stopped.
+/// Returns the desk, where it is not stopped.
 fn going<K: Keep + Drop>(desk: Desk<K>) -> Result<Desk<K>, Fail>
     ensures { IfOk result (λ desk. K.Keep.stopped desk.keep ≡ false) }
 {
@@ -59,7 +59,7 @@ fn going<K: Keep + Drop>(desk: Desk<K>) -> Result<Desk<K>, Fail>
     Ok(desk)
 }
 
-/// The list runs, and the desk is opened behind the stop.
+/// Runs the list, and opens the desk after the stop.
 #[derive(Drop)]
 struct Opening {
     requests: Vec<Request>,
@@ -81,7 +81,7 @@ impl Trial for Opening {
     }
 }
 
-/// The list runs, and goes on behind the stop to its end.
+/// Runs the list, and goes on after the stop to its end.
 #[derive(Drop)]
 struct Resuming {
     requests: Vec<Request>,
@@ -107,13 +107,13 @@ impl Trial for Resuming {
     }
 }
 
-/// The list is played as a script, whose writer fails behind so many writes.
+/// Plays the list as a script; its writer fails after so many writes.
 #[derive(Drop)]
 struct Playing {
     writes: usize,
 }
 
-/// How many lines were written whole of the answers: all where the script ended `Ok`.
+/// Returns how many lines of the answers were written whole; all of them must be where the script ended `Ok`.
 fn expect_told(ended: Result<(), ScriptFault>, taken: &[u8]) -> Result<usize, Fail> {
     if !ANSWERS.as_bytes().starts_with(taken) {
         Err("another answer")?;
@@ -153,7 +153,7 @@ impl Trial for Playing {
     }
 }
 
-/// Tries it on the keeper's desk: how many replies came, none where it is not opened.
+/// Tries it on the keeper's desk. Returns how many replies came; none where the desk is not opened.
 fn tried_on<K: Recover + Drop, T: Trial>(
     alloc: Global,
     keep: K,
@@ -166,7 +166,7 @@ fn tried_on<K: Recover + Drop, T: Trial>(
     }
 }
 
-/// Tries it on the desk in these files, likewise.
+/// Tries it on the desk in these files. Returns how many replies came; none where the files are not opened.
 fn tried_over<D: Crash + Drop, T: Trial>(
     alloc: Global,
     files: Files<D>,
@@ -180,7 +180,7 @@ fn tried_over<D: Crash + Drop, T: Trial>(
     }
 }
 
-/// Tries it on a new desk in files that fail after so many calls, up to a power cut.
+/// Tries it on a new desk in files that fail after so many calls, with a power cut at the end.
 pub(super) fn tried_at<T: Trial>(
     alloc: Global,
     trial: &T,
@@ -194,8 +194,8 @@ pub(super) fn tried_at<T: Trial>(
     tried_over(alloc, fused, trial)
 }
 
-/// Tries it with a failure at each call of one of the files in turn, up to the first that is not cut: how many were
-/// tried.
+/// Tries it with a failure at each call of one of the files in turn, up to the first try that is not cut. Returns how
+/// many were tried.
 fn at_each_call<T: Trial>(alloc: Global, trial: &T, on_log: bool) -> Result<u64, Fail> {
     for calls in 0..400u64 {
         if tried_at(alloc, trial, calls_to(on_log, calls))? == COUNT {
@@ -205,8 +205,8 @@ fn at_each_call<T: Trial>(alloc: Global, trial: &T, on_log: bool) -> Result<u64,
     Err("never ended")?
 }
 
-/// Tries it with a failure at each commit of a keeper in memory in turn, which lands or not: so many requests are
-/// answered before it, and in the end.
+/// Tries it with a failure at each commit of a keeper in memory in turn; the commit lands or does not. `told` says
+/// how many requests are answered before each, and at the end.
 fn at_each_commit<T: Trial>(
     alloc: Global,
     trial: &T,
@@ -224,7 +224,7 @@ fn at_each_commit<T: Trial>(
     Ok(())
 }
 
-/// Tries it at each stop that there is: how many were at calls of the files.
+/// Tries it at each stop that there is. Returns how many stops were at calls of the files.
 pub(super) fn at_each_stop<T: Trial>(
     alloc: Global,
     trial: &T,
@@ -257,7 +257,7 @@ fn the_desk_is_found_wherever_a_script_stops(rt: HostRuntime) -> Result<(), Fail
     Ok(())
 }
 
-/// What a script is told whose writer fails behind so many writes: how many lines.
+/// Returns how many lines a script has written whose writer fails after so many writes.
 fn told_before(alloc: Global, writes: usize) -> Result<usize, Fail> {
     let desk = opened(alloc, plain_keeper(alloc))?;
     Playing { writes }.on(alloc, desk, (None, false))

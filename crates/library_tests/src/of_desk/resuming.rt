@@ -14,13 +14,13 @@ use sqlite_disk::{Fuse, Memory};
 use std::alloc::Global;
 use std::test::Fail;
 
-/// A session on the requests, of which so many are answered before.
+/// A session on the requests, of which so many are answered before it.
 #[derive(Clone, Copy)]
 struct Session {
     before: usize,
 }
 
-/// The rest is answered: how many are answered then. The desk is stopped where it was told so.
+/// Answers the rest. Returns how many requests are answered then. The desk must be stopped where the run says so.
 fn go_on<K: Keep>(alloc: Global, desk: &mut Desk<K>, before: usize) -> Result<usize, Fail> {
     let requests = three_orders(alloc)?;
     let first = before.checked_add(1).ok_or("no such number")?;
@@ -32,8 +32,8 @@ fn go_on<K: Keep>(alloc: Global, desk: &mut Desk<K>, before: usize) -> Result<us
     Ok(before.checked_add(count).ok_or("too many")?)
 }
 
-/// The same on the desk that the keeper holds, whose rows are those behind the whole list where that is answered: the
-/// keeper, and how many are answered then, no more than before where no desk was opened.
+/// Answers the rest on the desk that the keeper holds. Where the whole list is answered, the rows must be those after
+/// it. Returns the keeper, and how many requests are answered then; no more than before where no desk was opened.
 fn play<K: Keep + Drop>(alloc: Global, keep: K, before: usize) -> Result<(K, usize), Fail> {
     match open(alloc, keep) {
         Err((OpenFault::Store | OpenFault::Memory, keep)) => Ok((keep, before)),
@@ -63,8 +63,8 @@ impl Visit for Session {
     }
 }
 
-/// The session over files of which one fails after so many calls, with a power cut at the end or not: the files that are
-/// left, and how many requests are answered then.
+/// Returns the session over files of which one fails after so many calls, with a power cut at the end or without.
+/// Returns the files that are left, and how many requests are answered then.
 fn visit_cut(
     alloc: Global,
     files: Files<Memory>,
@@ -83,8 +83,8 @@ fn visit_cut(
     Ok((left_by(alloc, fused, is_cut)?, told.unwrap_or(before)))
 }
 
-/// The list is cut by these two failures, one after the other, and then resumed to its end: how many requests were
-/// answered before the first.
+/// The list is cut by these two failures, one after the other, and then resumed to its end. Returns how many requests
+/// were answered before the first failure.
 fn cut_twice(
     alloc: Global,
     first: (u64, u64),
@@ -100,8 +100,8 @@ fn cut_twice(
     Ok(begun)
 }
 
-/// Fails at each call of one of the files in turn, up to the first run that is not cut, and each time again after so
-/// many calls: how many were tried.
+/// Fails at each call of one of the files in turn, up to the first run that is not cut, and each time once more after
+/// so many calls. Returns how many failures were tried.
 fn cut_at_each_call(alloc: Global, on_log: bool, is_cut: bool, second: u64) -> Result<u64, Fail> {
     for calls in 0..400u64 {
         let (first, second) = (calls_to(on_log, calls), calls_to(on_log, second));

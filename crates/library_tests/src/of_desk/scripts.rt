@@ -1,4 +1,4 @@
-//! A script one of whose streams fails.
+//! A script, where one of its streams fails.
 
 use super::three_orders::{ANSWERS, SCRIPT};
 use crate::desks::answer;
@@ -9,7 +9,7 @@ use std::alloc::Global;
 use std::io::{Read, Write};
 use std::test::Fail;
 
-/// It is played.
+/// Plays the bytes as a script.
 struct Script;
 
 impl Played for Script {

@@ -1,5 +1,5 @@
-//! Orders that are open, used, firm and committed, and a request that is refused: what each is answered, and the rows
-//! behind it.
+//! Orders that are open, used, firm and committed, and a request that is refused: the reply to each, and the rows after
+//! it.
 
 use crate::desks::requests;
 use crate::of_keep::loaded;
@@ -34,14 +34,14 @@ static REPLIES: [Reply; COUNT] = [
     Reply::Done(7),
 ];
 
-/// The same as a script, and its answers.
+/// The requests as a script, and its answers.
 pub(super) const SCRIPT: &str =
     "H1 field N1 A-1 0 100 40\nH2 open 7 500 take N1 A-1 10\nH3 open 8 500 take N1 A-1 12\nH4 use 8 N1 A-1 5\nH5 open 9 500 add N1 A-1 20\nH6 firm 9\nH7 writeoff N1 A-1 19\nH8 commit 8\n";
 
 pub(super) const ANSWERS: &str =
     "H1 done 1\nH2 done 2\nH3 done 3\nH4 done 4\nH5 done 5\nH6 done 6\nH7 refused 13 TooLittle 0\nH8 done 7\n";
 
-/// All rows before these requests, and behind each of them.
+/// All rows before the first request, and after each of them.
 static ROWS: [&str; 9] = [
     "Tables { desk: DeskRow { one: 1, version: 2, clock: 0, places: 0 }, fields: Rows { rows: [] }, moves: Rows { rows: [] }, orders: Rows { rows: [] }, lines: Rows { rows: [] }, kept: Rows { rows: [] }, firms: Rows { rows: [] } }",
     "Tables { desk: DeskRow { one: 1, version: 2, clock: 0, places: 1 }, fields: Rows { rows: [FieldRow { branch: \"N1\", article: \"A-1\", lo: 0, hi: 100, start: 40, value: 40, inf: 40, sup: 40 }] }, moves: Rows { rows: [] }, orders: Rows { rows: [] }, lines: Rows { rows: [] }, kept: Rows { rows: [KeptRow { reqkey: \"H1\", place: 1, words: \"field N1 A-1 0 100 40\" }] }, firms: Rows { rows: [] } }",
@@ -54,12 +54,12 @@ static ROWS: [&str; 9] = [
     "Tables { desk: DeskRow { one: 1, version: 2, clock: 0, places: 7 }, fields: Rows { rows: [FieldRow { branch: \"N1\", article: \"A-1\", lo: 0, hi: 100, start: 40, value: 35, inf: 25, sup: 55 }] }, moves: Rows { rows: [] }, orders: Rows { rows: [OrderRow { number: 7, kind: 0, until: 500, state: 0 }, OrderRow { number: 8, kind: 0, until: 500, state: 1 }, OrderRow { number: 9, kind: 0, until: 500, state: 0 }] }, lines: Rows { rows: [LineRow { number: 7, nr: 1, branch: \"N1\", article: \"A-1\", way: 0, held: 10, used: 0 }, LineRow { number: 8, nr: 1, branch: \"N1\", article: \"A-1\", way: 0, held: 12, used: 5 }, LineRow { number: 9, nr: 1, branch: \"N1\", article: \"A-1\", way: 1, held: 20, used: 0 }] }, kept: Rows { rows: [KeptRow { reqkey: \"H1\", place: 1, words: \"field N1 A-1 0 100 40\" }, KeptRow { reqkey: \"H2\", place: 2, words: \"open 7 500 take N1 A-1 10\" }, KeptRow { reqkey: \"H3\", place: 3, words: \"open 8 500 take N1 A-1 12\" }, KeptRow { reqkey: \"H4\", place: 4, words: \"use 8 N1 A-1 5\" }, KeptRow { reqkey: \"H5\", place: 5, words: \"open 9 500 add N1 A-1 20\" }, KeptRow { reqkey: \"H6\", place: 6, words: \"firm 9\" }, KeptRow { reqkey: \"H8\", place: 7, words: \"commit 8\" }] }, firms: Rows { rows: [FirmRow { number: 9 }] } }",
 ];
 
-/// The requests.
+/// Returns the requests.
 pub(super) fn three_orders(alloc: Global) -> Result<Vec<Request>, Fail> {
     requests(alloc, &LINES)
 }
 
-/// The rows that the keeper holds are those behind so many requests, or behind so many, and no others.
+/// The rows that the keeper holds must be those after `done` requests, or those after `most`.
 pub(super) fn expect_rows<K: Keep>(
     alloc: Global,
     keep: &mut K,
@@ -75,7 +75,7 @@ pub(super) fn expect_rows<K: Keep>(
     }
 }
 
-/// The next of them, so many at most.
+/// Returns the next items after the first `before`, at most `most`.
 pub(super) fn next_of<T>(items: &[T], before: usize, most: usize) -> Result<&[T], Fail> {
     let rest = items.get(before..).ok_or("no such number")?;
     match rest.get(..most) {
@@ -84,8 +84,8 @@ pub(super) fn next_of<T>(items: &[T], before: usize, most: usize) -> Result<&[T]
     }
 }
 
-/// The replies are those to the next requests behind so many, of so many at most, and to all of these exactly where the
-/// run ended so: how many they are.
+/// The replies must be those to the next requests after the first `before`, of at most `most`, and to all of these
+/// exactly where the run ended `All`. Returns how many they are.
 pub(super) fn expect_replies(run: &Run, before: usize, most: usize) -> Result<usize, Fail> {
     let replies = next_of(REPLIES.as_slice(), before, most)?;
     let count = run.replies.len();

@@ -10,14 +10,14 @@ use std::alloc::Global;
 use std::test::Fail;
 use words::Request;
 
-/// What was written, and how that ended, where the writer fails behind so many writes.
+/// What was written, and how that ended, where the writer fails after so many writes.
 #[derive(Drop)]
 struct Written {
     taken: Vec<u8>,
     ended: Result<(), ScriptFault>,
 }
 
-/// Answers the requests, so many together.
+/// Answers the requests in batches of at most `most`; the writer fails after `writes` writes.
 fn write<K: Keep>(
     alloc: Global,
     desk: &mut Desk<K>,
@@ -38,7 +38,7 @@ fn write<K: Keep>(
     })
 }
 
-/// The end of the last line of the text that is whole.
+/// Returns the end of the last line of the text that is whole.
 fn end_of_lines(text: &[u8]) -> usize {
     let mut end = 0;
     for (place, byte) in text.iter().enumerate() {
@@ -49,7 +49,7 @@ fn end_of_lines(text: &[u8]) -> usize {
     end
 }
 
-/// A beginning of the answers is written, all of them exactly where that ended `Ok`.
+/// What is written must be a beginning of the answers, and all of them exactly where that ended `Ok`.
 fn begins(first: &Written) -> Result<(), Fail> {
     if !ANSWERS.as_bytes().starts_with(&first.taken) {
         Err("another answer")?;
@@ -65,8 +65,8 @@ fn begins(first: &Written) -> Result<(), Fail> {
     Ok(())
 }
 
-/// A beginning of the answers is written, and the desk goes on behind the lines that are written whole: whether the
-/// writer has taken all.
+/// A beginning of the answers must be written, and the desk must go on after the lines that are written whole. Returns
+/// whether the writer has taken all.
 fn goes_on<K: Keep>(
     alloc: Global,
     desk: &mut Desk<K>,
@@ -86,7 +86,8 @@ fn goes_on<K: Keep>(
     Ok(first.taken.len() == ANSWERS.len())
 }
 
-/// The same on the desk that the keeper holds.
+/// Writes on the desk that the keeper holds, up to a write that fails, and goes on after the lines that are written
+/// whole. Returns whether the writer has taken all.
 fn goes_on_over<K: Keep + Drop>(
     alloc: Global,
     keep: K,
@@ -99,7 +100,7 @@ fn goes_on_over<K: Keep + Drop>(
     is_whole
 }
 
-/// The writer fails behind each number of writes, up to the first where it takes all: how many failed.
+/// The writer fails after each number of writes, up to the first where it takes all. Returns how many of these failed.
 fn at_each_write(alloc: Global, most: usize) -> Result<usize, Fail> {
     for writes in 0..100 {
         if goes_on_over(alloc, plain_keeper(alloc), most, writes)? {
@@ -113,7 +114,7 @@ fn at_each_write(alloc: Global, most: usize) -> Result<usize, Fail> {
 fn lines_are_written_when_their_batch_is_carried_out(rt: HostRuntime) -> Result<(), Fail> {
     // one after the other: seven lines in a write of 16 bytes each, the refusal's 26 bytes in two
     assert!(rt; at_each_write(rt.alloc(), 1)? == 9);
-    // the whole list: the 86 bytes of the batch that ends with the refusal, and the 10 of the one behind it
+    // the whole list: the 86 bytes of the batch that ends with the refusal, and the 10 of the one after it
     assert!(rt; at_each_write(rt.alloc(), 8)? == 7);
     Ok(())
 }

@@ -37,7 +37,7 @@ fn copy(alloc: Global, bytes: &[u8]) -> Result<Memory, Fail>
     Ok(file)
 }
 
-/// Files without bytes.
+/// Returns files without bytes.
 pub(crate) fn new_files(alloc: Global) -> Files<Memory>
     ensures { IsTrue (memory_is_usable result.log) × IsTrue (memory_is_usable result.db) }
 {
@@ -47,7 +47,7 @@ pub(crate) fn new_files(alloc: Global) -> Files<Memory>
     }
 }
 
-/// Files of these bytes.
+/// Returns files with these bytes.
 pub(crate) fn copies(alloc: Global, log: &[u8], db: &[u8]) -> Result<Files<Memory>, Fail>
     ensures { IfOk result (λ f. IsTrue (memory_is_usable f.log) × IsTrue (memory_is_usable f.db)) }
 {
@@ -56,11 +56,11 @@ pub(crate) fn copies(alloc: Global, log: &[u8], db: &[u8]) -> Result<Files<Memor
     Ok(Files { log, db })
 }
 
-/// What is done over a connection, whatever its store.
+/// Something to do over a connection, whatever its store is.
 pub(crate) trait Visit {
     type Found: Drop;
 
-    /// Does it: the connection as it is then, and what was found.
+    /// Does it. Returns the connection as it is then, and what was found.
     fn over<S: Alter + Drop>(
         &self,
         alloc: Global,
@@ -68,7 +68,7 @@ pub(crate) trait Visit {
     ) -> Result<(Connection<S>, Self::Found), Fail>;
 }
 
-/// Does it over the files: they come back, with what was found where they can be opened.
+/// Does it over the files. Returns the files back, with what was found where they could be opened.
 pub(crate) fn over_files<D: Disk + Drop, V: Visit>(
     alloc: Global,
     files: Files<D>,
@@ -85,7 +85,7 @@ pub(crate) fn over_files<D: Disk + Drop, V: Visit>(
     }
 }
 
-/// A new desk is made.
+/// Makes a new desk.
 struct Making;
 
 impl Visit for Making {
@@ -101,7 +101,7 @@ impl Visit for Making {
     }
 }
 
-/// The files that the work leaves of new ones.
+/// Returns the files that the work makes out of new ones.
 pub(crate) fn files_made<V: Visit>(alloc: Global, work: &V) -> Result<Files<Memory>, Fail>
     ensures { IfOk result (λ f. IsTrue (memory_is_usable f.log) × IsTrue (memory_is_usable f.db)) }
 {
@@ -112,14 +112,14 @@ pub(crate) fn files_made<V: Visit>(alloc: Global, work: &V) -> Result<Files<Memo
     copies(alloc, files.log.bytes(), files.db.bytes())
 }
 
-/// The files of a new desk.
+/// Returns the files of a new desk.
 pub(crate) fn desk_files(alloc: Global) -> Result<Files<Memory>, Fail>
     ensures { IfOk result (λ f. IsTrue (memory_is_usable f.log) × IsTrue (memory_is_usable f.db)) }
 {
     files_made(alloc, &Making)
 }
 
-/// The bytes that are left for the next open, after a power cut or without one.
+/// Returns the bytes that the next opening finds, after a power cut or without one.
 pub(crate) fn left_by(
     alloc: Global,
     mut files: Files<Fuse<Memory>>,
@@ -142,7 +142,7 @@ pub(crate) const CUTS: [(bool, bool); 4] = [
     (false, true),
 ];
 
-/// So many calls to the one of the files that is to fail, and any number to the other.
+/// Returns so many calls to the one of the files that is to fail, and any number to the other.
 pub(crate) fn calls_to(on_log: bool, calls: u64) -> (u64, u64) {
     if on_log {
         (calls, u64::MAX)

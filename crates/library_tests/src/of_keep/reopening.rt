@@ -1,4 +1,4 @@
-//! What a power cut leaves for the next open.
+//! What the next opening finds after a power cut.
 
 ghost use Rattle.std.specs.Prelude.{IsTrue};
 
@@ -13,14 +13,14 @@ use sqlite_disk::{Crash, Disk};
 use std::alloc::Global;
 use std::test::Fail;
 
-/// A keeper over the connection, after one commit.
+/// Returns a keeper over the connection, after one commit.
 fn with_order<S: Alter + Drop>(conn: Connection<S>) -> Result<SqlKeep<S>, Fail> {
     let mut keep = keeper(conn)?;
     commit(&mut keep, &[Change::Order(order(4, 1))])?;
     Ok(keep)
 }
 
-/// A keeper behind a power cut.
+/// Returns a keeper opened after a power cut.
 fn reopened<D: Crash + Drop>(
     alloc: Global,
     keep: SqlKeep<FileStore<D>>,
@@ -28,7 +28,7 @@ fn reopened<D: Crash + Drop>(
     Ok(reopen(alloc, keep, Options::new(2)).ok_or("not reopened")?)
 }
 
-/// What was loaded, where a keeper was opened.
+/// Returns what was loaded, where a keeper was opened.
 fn loaded_by<K: Drop>(opened: Option<(K, Result<Tables, KeepFault>)>) -> Result<Tables, Fail> {
     match opened {
         Some((_, found)) => Ok(found?),
@@ -36,12 +36,12 @@ fn loaded_by<K: Drop>(opened: Option<(K, Result<Tables, KeepFault>)>) -> Result<
     }
 }
 
-/// What is found behind a power cut.
+/// Returns what is loaded after a power cut.
 fn reloaded<D: Crash + Drop>(alloc: Global, keep: SqlKeep<FileStore<D>>) -> Result<Tables, Fail> {
     loaded_by(reopen_and_load(alloc, keep, Options::new(3)))
 }
 
-/// What is found behind a commit to a new desk and two power cuts.
+/// Returns what is loaded after a commit to a new desk and two power cuts.
 fn left_by_cuts<D: Crash + Drop>(alloc: Global, files: Files<D>) -> Result<Tables, Fail>
     requires { IsTrue (D.Disk.is_usable files.log) × IsTrue (D.Disk.is_usable files.db) }
 {
@@ -54,7 +54,7 @@ fn left_by_cuts<D: Crash + Drop>(alloc: Global, files: Files<D>) -> Result<Table
 const LEFT: &str =
     "Tables { desk: DeskRow { one: 1, version: 2, clock: 0, places: 0 }, fields: Rows { rows: [] }, moves: Rows { rows: [] }, orders: Rows { rows: [OrderRow { number: 4, kind: 1, until: 900, state: 1 }] }, lines: Rows { rows: [] }, kept: Rows { rows: [] }, firms: Rows { rows: [] } }";
 
-/// The same as text.
+/// Returns what is loaded after a commit to a new desk and two power cuts, as text.
 fn text_left_by_cuts(alloc: Global) -> Result<String, Fail> {
     let tables = left_by_cuts(alloc, desk_files(alloc)?)?;
     let text = shown(alloc, &tables);

@@ -24,7 +24,7 @@ INSERT INTO orders VALUES (7, 1, 900, 0);
 INSERT INTO line VALUES (7, 2, 'N2', 'A-3', 1, 6, 5);
 INSERT INTO kept VALUES ('K2', 4, 'expire 30')";
 
-/// What is loaded of it once it is upgraded.
+/// What is loaded from that once it is upgraded.
 const UPGRADED: &str =
     "Tables { desk: DeskRow { one: 1, version: 2, clock: 30, places: 12 }, fields: Rows { rows: [FieldRow { branch: \"N1\", article: \"A-1\", lo: 1, hi: 90, start: 50, value: 43, inf: 30, sup: 70 }] }, moves: Rows { rows: [MoveRow { place: 9, branch: \"N1\", article: \"A-1\", qty: -8 }] }, orders: Rows { rows: [OrderRow { number: 7, kind: 1, until: 900, state: 0 }] }, lines: Rows { rows: [LineRow { number: 7, nr: 2, branch: \"N2\", article: \"A-3\", way: 1, held: 6, used: 5 }] }, kept: Rows { rows: [KeptRow { reqkey: \"K2\", place: 4, words: \"expire 30\" }] }, firms: Rows { rows: [] } }";
 
@@ -33,7 +33,7 @@ fn make_old<S: Alter>(conn: &mut Connection<S>) -> Result<(), Error> {
     conn.execute_batch(OLD)
 }
 
-/// The store of version 1 is made.
+/// Makes the store of version 1.
 struct Old;
 
 impl Visit for Old {
@@ -49,7 +49,7 @@ impl Visit for Old {
     }
 }
 
-/// Whether all of version 2 is loaded.
+/// Returns whether all of version 2 is loaded.
 fn is_upgraded<S: Alter + Drop>(
     alloc: Global,
     conn: Connection<S>,
@@ -59,7 +59,8 @@ fn is_upgraded<S: Alter + Drop>(
     Ok((connection_of(keep), rows.as_str() == UPGRADED))
 }
 
-/// The version that is found, 1 or 2, of which all is there: an upgrade of version 1 has each row.
+/// Returns the version that is found, 1 or 2. All of it must be there: a store of version 1 is upgraded, and then has
+/// each row.
 fn version<S: Alter + Drop>(
     alloc: Global,
     conn: Connection<S>,
@@ -77,7 +78,7 @@ fn version<S: Alter + Drop>(
     }
 }
 
-/// That version.
+/// Finds that version.
 struct VersionThere;
 
 impl Visit for VersionThere {
@@ -97,7 +98,7 @@ impl Visit for VersionThere {
     }
 }
 
-/// Upgrades it: whether that was answered to be done.
+/// Upgrades the store. Finds whether that was done.
 struct Upgrading;
 
 impl Visit for Upgrading {
@@ -116,7 +117,7 @@ impl Visit for Upgrading {
     }
 }
 
-/// What the upgrade answers after a change of the store of version 1.
+/// Returns what the upgrade answers once the store of version 1 was changed so.
 fn upgraded_after(alloc: Global, change: &str) -> Result<Result<(), KeepFault>, Fail> {
     let mut conn = Connection::open_in_memory(alloc)?;
     make_old(&mut conn)?;
@@ -142,8 +143,8 @@ fn only_the_two_versions_are_upgraded(rt: HostRuntime) -> Result<(), Fail> {
     Ok(())
 }
 
-/// Upgrades where one of the files fails after so many calls, with a power cut at the end or not: whether it was done.
-/// Then version 2 is found, and else one of the two.
+/// Upgrades where one of the files fails after so many calls, with a power cut at the end or without. Returns whether
+/// that was done. Where it was, version 2 must be found, and else one of the two.
 fn visit_cut(alloc: Global, calls: (u64, u64), is_cut: bool) -> Result<bool, Fail> {
     let files = files_made(alloc, &Old)?;
     let fused = Files {
@@ -160,7 +161,7 @@ fn visit_cut(alloc: Global, calls: (u64, u64), is_cut: bool) -> Result<bool, Fai
     Ok(done)
 }
 
-/// Fails at each call in turn, up to the first upgrade that is done, and says how many calls that took.
+/// Fails at each call in turn, up to the first upgrade that is done. Returns how many calls that took.
 fn calls_needed(alloc: Global, on_log: bool, is_cut: bool) -> Result<u64, Fail> {
     for calls in 0..200u64 {
         if visit_cut(alloc, calls_to(on_log, calls), is_cut)? {

@@ -43,7 +43,7 @@ impl SqlRow for DeskRow {
     }
 }
 
-/// The rows of `desk`.
+/// Selects the rows of `desk`.
 fn select<S: Alter>(conn: &mut Connection<S>) -> Result<Vec<Row>, Error>
     requires { IsSchemaWith table.Desk (state S.Store conn.old).now.schema }
     ensures mode { conn.old.in_transaction ≡ false → conn.new.in_transaction ≡ false }
@@ -56,7 +56,7 @@ fn select<S: Alter>(conn: &mut Connection<S>) -> Result<Vec<Row>, Error>
     conn.query_all(select_text(TableName::Desk), &[])
 }
 
-/// The one row of `desk`, or None where there is another number of rows or one of another version.
+/// Loads the one row of `desk`, or returns `None` where there is not exactly one row, of that version.
 pub(crate) fn load_desk<S: Alter>(
     conn: &mut Connection<S>,
     version: usize,
@@ -75,7 +75,7 @@ pub(crate) fn load_desk<S: Alter>(
     one_row(answers.as_slice(), version)
 }
 
-/// The one row that the answers show, or None where there is another number of rows or one of another version.
+/// Returns the one row that the answers show, or `None` where they do not show exactly one, of that version.
 fn one_row(answers: &[Row], version: usize) -> Result<Option<DeskRow>, Error>
     requires { version ≤ newest }
     ensures { IfOk result (λ found. MatchOption found (¬ ((row : DeskCells) × IsOneAnswer (pos version) answers.now row))

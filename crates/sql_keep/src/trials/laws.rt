@@ -1,4 +1,4 @@
-//! What is true of the keepers that there are.
+//! What is true of all keepers that there are. The functions do nothing when run; the contract of each is a law.
 
 ghost use Rattle.std.specs.Prelude.{◌↔◌};
 ghost use Rattle.sqlite_disk.specs.Fuse.{inner_of};
@@ -14,8 +14,8 @@ use keep::{Keep, PlainKeep};
 use sqlite::{Alter, FileStore, MemStore};
 use sqlite_disk::{Disk, Fuse, Memory};
 
-/// A keeper in memory is honest, whatever was called on it: the one over SQLite's store in memory, the one over files
-/// in memory, whether or not a fuse makes their calls fail, and the one in lists.
+/// A keeper in memory is honest, whatever was called on it. This holds for the one over SQLite's store in memory, the
+/// one over files in memory, whether or not a fuse makes their calls fail, and the one in lists.
 pub fn keepers_in_memory_are_honest()
     ensures sql { (k : Keeper MemStore) → ⟦<SqlKeep<MemStore> as Keep>⟧.is_honest k }
     ensures files { (k : Keeper (FileStore Memory ⟦<Memory as Disk>⟧))
@@ -25,14 +25,15 @@ pub fn keepers_in_memory_are_honest()
     ensures plain { (k : Plain) → ⟦<PlainKeep as Keep>⟧.is_honest k }
 {}
 
-/// A fuse makes calls fail and tells no lie: a keeper over fuses is honest exactly where the disks behind them are.
+/// A fuse makes calls fail, but tells no lie: a keeper over fuses is honest exactly where the disks under them are.
 pub fn a_fuse_tells_no_lie<D: Disk>()
     ensures { (k : Keeper (FileStore (Fuse D) ⟦<Fuse<D> as Disk>⟧))
         → ⟦<SqlKeep<FileStore<Fuse<D>>> as Keep>⟧.is_honest k
         ↔ AreClean D.Disk (inner_of (files k.connection.store).0) (inner_of (files k.connection.store).1) }
 {}
 
-/// A stop may leave of a keeper over SQLite the trees that it may leave of the store, of whatever version, and no others.
+/// A stop may leave of a keeper over SQLite exactly the trees that it may leave of the keeper's store, of whatever
+/// version.
 pub fn keepers_leave_what_stores_leave<S: Alter>()
     ensures { (k : Keeper S) (trees : Trees) → ⟦<SqlKeep<S> as Keep>⟧.may_remain k trees
         ↔ (state S.Store k.connection).may_leave trees }

@@ -1,4 +1,4 @@
-//! From a stop to the next open.
+//! What the next opening finds after a stop.
 
 ghost use Rattle.std.specs.Prelude.{◌≡◌, ◌≢◌, List, [], ◌∷◌, false, None, IsTrue, IfSome, IfOk, OnOk, OnErr, Err};
 ghost use Rattle.std.specs.List.{AllByRecursion};
@@ -19,7 +19,7 @@ use sqlite::{Alter, Connection, FileStore, Options};
 use sqlite_disk::Crash;
 use std::alloc::Global;
 
-/// The store of a keeper, as a stop finds it: what is not committed is rolled back.
+/// Returns the store of a keeper, as a stop finds it: what is not committed is rolled back.
 fn store_of<S: Alter + Drop>(keep: SqlKeep<S>) -> S
     ensures numbered { IsClean (S.Store.view result) → IsTrue (S.Store.view result).is_numbered }
     ensures sound { IsClean (S.Store.view result) → AreDatabases (S.Store.recovers result) }
@@ -29,8 +29,8 @@ fn store_of<S: Alter + Drop>(keep: SqlKeep<S>) -> S
     keep.into_connection().into_store()
 }
 
-/// What the next open finds on the two files of a keeper after a power cut, or None where it fails. It finds one of the
-/// contents that a stop could leave, by a connection that is set as a new one.
+/// Returns what the next opening finds on the two files of a keeper after a power cut, or `None` where it fails. It
+/// finds one of the contents that a stop could leave, while the disk is honest. The connection is set as a new one.
 fn cut_and_open<D: Crash + Drop>(
     alloc: Global,
     keep: SqlKeep<FileStore<D>>,
@@ -57,9 +57,10 @@ fn cut_and_open<D: Crash + Drop>(
     }
 }
 
-/// A keeper over what the next open finds on the two files of a keeper after a power cut, or None where the open fails.
-/// It holds one of the contents that a stop could leave, and a stop leaves that alone; its connection is set as a new
-/// one. A disk that is honest after the open was so before the cut.
+/// Returns a keeper over what the next opening finds on the two files of a keeper after a power cut, or `None` where
+/// the opening fails. While the disk is honest, this keeper holds one of the contents that a stop could leave, and
+/// another stop leaves that and nothing else. Its connection is set as a new one. A disk that is honest after the
+/// opening was honest before the cut.
 pub fn reopen<D: Crash + Drop>(
     alloc: Global,
     keep: SqlKeep<FileStore<D>>,
@@ -69,7 +70,7 @@ pub fn reopen<D: Crash + Drop>(
     ensures settings { IfSome result (λ again. again.connection.step_limit ≡ None) }
     ensures honest { IfSome result (λ again. HasCleanDisk (file_state again.connection)
         → HasCleanDisk (file_state keep.connection)) }
-    // of whatever version, the trees are some that a stop could leave
+    // this holds for each version: the trees are some that a stop could leave
     ensures left { IfSome result (λ again. HasCleanDisk (file_state again.connection)
         → ∥ (file_state keep.connection).may_leave (file_state again.connection).now.trees ∥₁) }
     ensures found { IfSome result (λ again. HasCleanDisk (file_state again.connection) → (these : List Content)
@@ -82,11 +83,11 @@ pub fn reopen<D: Crash + Drop>(
     Some(over_files(conn))
 }
 
-/// The stop is a cut of the power: of what was not synced, each file keeps whatever it keeps.
+/// The stop is a power cut: of what was not synced, each file may keep any part.
 impl<D: Crash + Drop> Recover for SqlKeep<FileStore<D>> {
     type Options = Options;
 
-    // its connection is as a new one, whose statements may take any number of steps
+    // the connection is set as a new one, whose statements may take any number of steps
     ghost is_set = { λ _ k. k.connection.step_limit ≡ None };
 
     fn recover(self, alloc: Global, options: Options) -> Option<Self> {
@@ -94,9 +95,10 @@ impl<D: Crash + Drop> Recover for SqlKeep<FileStore<D>> {
     }
 }
 
-/// A keeper over what the next open finds on the two files of a keeper after a power cut, and what it loads: one of the
-/// contents that a stop could leave, and never `NotADesk` where each of them is a desk. None where the open fails. Its
-/// connection is set as a new one. A disk that is honest after the load was so before the cut.
+/// Returns a keeper over what the next opening finds on the two files of a keeper after a power cut, and what that
+/// keeper loads; `None` where the opening fails. While the disk is honest, a load that succeeds gives one of the
+/// contents that a stop could leave; and where each of these is a desk, the load never answers `NotADesk`. The
+/// connection is set as a new one. A disk that is honest after the load was honest before the cut.
 pub fn reopen_and_load<D: Crash + Drop>(
     alloc: Global,
     keep: SqlKeep<FileStore<D>>,

@@ -7,9 +7,11 @@ use Rattle.book.proofs.book.adopt_orders.Given as goal
 
 abbrev pub invariant-loop-order : goal.invariant-loop-order
 invariant-loop-order l = record {
-  put : put_rows number_cmp (map order_of l.order-iterator.rest.items) (map order_of l.orders.entries) ≡ put_rows number_cmp (map order_of l.fn.made.items) (map order_of l.initial.orders.entries);
+  put : put_rows number_cmp (map order_of l.order-iterator.rest.items) (map order_of l.orders.entries)
+      ≡ put_rows number_cmp (map order_of l.fn.made.items) (map order_of l.initial.orders.entries);
   may : MayBePut l.orders.room l.order-iterator.rest.items l.orders.entries;
-  slots : put_rows slots_cmp (map slots_of l.order-iterator.rest.items) (map slots_of l.orders.entries) ≡ put_rows slots_cmp (map slots_of l.fn.made.items) (map slots_of l.initial.orders.entries);
+  slots : put_rows slots_cmp (map slots_of l.order-iterator.rest.items) (map slots_of l.orders.entries)
+      ≡ put_rows slots_cmp (map slots_of l.fn.made.items) (map slots_of l.initial.orders.entries);
   storage : l.orders.storage ≡ l.initial.orders.storage;
   no_more : l.orders.room ≤ l.initial.orders.room;
 }

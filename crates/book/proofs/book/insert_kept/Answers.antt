@@ -7,4 +7,6 @@ pub insert-requires-clause-absent : goal.insert-requires-clause-absent
 insert-requires-clause-absent c = kept_absent c.args.key c.args.kept.now.entries c.requires.absent
 
 pub returns-clause-kept : goal.returns-clause-kept
-returns-clause-kept c = ap (map kept_of) c.insert.ensures.entries ∙ kept_inserted c.args.key c.args.entry c.args.kept.now.entries c.requires.absent
+returns-clause-kept c =
+    ap (map kept_of) c.insert.ensures.entries
+    ∙ kept_inserted c.args.key c.args.entry c.args.kept.now.entries c.requires.absent

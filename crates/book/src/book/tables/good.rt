@@ -1,4 +1,4 @@
-//! Whether entries are those of a good ledger, whatever their fields' numbers.
+//! Whether entries are those of a good ledger, whatever the numbers of their fields are.
 
 ghost use Rattle.ledger.specs.Good.{IsTransferPair};
 ghost use Rattle.ledger.specs.Ledger.{line_name, same_name};
@@ -18,7 +18,7 @@ use ledger::{Kind, Line, State};
 use std::alloc::Global;
 use words::{MAX_ORDER_LINES, Memory};
 
-/// Whether the entries stand in the order of their keys, each once.
+/// Returns whether the entries stand in the order of their keys, each once.
 pub(super) fn are_keys_in_order<K: Ord, V>(entries: &[(K, V)]) -> bool
     ensures { IsTrue result ↔ IsStrictlySortedBy K.cmp (keys_of entries.now) }
 {
@@ -31,7 +31,7 @@ fn is_move_before(one: &MoveEntry, other: &MoveEntry) -> bool
     one.place < other.place
 }
 
-/// Whether the moves stand in the order of their places, one at each.
+/// Returns whether the moves stand in the order of their places, one at each.
 pub(super) fn are_moves_in_order(moves: &[MoveEntry]) -> bool
     ensures { IsTrue result ↔ IsStrictlySortedBy nat_cmp (map (λ m. m.place) (map move_of moves.now)) }
 {
@@ -46,21 +46,21 @@ fn is_move_good(entry: &MoveEntry, places: usize) -> bool
         && Qty::new(entry.amount.unsigned_abs()).is_some()
 }
 
-/// Whether each move has a place that is taken, and its amount is in range.
+/// Returns whether each move has a place that is taken, and its amount is in range.
 pub(super) fn are_moves_good(moves: &[MoveEntry], places: usize) -> bool
     ensures { IsTrue result ↔ Each (IsMoveByItself places) (map move_of moves.now) }
 {
     moves.iter().all(|entry| is_move_good(entry, places))
 }
 
-/// Whether no line has used more than it holds.
+/// Returns whether no line has used more than it holds.
 fn are_lines_good(lines: &[Line]) -> bool
     ensures { IsTrue result ↔ Each (λ l. IsLevel l.held × (l.used ≤ l.held)) lines.now }
 {
     lines.iter().all(|line| line.used.get() <= line.held.get())
 }
 
-/// Whether no two lines are on one field.
+/// Returns whether no two lines are on one field.
 fn are_apart(lines: &[Line]) -> bool
     ensures { IsTrue result ↔ IsDistinct same_name (map line_name lines.now) }
 {
@@ -73,7 +73,7 @@ fn are_apart(lines: &[Line]) -> bool
     true
 }
 
-/// Whether they are the two lines of a transfer.
+/// Returns whether these are the two lines of a transfer.
 fn are_transfer_pair(lines: &[Line]) -> bool
     ensures { IsTrue result ↔ IsTransferPair lines.now }
 {
@@ -93,7 +93,7 @@ fn is_order_good(order: &Order) -> bool
     ensures { IsTrue result ↔ IsOrderByItself (order_of order.now) }
 {
     let (number, entry) = order;
-    // so that the proof has their ranges
+    // does nothing when run; the prover learns that the number and the end of the order are in range
     number.get();
     entry.until.get();
     if entry.lines.is_empty() || entry.lines.len() > MAX_ORDER_LINES {
@@ -111,14 +111,14 @@ fn is_order_good(order: &Order) -> bool
     }
 }
 
-/// Whether each order is good, apart from whether its fields are there.
+/// Returns whether each order is good, apart from whether its fields are there.
 pub(super) fn are_orders_good(orders: &[Order]) -> bool
     ensures { IsTrue result ↔ Each IsOrderByItself (map order_of orders.now) }
 {
     orders.iter().all(is_order_good)
 }
 
-/// Whether the places are 1 to the number of kept keys, each once.
+/// Returns whether the places are 1 to the number of kept keys, each once.
 pub(super) fn are_places_good(alloc: Global, kept: &[(Key, KeptEntry)]) -> Result<bool, Memory>
     ensures { IfOk result (λ good. IsTrue good ↔ (Each (λ k. (1 ≤ k.place) × (k.place ≤ length kept.now))
         (map kept_of kept.now) × IsDistinct nat_eq (map (λ k. k.place) (map kept_of kept.now)))) }
@@ -135,7 +135,7 @@ pub(super) fn are_places_good(alloc: Global, kept: &[(Key, KeptEntry)]) -> Resul
     Ok(true)
 }
 
-/// Whether there is such a place, from 1, and it is not taken.
+/// Returns whether there is such a place, counted from 1, and it is not taken.
 fn is_free(taken: &[bool], place: u64) -> bool
     ensures { IsTrue result ↔ ((1 ≤ place) × (place < length taken.now)
         × (slice_index_or taken.now place true ≡ false)) }

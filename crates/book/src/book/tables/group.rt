@@ -19,18 +19,18 @@ use escrow::{Moment, OrderNo};
 use ledger::{Kind, Line, LineRow, State};
 use std::alloc::Global;
 
-/// An order but for its lines.
+/// An order without its lines.
 #[derive(Clone, Copy)]
 pub(super) struct Head {
     pub number: OrderNo,
     pub kind: Kind,
     pub until: Moment,
     pub state: State,
-    /// Whether it is marked as firm.
+    /// Whether a row marks it as firm.
     pub firm: bool,
 }
 
-/// How many rows at the front are of that order.
+/// Returns how many rows at the front belong to that order.
 fn run_length(rows: &[LineRow], number: OrderNo) -> usize
     ensures within { result ≤ length rows.now }
     ensures run { Each (λ row. row.number ≡ pos number) (take result rows.now) }
@@ -44,7 +44,7 @@ fn run_length(rows: &[LineRow], number: OrderNo) -> usize
     rows.len()
 }
 
-/// Whether the rows count from 1.
+/// Returns whether the rows count from 1.
 fn are_numbered(rows: &[LineRow]) -> bool
     ensures { IsTrue result ↔ AreNumbered 1 rows.now }
 {
@@ -56,7 +56,7 @@ fn are_numbered(rows: &[LineRow]) -> bool
     true
 }
 
-/// The lines of that order, whose rows stand at the front.
+/// Returns the lines of that order, whose rows stand at the front.
 fn lines_of_order(
     alloc: Global,
     number: OrderNo,
@@ -81,7 +81,7 @@ fn lines_of_order(
     }
 }
 
-/// The orders that the rows of orders and those of lines tell together.
+/// Returns the orders that the rows of orders and those of lines give together.
 pub(super) fn group(
     alloc: Global,
     heads: &[Head],

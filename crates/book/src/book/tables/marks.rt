@@ -1,4 +1,4 @@
-//! Heads of orders, with their marks from the rows of firm orders.
+//! Heads of orders, with the marks that the rows of firm orders give them.
 
 ghost use Rattle.std.specs.Prelude.{◌≡◌, ◌↔◌, false, flat_map, map, slice_get, IfErr, IfOk, IsTrue, List};
 ghost use Rattle.std.specs.List.Sorted.{IsStrictlySortedBy};
@@ -18,7 +18,7 @@ use escrow::OrderNo;
 use ledger::{FirmRow, OrderRow};
 use std::alloc::Global;
 
-/// The heads that the rows of orders tell, marked as the rows of firm orders say.
+/// Returns the heads that the rows of orders give, marked as firm as the rows of firm orders say.
 pub(super) fn read_heads(
     alloc: Global,
     orders: &[OrderRow],
@@ -38,7 +38,7 @@ pub(super) fn read_heads(
     }
 }
 
-/// Whether there is a row at that place, and it marks the order of that number.
+/// Returns whether there is a row at index `place`, and it marks the order of that number.
 fn is_of(rows: &[FirmRow], place: usize, number: OrderNo) -> bool
     ensures { IsTrue result ↔ Marks (slice_get rows.now place) number }
 {
@@ -48,7 +48,8 @@ fn is_of(rows: &[FirmRow], place: usize, number: OrderNo) -> bool
     }
 }
 
-/// Marks those that the rows name. Whether each row names one, in their order.
+/// Marks the orders that the rows name. Returns whether each row names an order, and the rows name them in the order in
+/// which the orders stand.
 fn mark(heads: &mut [Head], rows: &[FirmRow]) -> bool
     ensures same { map head_row heads.new ≡ map head_row heads.old }
     ensures marked { IsTrue result → flat_map mark_rows heads.new ≡ map firm_cells rows.now }

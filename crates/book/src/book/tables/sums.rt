@@ -1,5 +1,5 @@
-//! What all moves and orders add up to on each of the fields, in one walk over them; whether the fields have these
-//! numbers.
+//! What all moves and orders add up to on each of the fields, in one walk over them; and whether the fields have
+//! these numbers.
 
 ghost use Rattle.ledger.specs.Ledger.{line_name, Name};
 ghost use Rattle.book.specs.inner.Sums.{added, entry_name, field_among, lines_numbers, numbers_on, only_on, part_of_line, AreFewMoves, AreFewOrders, AreFieldsInOrder, AreLinesOnFields, AreMovesOnFields, AreOnFields, AreOrdersOnFields, AreSums, IsField, IsFieldAt};
@@ -22,7 +22,7 @@ use words::Memory;
 /// What entries add up to on a field.
 #[derive(Clone, Copy)]
 pub(super) struct Numbers {
-    /// What has moved its value.
+    /// By how much the value has moved.
     pub moved: i64,
     /// What is held to take.
     pub takes: i64,
@@ -37,7 +37,7 @@ pub(super) const NOTHING: Numbers = Numbers {
 };
 
 impl Numbers {
-    /// Both together.
+    /// Returns these numbers with `more` added to them.
     fn plus(self, more: Numbers) -> Numbers
         requires room { IsSmall (most_of_all + most_of_all) self }
         requires more { IsSmall most_of_all more }
@@ -51,8 +51,8 @@ impl Numbers {
     }
 }
 
-/// Adds the moves and the orders to the sums of their fields, which are nothing so far. Whether all of them are on
-/// fields, and each field has what they add up to on it.
+/// Adds the moves and the orders to the sums of their fields, which must be nothing so far. Returns whether all of them
+/// are on fields, and each field has what they add up to there.
 fn add_all(fields: &[Field], sums: &mut [Numbers], moves: &[MoveEntry], orders: &[Order]) -> bool
     requires sorted { AreFieldsInOrder fields.now }
     requires nothing { sums.old ≡ replicate (length fields.now) nothing }
@@ -67,7 +67,7 @@ fn add_all(fields: &[Field], sums: &mut [Numbers], moves: &[MoveEntry], orders: 
     add_orders(fields, sums, orders) && have_numbers(fields, sums)
 }
 
-/// The place of the field of that name, by a binary search.
+/// Returns the index of the field of that name, by a binary search, or `None` where there is none.
 fn field_index(fields: &[Field], name: FieldName) -> Option<usize>
     requires { AreFieldsInOrder fields.now }
     ensures { MatchOption result (IsNone (field_among fields.now name)) (IsFieldAt fields.now name) }
@@ -78,7 +78,7 @@ fn field_index(fields: &[Field], name: FieldName) -> Option<usize>
     }
 }
 
-/// Adds to the sum of the field of that name. Whether there is such a field; if not, nothing changes.
+/// Adds to the sum of the field of that name. Returns whether there is such a field; if not, nothing changes.
 fn add_on(fields: &[Field], sums: &mut [Numbers], name: FieldName, part: &Numbers) -> bool
     requires sums { AreSums (most_of_all + most_of_all) fields.now sums.old }
     requires part { IsSmall most_of_line part.now }
@@ -95,7 +95,7 @@ fn add_on(fields: &[Field], sums: &mut [Numbers], name: FieldName, part: &Number
     }
 }
 
-/// Adds the moves, each to the sum of its field. Whether all of them are on fields.
+/// Adds the moves, each to the sum of its field. Returns whether all of them are on fields.
 fn add_moves(fields: &[Field], sums: &mut [Numbers], moves: &[MoveEntry]) -> bool
     requires sums { AreSums 0 fields.now sums.old }
     requires moves { AreFewMoves moves.now }
@@ -111,7 +111,7 @@ fn add_moves(fields: &[Field], sums: &mut [Numbers], moves: &[MoveEntry]) -> boo
     true
 }
 
-/// Adds the move to the sum of its field. Whether there is one.
+/// Adds the move to the sum of its field. Returns whether there is such a field.
 fn add_move(fields: &[Field], sums: &mut [Numbers], entry: &MoveEntry) -> bool
     requires sums { AreSums most_of_all fields.now sums.old }
     requires amount { IsQty (nat_abs entry.now.amount) }
@@ -127,7 +127,7 @@ fn add_move(fields: &[Field], sums: &mut [Numbers], entry: &MoveEntry) -> bool
     add_on(fields, sums, entry.name(), &part)
 }
 
-/// Adds the orders, each line to the sum of its field. Whether all lines are on fields.
+/// Adds the orders, each line to the sum of its field. Returns whether all lines are on fields.
 fn add_orders(fields: &[Field], sums: &mut [Numbers], orders: &[Order]) -> bool
     requires sums { AreSums most_of_moves fields.now sums.old }
     requires orders { AreFewOrders orders.now }
@@ -143,8 +143,8 @@ fn add_orders(fields: &[Field], sums: &mut [Numbers], orders: &[Order]) -> bool
     true
 }
 
-/// Adds the lines of an order in that state, which is firm or not, each to the sum of its field. Whether all of them
-/// are on fields.
+/// Adds the lines of an order in that state, which is firm or not, each to the sum of its field. Returns whether all of
+/// them are on fields.
 fn add_lines(
     fields: &[Field],
     sums: &mut [Numbers],
@@ -166,7 +166,7 @@ fn add_lines(
     true
 }
 
-/// Adds the line to the sum of its field. Whether there is one.
+/// Adds the line to the sum of its field. Returns whether there is such a field.
 fn add_line(fields: &[Field], sums: &mut [Numbers], line: &Line, state: State, firm: bool) -> bool
     requires { AreSums (most_of_all + most_of_all) fields.now sums.old }
     ensures there { IsTrue result ↔ IsField fields.now (line_name line.now) }
@@ -177,14 +177,11 @@ fn add_line(fields: &[Field], sums: &mut [Numbers], line: &Line, state: State, f
     add_on(fields, sums, line.name(), &part)
 }
 
-/// What the line adds to its field, where its order has the state, and is firm or not.
+/// Returns what the line adds to its field, where its order has this state, and is firm or is not.
 fn part_of(line: &Line, state: State, firm: bool) -> Numbers
     ensures part { result ≡ part_of_line state firm line.now }
     ensures small { IsSmall most_of_line result }
 {
-    // so that the proof has their ranges
-    line.held.get();
-    line.used.get();
     let share = share_of(line, state, firm);
     let (settled, held) = (share.settled as i64, share.held as i64);
     match line.way {
@@ -201,7 +198,7 @@ fn part_of(line: &Line, state: State, firm: bool) -> Numbers
     }
 }
 
-/// What must have moved its value, and what is held on it, where the field's quantity is right.
+/// Returns by how much the value of the field must have moved, and what must be held on it, if its quantity is right.
 fn numbers_of(entry: &FieldEntry) -> Numbers
     ensures { HasNumbers result entry.now }
 {
@@ -214,7 +211,7 @@ fn numbers_of(entry: &FieldEntry) -> Numbers
     }
 }
 
-/// Whether the field's quantity has what these numbers give it.
+/// Returns whether the field's quantity has what these numbers give it.
 fn has_numbers(entry: &FieldEntry, numbers: &Numbers) -> bool
     ensures { IsTrue result ↔ HasNumbers numbers.now entry.now }
 {
@@ -222,7 +219,7 @@ fn has_numbers(entry: &FieldEntry, numbers: &Numbers) -> bool
     own.moved == numbers.moved && own.takes == numbers.takes && own.adds == numbers.adds
 }
 
-/// Whether each field's quantity has what the sum gives it.
+/// Returns whether each field's quantity has what the sum gives it.
 fn have_numbers(fields: &[Field], sums: &[Numbers]) -> bool
     requires { length sums.now ≡ length fields.now }
     ensures { (numbers : Name → Numbers) → sums.now ≡ map (λ f. numbers (entry_name f)) fields.now
@@ -236,7 +233,7 @@ fn have_numbers(fields: &[Field], sums: &[Numbers]) -> bool
     true
 }
 
-/// Whether all moves and lines are on fields, and each field has what they add up to on it.
+/// Returns whether all moves and lines are on fields, and each field has what they add up to there.
 pub(super) fn are_up_to_date(
     alloc: Global,
     fields: &[Field],

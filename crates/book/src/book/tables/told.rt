@@ -1,4 +1,4 @@
-//! What each row tells.
+//! What each row says.
 
 ghost use Rattle.std.specs.Prelude.{◌≡◌, pos, ℕ, IfErr, IfOk, MatchOption};
 ghost use Rattle.std.specs.List.{AllByRecursion as Each, AllZip};
@@ -25,19 +25,19 @@ use ledger::{FieldRow, KeptRow, Kind, Line, LineRow, MoveRow, OrderRow, State};
 use std::alloc::Global;
 use words::WordsFault;
 
-/// What a row tells.
+/// What a row says, read from it.
 pub(super) trait Told<R>: Sized {
-    /// It is in range, and the row tells it.
+    /// The value is in range, and the row says it.
     ghost is_told: { Self → R → Type 0 };
 
-    /// What the row tells, where it tells something in range.
+    /// Returns what the row says, or `Damaged` where that is not in range.
     fn read(alloc: Global, row: &R) -> Result<Self, TablesFault>
         ensures told { IfOk result (λ told. is_told told row.now) }
         ensures damaged { IfErr result (λ fault. fault ≡ TablesFault.Damaged → (told : Self) → is_told told row.now
             → ⊥) };
 }
 
-/// What all the rows tell, each something in range.
+/// Returns what all rows say, or `Damaged` where that is not in range for each of them.
 pub(super) fn read_all<R, T: Told<R> + Drop>(
     alloc: Global,
     rows: &[R],
@@ -58,7 +58,7 @@ pub(super) fn read_all<R, T: Told<R> + Drop>(
     Ok(all)
 }
 
-/// The number, where it is not below 0.
+/// Returns the number, where it is not below 0.
 pub(super) fn natural(number: i64) -> Option<u64>
     ensures { MatchOption result ((n : ℕ) → number ≡ pos n → ⊥) (λ n. number ≡ pos n) }
 {
@@ -132,7 +132,7 @@ fn field(row: &FieldRow) -> Option<(FieldName, FieldEntry)>
     Some((name, entry))
 }
 
-/// The quantity of those numbers, where they lie in their order.
+/// Returns the quantity with the row's numbers, where they are levels and `lo <= inf <= value <= sup <= hi` holds.
 fn quantity(row: &FieldRow) -> Option<Quantity>
     ensures { MatchOption result ((q : Stock) → IsQuantityTold q row.now → ⊥) (λ q. IsQuantityTold q row.now) }
 {

@@ -6,9 +6,11 @@ use Rattle.desk.proofs.copies.put_off.Goals as goal
 pub returns-clause-desk : goal.returns-clause-desk
 returns-clause-desk c =
     rows_joined c.args.kept.now.items c.args.changes.now c.in_ok-copies.copies.items c.append.new.items.items
-    (c.append.ensures.items ∙ ap (λ (cs : List Change). cs ++ c.in_ok-copies.copies.items) c.reserve.ensures.items) (copies_same _ _ c.in_ok-copies.ensures.same) c.requires.before c.requires.more
+    (c.append.ensures.items ∙ ap (λ (cs : List Change). cs ++ c.in_ok-copies.copies.items) c.reserve.ensures.items)
+    (copies_same _ _ c.in_ok-copies.ensures.same) c.requires.before c.requires.more
 
 pub returns-clause-put : goal.returns-clause-put
 returns-clause-put c = λ x.
     put_joined c.args.kept.now.items c.args.changes.now c.in_ok-copies.copies.items c.append.new.items.items x
-    (c.append.ensures.items ∙ ap (λ (cs : List Change). cs ++ c.in_ok-copies.copies.items) c.reserve.ensures.items) (copies_same _ _ c.in_ok-copies.ensures.same)
+    (c.append.ensures.items ∙ ap (λ (cs : List Change). cs ++ c.in_ok-copies.copies.items) c.reserve.ensures.items)
+    (copies_same _ _ c.in_ok-copies.ensures.same)

@@ -12,16 +12,19 @@ returns-clause-found g c honest these leaves =
 pub returns-clause-left : goal.returns-clause-left
 returns-clause-left g c honest these leaves =
     let before = c.open.ensures.honest honest in
-    left_alone these (g.K.Keep.holds c.in_ok-again.again) (g.K.Keep.leaves (keeper_after c.open.result)) (c.in_ok-again.ensures.found before these leaves)
+    left_alone these (g.K.Keep.holds c.in_ok-again.again) (g.K.Keep.leaves (keeper_after c.open.result))
+    (c.in_ok-again.ensures.found before these leaves)
     (λ x held. (c.open.ensures.left honest).adds.adds_nothing (x ∷ []) (c.in_ok-again.ensures.alone before x held))
 
 pub returns-clause-refused : goal.returns-clause-refused
 returns-clause-refused g c honest left =
     let before = c.open.ensures.honest honest in
-    refused_so c.open.result _ _ left (c.in_ok-again.ensures.found before left.these left.leaves_these) (c.open.ensures.nothing_else honest)
+    refused_so c.open.result _ _ left (c.in_ok-again.ensures.found before left.these left.leaves_these)
+        (c.open.ensures.nothing_else honest)
 
 pub returns-clause-honours : goal.returns-clause-honours
-returns-clause-honours g c = IfOk-weaker c.open.result _ _ (λ again opened. (opened.good, opened.honours, opened.always)) c.open.ensures.opened
+returns-clause-honours g c =
+    IfOk-weaker c.open.result _ _ (λ again opened. (opened.good, opened.honours, opened.always)) c.open.ensures.opened
 
 pub returns-clause-going : goal.returns-clause-going
 returns-clause-going g c = IfOk-weaker c.open.result _ _ (λ again opened. opened.going) c.open.ensures.opened

@@ -4,7 +4,8 @@ use Rattle.std.proofs.lemmas.Result.{IfOk-at_ok}
 use Rattle.desk.proofs.headline.go_on.Goals as goal
 
 pub returns-in-Ok-clause-resumed : goal.returns-in-Ok-clause-resumed
-returns-in-Ok-clause-resumed g c honest = (c.in-Ok.again, c.in-Ok.is, c.resume-rest.ensures.goes.honest honest, c.resume-rest.ensures.resumed)
+returns-in-Ok-clause-resumed g c honest =
+    (c.in-Ok.again, c.in-Ok.is, c.resume-rest.ensures.goes.honest honest, c.resume-rest.ensures.resumed)
 
 pub returns-in-Ok-clause-behind : goal.returns-in-Ok-clause-behind
 returns-in-Ok-clause-behind g c =

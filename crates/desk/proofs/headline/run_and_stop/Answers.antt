@@ -18,7 +18,9 @@ returns-clause-left g c honest =
 
 pub returns-clause-replies : goal.returns-clause-replies
 returns-clause-replies g c =
-    let run = c.run-run.ensures in record { last = c.run-run.new.self.ledger; replies = run.replies; lines = run.lines; all = run.all }
+    let run = c.run-run.ensures in
+    record { last = c.run-run.new.self.ledger; replies = run.replies; lines = run.lines; all = run.all }
 
 pub returns-clause-behind : goal.returns-clause-behind
-returns-clause-behind g c = let run = c.run-run in (run.new.self, sym c.into_keep.ensures.keep, run.ensures.goes, run.ensures.replies)
+returns-clause-behind g c =
+    let run = c.run-run in (run.new.self, sym c.into_keep.ensures.keep, run.ensures.goes, run.ensures.replies)

@@ -6,7 +6,8 @@ use Rattle.desk.proofs.headline.run_cut_and_open.Goals as goal
 pub returns-clause-found : goal.returns-clause-found
 returns-clause-found g c =
     let opened = c.cut_and_open-opened in
-    found_of g.K.Keep.is_honest _ _ _ opened.result opened.ensures.honest c.run_and_stop-run.ensures.left opened.ensures.found opened.ensures.honours
+    found_of g.K.Keep.is_honest _ _ _ opened.result opened.ensures.honest c.run_and_stop-run.ensures.left
+        opened.ensures.found opened.ensures.honours
 
 pub returns-clause-refused : goal.returns-clause-refused
 returns-clause-refused g c =
@@ -16,7 +17,8 @@ returns-clause-refused g c =
 pub returns-clause-left : goal.returns-clause-left
 returns-clause-left g c =
     let opened = c.cut_and_open-opened in
-    left_of g.K.Keep.is_honest _ _ _ g.K.Keep.leaves opened.result opened.ensures.honest c.run_and_stop-run.ensures.left opened.ensures.left
+    left_of g.K.Keep.is_honest _ _ _ g.K.Keep.leaves opened.result opened.ensures.honest c.run_and_stop-run.ensures.left
+        opened.ensures.left
 
 pub returns-clause-stop : goal.returns-clause-stop
 returns-clause-stop g c =
@@ -24,7 +26,8 @@ returns-clause-stop g c =
     let opened = c.cut_and_open-opened in
     let (last, same, goes, runs) = run.ensures.behind in (
       last,
-      subst (λ k. TellsEnding g.K.Keep run.result.0 k) (sym same) (record { stopped = run.ensures.stopped; going = run.ensures.going }),
+      subst (λ k. TellsEnding g.K.Keep run.result.0 k) (sym same)
+          (record { stopped = run.ensures.stopped; going = run.ensures.going }),
       record {
         goes = goes;
         opens = opens_of g.K.Keep opened.result last.keep run.result.1 same opened.ensures.honest opened.ensures.left;

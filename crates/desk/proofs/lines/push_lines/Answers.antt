@@ -2,4 +2,5 @@ use Rattle.desk.proofs.OrderWords.{lines_more}
 use Rattle.desk.proofs.lines.push_lines.Goals as goal
 
 pub loop-line-preserved : goal.loop-line-preserved
-loop-line-preserved c = lines_more _ _ _ _ _ _ c.loop-line-test.true c.line-item.is c.loop-line.invariant c.in_ok-push_line.ensures
+loop-line-preserved c =
+    lines_more _ _ _ _ _ _ c.loop-line-test.true c.line-item.is c.loop-line.invariant c.in_ok-push_line.ensures

@@ -40,7 +40,8 @@ loop-done-preserved g c =
     let some : List Request = take k (drop n c.args.requests.now) in
     let short = length_take_most k (drop n c.args.requests.now) in
     let counted = c.in_ok-done.ensures.some in (
-      answered_further c.args.desk.now.ledger c.loop-done.desk.ledger c.answer_list.new.desk.ledger c.args.requests.now some n k c.in_ok-done.field-0 _ _ _ refl counted.1 so_far c.in_ok-done.ensures.whole,
+      answered_further c.args.desk.now.ledger c.loop-done.desk.ledger c.answer_list.new.desk.ledger c.args.requests.now
+          some n k c.in_ok-done.field-0 _ _ _ refl counted.1 so_far c.in_ok-done.ensures.whole,
       grind (arith, short, counted.1, c.min-end.ensures),
       c.in_ok-done.ensures.going,
       goes_on _ _ _ _ goes c.answer_list.ensures.goes,
@@ -52,7 +53,10 @@ returns-clause-whole g c =
     let end : c.loop-done.done ≡ length c.args.requests.now = search rules in
     let was : g.K.Keep.stopped c.args.desk.now.keep ≡ false = search rules in
     record {
-      told = subst (λ (rs : List Request). WritesLines c.args.desk.now.ledger (items_of rs) c.loop-done.desk.ledger (g.W.Write.contents c.args.writer.now) (g.W.Write.contents c.loop-done.writer)) (ap (λ n. take n c.args.requests.now) end ∙ take-length c.args.requests.now) so_far;
+      told =
+          subst (λ (rs : List Request). WritesLines c.args.desk.now.ledger (items_of rs) c.loop-done.desk.ledger
+              (g.W.Write.contents c.args.writer.now) (g.W.Write.contents c.loop-done.writer))
+              (ap (λ n. take n c.args.requests.now) end ∙ take-length c.args.requests.now) so_far;
       may = may_requests (desk_state g.K.Keep c.args.desk.now) c.args.requests.now was;
       same = going ∙ sym was;
     }

@@ -19,8 +19,14 @@ append-requires c =
 
 pub returns-clause-joined : goal.returns-clause-joined
 returns-clause-joined c is =
-    joined_accepted c.args.book.now.ledger c.adopt.new.self.ledger c.args.plan c.adopt.result.items _ _ c.requires.good c.requires.key c.requires.command c.requires.fits c.adopt.ensures.rows
-    (c.adopt.ensures.next ∙ ap (λ (A : Ledger). accept A c.args.plan.request) c.make_room.ensures.same) c.adopt.ensures.good c.requires.going (c.tell.ensures.others.1 ∙ c.requires.going)
+    joined_accepted c.args.book.now.ledger c.adopt.new.self.ledger c.args.plan c.adopt.result.items _ _ c.requires.good
+    c.requires.key c.requires.command c.requires.fits c.adopt.ensures.rows
+    (c.adopt.ensures.next ∙ ap (λ (A : Ledger). accept A c.args.plan.request) c.make_room.ensures.same)
+    c.adopt.ensures.good c.requires.going (c.tell.ensures.others.1 ∙ c.requires.going)
     (c.in-Ok-tell.ensures.reply ∙ ap (λ n. c.args.batch.now.run.replies.items ++ Done n ∷ []) c.place.ensures)
-    (c.in-Ok-tell.ensures.line ∙ ap (λ n. c.args.batch.now.run.lines.items ++ request_line c.args.key (Done n)) c.place.ensures ∙ ap (λ key. c.args.batch.now.run.lines.items ++ request_line key (Done c.args.plan.place)) c.requires.named)
-    (c.append.ensures.items ∙ ap (λ (changes : List Change). changes ++ c.adopt.result.items) (ap (λ changes. changes.items) c.tell.ensures.others.0 ∙ c.reserve.ensures.items)) c.tell.ensures.short
+    (c.in-Ok-tell.ensures.line
+        ∙ ap (λ n. c.args.batch.now.run.lines.items ++ request_line c.args.key (Done n)) c.place.ensures
+        ∙ ap (λ key. c.args.batch.now.run.lines.items ++ request_line key (Done c.args.plan.place)) c.requires.named)
+    (c.append.ensures.items
+        ∙ ap (λ (changes : List Change). changes ++ c.adopt.result.items)
+            (ap (λ changes. changes.items) c.tell.ensures.others.0 ∙ c.reserve.ensures.items)) c.tell.ensures.short

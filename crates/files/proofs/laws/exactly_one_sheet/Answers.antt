@@ -12,4 +12,5 @@ pub returns-clause-one_of_branch : goal.returns-clause-one_of_branch
 returns-clause-one_of_branch c A branch one other h k = one_sheet (λ f. bytes_eq f.branch branch) (λ v. v.article) A one other h k
 
 pub returns-clause-one_of_article : goal.returns-clause-one_of_article
-returns-clause-one_of_article c A article one other h k = one_sheet (λ f. bytes_eq f.article article) (λ v. v.branch) A one other h k
+returns-clause-one_of_article c A article one other h k =
+    one_sheet (λ f. bytes_eq f.article article) (λ v. v.branch) A one other h k

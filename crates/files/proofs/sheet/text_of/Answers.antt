@@ -10,14 +10,18 @@ loop-index-preserved c =
       | in-Some-title+in_ok-push_field w ↦
           let added = sum_more views c.in-Some.view c.loop-index.total sum in (
             views ++ c.in-Some.view ∷ [],
-            field_shown c.args.book.now.ledger c.args.shown views c.loop-index.index c.in-Some.view show c.in-Some.ensures.found w.in-Some-title.ensures.0,
-            text_more c.args.shown views c.in-Some.view w.in-Some-title.title.now c.loop-index.text.items c.match-title.text.items w.in-Some-title.ensures.1 lines (ap (λ t. t.items) w.text-is ∙ w.in_ok-push_field.ensures),
+            field_shown c.args.book.now.ledger c.args.shown views c.loop-index.index c.in-Some.view show
+                c.in-Some.ensures.found w.in-Some-title.ensures.0,
+            text_more c.args.shown views c.in-Some.view w.in-Some-title.title.now c.loop-index.text.items
+                c.match-title.text.items w.in-Some-title.ensures.1 lines
+                (ap (λ t. t.items) w.text-is ∙ w.in_ok-push_field.ensures),
             omega arith,
             omega arith,
           )
       | in_default-title w ↦ (
         views,
-        field_hidden c.args.book.now.ledger c.args.shown views c.loop-index.index c.in-Some.view show c.in-Some.ensures.found w.in_default-title.ensures,
+        field_hidden c.args.book.now.ledger c.args.shown views c.loop-index.index c.in-Some.view show
+            c.in-Some.ensures.found w.in_default-title.ensures,
         ap (λ t. t.items) w.text-is ∙ lines,
         w.total-is ∙ sum,
         omega arith,
@@ -27,4 +31,5 @@ loop-index-preserved c =
 pub returns : goal.returns
 returns c =
     let (views, show, lines, sum, most) = c.loop-index.invariant in
-    whole_sheet c.args.book.now.ledger c.args.shown views c.loop-index.index c.loop-index.text.items c.push_total.new.out.items c.loop-index.total show (omega arith) lines sum c.in_ok-push_total.ensures
+    whole_sheet c.args.book.now.ledger c.args.shown views c.loop-index.index c.loop-index.text.items
+        c.push_total.new.out.items c.loop-index.total show (omega arith) lines sum c.in_ok-push_total.ensures

@@ -13,7 +13,8 @@ returns-in-Err-clause-cut g c =
       0,
       omega arith,
       none_served talk listen g.K.Keep c.args.crowd c.args.desk.now c.in-Err.crowd c.in-Err.ensures.err
-          (before_all talk listen g.K.Keep c.args.crowd c.args.desk.now c.requires.goes c.requires.settled c.is_kept.ensures.stored),
+          (before_all talk listen g.K.Keep c.args.crowd c.args.desk.now c.requires.goes c.requires.settled
+              c.is_kept.ensures.stored),
     )
 
 pub returns-clause-whole : goal.returns-clause-whole
@@ -21,13 +22,22 @@ returns-clause-whole g c =
     let talk = speaks g.D.Dialogue g.C.Stream.Stream in
     let listen = listening_to g.C.Crowd in
     let start = snapshot_off c.args.desk.now in
-    let kept = before_all talk listen g.K.Keep c.args.crowd c.args.desk.now c.requires.goes c.requires.settled c.is_kept.ensures.stored in
-    let after = c.serve-ended.ensures.served c.args.crowd start (record { loss = None; kept = kept; serving = c.in-Ok.ensures.serving start }) in
-    let closed = between talk listen g.K.Keep c.args.crowd start c.serve-ended.new.desk _ c.close_all.new.self c.close_all.ensures.served after in
+    let kept =
+        before_all talk listen g.K.Keep c.args.crowd c.args.desk.now c.requires.goes c.requires.settled
+            c.is_kept.ensures.stored in
+    let after =
+        c.serve-ended.ensures.served c.args.crowd start
+            (record { loss = None; kept = kept; serving = c.in-Ok.ensures.serving start }) in
+    let closed =
+        between talk listen g.K.Keep c.args.crowd start c.serve-ended.new.desk _ c.close_all.new.self
+            c.close_all.ensures.served after in
     on_ok c.serve-ended.result _ _ c.serve-ended.ensures.all (λ all. (
       all.1,
-      subst (λ last. HasServed g.D.Dialogue.language g.C.Stream.Stream.remaining g.C.Stream.Stream.contents listen g.K.Keep c.args.crowd last c.args.terms.now.connections c.args.desk.now c.serve-ended.new.desk) (sym c.into_crowd.ensures)
-          (ended talk listen g.K.Keep c.args.crowd start c.args.desk.now c.serve-ended.new.desk c.close_all.new.self c.args.terms.now.connections
+      subst (λ last. HasServed g.D.Dialogue.language g.C.Stream.Stream.remaining g.C.Stream.Stream.contents listen
+          g.K.Keep c.args.crowd last c.args.terms.now.connections c.args.desk.now c.serve-ended.new.desk)
+          (sym c.into_crowd.ensures)
+          (ended talk listen g.K.Keep c.args.crowd start c.args.desk.now c.serve-ended.new.desk c.close_all.new.self
+          c.args.terms.now.connections
           (c.close_all.ensures.same.1 ∙ all.0) c.close_all.ensures.free closed),
     ))
 
@@ -36,14 +46,21 @@ returns-clause-cut g c =
     let talk = speaks g.D.Dialogue g.C.Stream.Stream in
     let listen = listening_to g.C.Crowd in
     let start = snapshot_off c.args.desk.now in
-    let kept = before_all talk listen g.K.Keep c.args.crowd c.args.desk.now c.requires.goes c.requires.settled c.is_kept.ensures.stored in
-    let after = c.serve-ended.ensures.served c.args.crowd start (record { loss = None; kept = kept; serving = c.in-Ok.ensures.serving start }) in
-    let closed = between talk listen g.K.Keep c.args.crowd start c.serve-ended.new.desk _ c.close_all.new.self c.close_all.ensures.served after in
+    let kept =
+        before_all talk listen g.K.Keep c.args.crowd c.args.desk.now c.requires.goes c.requires.settled
+            c.is_kept.ensures.stored in
+    let after =
+        c.serve-ended.ensures.served c.args.crowd start
+            (record { loss = None; kept = kept; serving = c.in-Ok.ensures.serving start }) in
+    let closed =
+        between talk listen g.K.Keep c.args.crowd start c.serve-ended.new.desk _ c.close_all.new.self
+            c.close_all.ensures.served after in
     let count = c.serve-ended.new.self.places.connections in
     on_err c.serve-ended.result _ (
       count,
       c.serve-ended.ensures.within,
-      subst (λ last. HasServed g.D.Dialogue.language g.C.Stream.Stream.remaining g.C.Stream.Stream.contents listen g.K.Keep c.args.crowd last count c.args.desk.now c.serve-ended.new.desk) (sym c.into_crowd.ensures)
+      subst (λ last. HasServed g.D.Dialogue.language g.C.Stream.Stream.remaining g.C.Stream.Stream.contents listen
+          g.K.Keep c.args.crowd last count c.args.desk.now c.serve-ended.new.desk) (sym c.into_crowd.ensures)
           (ended talk listen g.K.Keep c.args.crowd start c.args.desk.now c.serve-ended.new.desk c.close_all.new.self count
           c.close_all.ensures.same.1 c.close_all.ensures.free closed),
     )

@@ -15,7 +15,8 @@ pub returns-then-rest-eq0-clause-seats : goal.returns-then-rest-eq0-clause-seats
 returns-then-rest-eq0-clause-seats g c = each_on SameAt seat_on _ _ _ c.loop-turns.invariant.seats c.ask_from-rest.ensures.seats
 
 pub returns-then-rest-eq0-clause-asked : goal.returns-then-rest-eq0-clause-asked
-returns-then-rest-eq0-clause-asked g c = λ heard start round. c.ask_from-rest.ensures.asked heard start (c.loop-turns.invariant.asked heard start round)
+returns-then-rest-eq0-clause-asked g c = λ heard start round.
+    c.ask_from-rest.ensures.asked heard start (c.loop-turns.invariant.asked heard start round)
 
 pub returns-then-rest-eq0-clause-off : goal.returns-then-rest-eq0-clause-off
 returns-then-rest-eq0-clause-off g c = off_on _ _ _ c.loop-turns.invariant.off c.ask_from-rest.ensures.off
@@ -24,7 +25,8 @@ pub returns-then-from-eq0-clause-seats : goal.returns-then-from-eq0-clause-seats
 returns-then-from-eq0-clause-seats g c = each_on SameAt seat_on _ _ _ c.loop-turns.invariant.seats c.ask_from-rest.ensures.seats
 
 pub returns-then-from-eq0-clause-asked : goal.returns-then-from-eq0-clause-asked
-returns-then-from-eq0-clause-asked g c = λ heard start round. c.ask_from-rest.ensures.asked heard start (c.loop-turns.invariant.asked heard start round)
+returns-then-from-eq0-clause-asked g c = λ heard start round.
+    c.ask_from-rest.ensures.asked heard start (c.loop-turns.invariant.asked heard start round)
 
 pub returns-then-from-eq0-clause-off : goal.returns-then-from-eq0-clause-off
 returns-then-from-eq0-clause-off g c = off_on _ _ _ c.loop-turns.invariant.off c.ask_from-rest.ensures.off

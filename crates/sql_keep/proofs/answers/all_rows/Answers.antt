@@ -9,7 +9,9 @@ use Rattle.sqlite.proofs.Callers.{begun_plain, unchanged_then}
 use Rattle.sql_keep.proofs.answers.all_rows.Goals as goal
 
 -- what a query shows of a state that is the first unchanged, it shows of the first
-shown_from : (sql : List ℕ) (params : Row) (first old new : State) (rows : List Row) → IsPlain (understood first.now.schema sql) → IsUnchanged first old → Shown sql params old new rows → Shown sql params first new rows
+shown_from : (sql : List ℕ) (params : Row) (first old new : State) (rows : List Row)
+    → IsPlain (understood first.now.schema sql) → IsUnchanged first old → Shown sql params old new rows
+    → Shown sql params first new rows
 unfolding Shown
 shown_from sql params first old new rows plain same h =
     let now : old.now ≡ first.now = same.0.now_is in

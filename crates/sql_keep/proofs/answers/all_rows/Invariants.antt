@@ -14,5 +14,6 @@ invariant-loop-turn g l =
       same : l.rows.conn.ghost_name ≡ l.initial.rows.conn.ghost_name;
       mode : l.fn.conn.in_transaction ≡ false → l.rows.conn.now.in_transaction ≡ false;
       survives : Survives old now (CommitsShowing l.sql [] old);
-      given : IsPlain (understood l.fn.conn.schema l.sql) → HasCleanDisk now → HasGiven g.S.Store l.sql [] l.rows.conn.now l.all.items × IsUnchanged old now;
+      given : IsPlain (understood l.fn.conn.schema l.sql) → HasCleanDisk now
+          → HasGiven g.S.Store l.sql [] l.rows.conn.now l.all.items × IsUnchanged old now;
     }

@@ -11,8 +11,12 @@ loop-table-preserved g c =
     let new = state g.S.Store c.create_table.new.tx.conn.now in
     record {
       same = c.create_table.ensures.same_reference ∙ c.loop-table.invariant.same;
-      survives = survives_then old mid new _ _ _ (λ _ db none. none) (λ _ db none. none) c.loop-table.invariant.survives c.create_table.ensures.survives;
+      survives =
+          survives_then old mid new _ _ _ (λ _ db none. none) (λ _ db none. none) c.loop-table.invariant.survives
+              c.create_table.ensures.survives;
       makes = λ clean begun.
           let first = c.loop-table.invariant.makes (omega (arith, clean, c.create_table.ensures.survives.clean)) begun in
-          makes_more old mid new c.args.version c.loop-table.table-index c.requires c.tables_after-table-items.result.now c.tables_after-table-items.ensures c.loop-table-test.true first (c.in_ok-create_table.ensures.made clean first.mode);
+          makes_more old mid new c.args.version c.loop-table.table-index c.requires
+              c.tables_after-table-items.result.now c.tables_after-table-items.ensures c.loop-table-test.true first
+              (c.in_ok-create_table.ensures.made clean first.mode);
     }

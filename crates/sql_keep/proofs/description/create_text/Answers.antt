@@ -17,7 +17,8 @@ returns-in-Move c = rw c.in-Move.is (record { command = refl; whole = refl; plai
 
 pub returns-in-Orders : goal.returns-in-Orders
 unfolding understood everything
-returns-in-Orders c = rw c.in-Orders.is (record { command = refl; whole = refl; plain = (refl, refl); defined = refl; next = refl })
+returns-in-Orders c =
+    rw c.in-Orders.is (record { command = refl; whole = refl; plain = (refl, refl); defined = refl; next = refl })
 
 pub returns-in-Line : goal.returns-in-Line
 unfolding understood everything

@@ -9,14 +9,17 @@ lists g c = rw c.name.ensures at c.select_text.ensures.newest
 
 pub returns-clause-rows : goal.returns-clause-rows
 returns-clause-rows g c clean has =
-    rows_if g.R.TableRow.which desk_schema c.select_text.result.now (lists g c) (state g.S.Store c.args.conn.now) (state g.S.Store c.all_rows.new.conn) c.all_rows.result has
+    rows_if g.R.TableRow.which desk_schema c.select_text.result.now (lists g c) (state g.S.Store c.args.conn.now)
+    (state g.S.Store c.all_rows.new.conn) c.all_rows.result has
     (c.all_rows.ensures.ok (plain_if g.R.TableRow.which desk_schema c.select_text.result.now (lists g c) _ has) clean)
 
 pub returns-clause-same : goal.returns-clause-same
 returns-clause-same g c clean has =
-    same_if g.R.TableRow.which desk_schema c.select_text.result.now (lists g c) (state g.S.Store c.args.conn.now) (state g.S.Store c.all_rows.new.conn) c.all_rows.result has
+    same_if g.R.TableRow.which desk_schema c.select_text.result.now (lists g c) (state g.S.Store c.args.conn.now)
+    (state g.S.Store c.all_rows.new.conn) c.all_rows.result has
     (c.all_rows.ensures.ok (plain_if g.R.TableRow.which desk_schema c.select_text.result.now (lists g c) _ has) clean)
 
 pub returns-clause-survives : goal.returns-clause-survives
 returns-clause-survives g c =
-    survives_if g.R.TableRow.which desk_schema c.select_text.result.now (lists g c) (state g.S.Store c.args.conn.now) (state g.S.Store c.all_rows.new.conn) c.all_rows.ensures.survives
+    survives_if g.R.TableRow.which desk_schema c.select_text.result.now (lists g c) (state g.S.Store c.args.conn.now)
+        (state g.S.Store c.all_rows.new.conn) c.all_rows.ensures.survives

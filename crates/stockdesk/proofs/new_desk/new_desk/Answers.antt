@@ -10,6 +10,8 @@ returns-in-Ok-clause-made g c =
     let same : c.over.result.connection ≡ c.create_over.new.conn = ap (λ k. k.connection) c.over.ensures.keeper in
     record {
       going = ap (λ k. k.stopped) c.over.ensures.keeper;
-      held = λ clean. subst (λ h. Holds (state g.S.Store h).now new_content) (sym same) (c.in-Ok.ensures.made (subst (λ h. HasCleanDisk (state g.S.Store h)) same clean)).is;
-      alone = λ clean. subst (λ h. LeavesOnly (state g.S.Store h).may_leave (new_content ∷ [])) (sym same) (c.in-Ok.ensures.alone (subst (λ h. HasCleanDisk (state g.S.Store h)) same clean));
+      held = λ clean. subst (λ h. Holds (state g.S.Store h).now new_content) (sym same)
+          (c.in-Ok.ensures.made (subst (λ h. HasCleanDisk (state g.S.Store h)) same clean)).is;
+      alone = λ clean. subst (λ h. LeavesOnly (state g.S.Store h).may_leave (new_content ∷ [])) (sym same)
+          (c.in-Ok.ensures.alone (subst (λ h. HasCleanDisk (state g.S.Store h)) same clean));
     }

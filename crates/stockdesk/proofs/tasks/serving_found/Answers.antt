@@ -6,7 +6,8 @@ use Rattle.stockdesk.proofs.tasks.serving_found.Goals as goal
 pub returns-in_err-service-clause-taken : goal.returns-in_err-service-clause-taken
 returns-in_err-service-clause-taken c = record {
   in_turn = λ service alone nobody asked. let some = c.in_err-service.ensures.taken service asked in search rules;
-  at_once = λ together service at_once found numbers few many asked. let some = c.in_err-service.ensures.taken service asked in search rules;
+  at_once = λ together service at_once found numbers few many asked.
+      let some = c.in_err-service.ensures.taken service asked in search rules;
 }
 
 pub returns-in_err-at_once_named-in-Some-clause-taken : goal.returns-in_err-at_once_named-in-Some-clause-taken

@@ -9,5 +9,9 @@ returns c =
     let one : app_of c.in_ok-command.command ≡ with_subcommand (app_of c.args.command) orders.top =
     c.in_ok-command.ensures orders c.requests_command.ensures.app c.requests_command.ensures.local in
     let two : app_of c.in_ok-command-2.command ≡ with_both (app_of c.args.command) orders deliveries =
-    c.in_ok-command-2.ensures deliveries c.requests_command-2.ensures.app c.requests_command-2.ensures.local ∙ ap (λ (a : App). with_subcommand a deliveries.top) one in
-    IfOk-weaker c.with-3.result _ _ (λ all added. added bounds c.requests_command-3.ensures.app c.requests_command-3.ensures.local ∙ ap (λ (a : App). with_subcommand a bounds.top) two) c.with-3.ensures
+    c.in_ok-command-2.ensures deliveries c.requests_command-2.ensures.app c.requests_command-2.ensures.local
+    ∙ ap (λ (a : App). with_subcommand a deliveries.top) one in
+    IfOk-weaker c.with-3.result _ _
+        (λ all added.
+            added bounds c.requests_command-3.ensures.app c.requests_command-3.ensures.local
+            ∙ ap (λ (a : App). with_subcommand a bounds.top) two) c.with-3.ensures

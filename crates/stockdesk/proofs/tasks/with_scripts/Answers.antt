@@ -11,7 +11,12 @@ with_required_subcommand a = record a { top = record a.top { subcommand_required
 pub returns : goal.returns
 returns c =
     let named : app_of c.subcommand_required-program.result ≡ with_required_subcommand (new_app (codes "stockdesk")) =
-    ap app_of_fields c.subcommand_required-program.ensures ∙ ap with_required_subcommand (ap app_of_fields c.about.ensures ∙ c.new.ensures.app) in
+    ap app_of_fields c.subcommand_required-program.ensures
+    ∙ ap with_required_subcommand (ap app_of_fields c.about.ensures ∙ c.new.ensures.app) in
     let one : app_of c.in_ok-program.program ≡ with_subcommand (with_required_subcommand (new_app (codes "stockdesk"))) init.top =
-    c.in_ok-program.ensures init c.path_command-init.ensures.app c.path_command-init.ensures.local ∙ ap (λ (a : App). with_subcommand a init.top) named in
-    IfOk-weaker c.with-2.result _ _ (λ both added. added run c.run_command.ensures.app c.run_command.ensures.local ∙ ap (λ (a : App). with_subcommand a run.top) one) c.with-2.ensures
+    c.in_ok-program.ensures init c.path_command-init.ensures.app c.path_command-init.ensures.local
+    ∙ ap (λ (a : App). with_subcommand a init.top) named in
+    IfOk-weaker c.with-2.result _ _
+        (λ both added.
+            added run c.run_command.ensures.app c.run_command.ensures.local
+            ∙ ap (λ (a : App). with_subcommand a run.top) one) c.with-2.ensures

@@ -23,7 +23,10 @@ returns-in-Err-clause-cut g c =
         old_version = λ is honest x there. g.met.K.Keep.apart _ x (why.old_version (told.old_version.0 is) honest) there;
         damaged = λ is. why.damaged (told.damaged.0 is);
         opening = told.opening;
-        stopped = λ is. why.stopped (elim is [ inl e ↦ inl (told.store.0 e) | inr e ↦ inr (elim e [ inl n ↦ inl (told.not_a_desk.0 n) | inr o ↦ inr (told.old_version.0 o) ]) ]);
+        stopped = λ is. why.stopped (elim is [
+          inl e ↦ inl (told.store.0 e)
+          | inr e ↦ inr (elim e [ inl n ↦ inl (told.not_a_desk.0 n) | inr o ↦ inr (told.old_version.0 o) ])
+        ]);
         going = λ is. why.loaded (told.damaged.0 is);
         left = c.in-Err.ensures.left;
       },
@@ -34,14 +37,16 @@ pub returns-clause-whole : goal.returns-clause-whole
 returns-clause-whole g c =
     let opened = c.in-Ok.ensures.opened in
     let (last, ended) = c.work_on.ensures in
-    whole_by (session_on g.K.Keep c.args.keep c.work_on.result.0) c.work_on.result.1 c.in-Ok.desk last _ opened.going opened.good (λ honest. opened.rows (ended.goes.honest honest)) ended.stop ended.goes.stored ended.whole
+    whole_by (session_on g.K.Keep c.args.keep c.work_on.result.0) c.work_on.result.1 c.in-Ok.desk last _ opened.going
+        opened.good (λ honest. opened.rows (ended.goes.honest honest)) ended.stop ended.goes.stored ended.whole
 
 pub returns-clause-cut : goal.returns-clause-cut
 returns-clause-cut g c =
     let opened = c.in-Ok.ensures.opened in
     let (last, ended) = c.work_on.ensures in
     of_error c.work_on.result.1 _ _
-    (λ fault is cut. inr (cut_by (session_on g.K.Keep c.args.keep c.work_on.result.0) c.work_on.result.1 c.in-Ok.desk last _ opened.going opened.good (λ honest. opened.rows (ended.goes.honest honest)) ended.stop ended.goes.stored
+    (λ fault is cut. inr (cut_by (session_on g.K.Keep c.args.keep c.work_on.result.0) c.work_on.result.1 c.in-Ok.desk
+    last _ opened.going opened.good (λ honest. opened.rows (ended.goes.honest honest)) ended.stop ended.goes.stored
     fault is cut ended.desk))
     ended.cut
 
@@ -50,7 +55,10 @@ returns-in-Err-clause-old g c honest going old =
     let told = c.from.ensures in
     elim (c.in-Err.ensures.only_old honest going old) [
       | inl e ↦ inl (ap (λ f. Err f) (told.old_version.1 e))
-      | inr more ↦ inr (elim more [ inl e ↦ inl (ap (λ f. Err f) (told.memory.1 e)) | inr e ↦ inr (ap (λ f. Err f) (told.store.1 e)) ])
+      | inr more ↦
+          inr (elim more [
+            inl e ↦ inl (ap (λ f. Err f) (told.memory.1 e)) | inr e ↦ inr (ap (λ f. Err f) (told.store.1 e))
+          ])
     ]
 
 pub returns-clause-old : goal.returns-clause-old
@@ -66,19 +74,38 @@ pub returns-in-Err-clause-goes_on : goal.returns-in-Err-clause-goes_on
 returns-in-Err-clause-goes_on g c honest A x good rows held alone =
     let told = c.from.ensures in
     record {
-      opens = opens_desk c.from.result (elim (c.in-Err.ensures.nothing_else honest A x good rows held) [ inl e ↦ inl (told.memory.1 e) | inr e ↦ inr (told.store.1 e) ]);
-      leaves = stored_left A _ (g.K.Keep.holds c.args.keep) (g.K.Keep.leaves c.in-Err.keep) good (nothing_found (desk_left (session_on g.K.Keep c.args.keep c.in-Err.keep) A) _ (Keeps-refl _, Keeps-refl _) c.args.work.now)
-          (record { rows = x; are_rows = rows; held = held; alone = (c.in-Err.ensures.left honest).adds.adds_nothing (x ∷ []) alone });
+      opens =
+          opens_desk c.from.result (elim (c.in-Err.ensures.nothing_else honest A x good rows held) [
+            inl e ↦ inl (told.memory.1 e) | inr e ↦ inr (told.store.1 e)
+          ]);
+      leaves = stored_left A _ (g.K.Keep.holds c.args.keep) (g.K.Keep.leaves c.in-Err.keep) good
+          (nothing_found (desk_left (session_on g.K.Keep c.args.keep c.in-Err.keep) A) _ (Keeps-refl _, Keeps-refl _)
+              c.args.work.now)
+          (record {
+            rows = x;
+            are_rows = rows;
+            held = held;
+            alone = (c.in-Err.ensures.left honest).adds.adds_nothing (x ∷ []) alone
+          });
     }
 
 pub returns-clause-goes_on : goal.returns-clause-goes_on
 returns-clause-goes_on g c honest A x good rows held alone =
     let opened = c.in-Ok.ensures.opened in
     let (last, ended) = c.work_on.ensures in
-    let s = streams (g.R.Read.remaining c.args.reader.now) (g.R.Read.remaining c.work_on.new.reader) (g.W.Write.contents c.args.writer.now) (g.W.Write.contents c.work_on.new.writer) in
-    let same : c.in-Ok.desk.ledger ≡ A = told_by_rows c.in-Ok.desk.ledger A x opened.good good (opened.rows (ended.goes.honest honest) x held) rows in
-    let left = work_left _ _ _ s (g.K.Keep.holds c.work_on.result.0) opened.going ended.goes.good honest (λ going. ended.goes.stored going honest) c.work_on.result.1 c.args.work.now ended.whole ended.cut ended.stop in
+    let s =
+        streams (g.R.Read.remaining c.args.reader.now) (g.R.Read.remaining c.work_on.new.reader)
+            (g.W.Write.contents c.args.writer.now) (g.W.Write.contents c.work_on.new.writer) in
+    let same : c.in-Ok.desk.ledger ≡ A =
+        told_by_rows c.in-Ok.desk.ledger A x opened.good good (opened.rows (ended.goes.honest honest) x held) rows in
+    let left =
+        work_left _ _ _ s (g.K.Keep.holds c.work_on.result.0) opened.going ended.goes.good honest
+            (λ going. ended.goes.stored going honest) c.work_on.result.1 c.args.work.now ended.whole ended.cut
+            ended.stop in
     record {
       opens = ended.desk;
-      leaves = subst (λ (B : Ledger). LeavesRowsOf (g.K.Keep.leaves c.work_on.result.0) (IsFoundAfterWork c.args.work.now (desk_left (session_on g.K.Keep c.args.keep c.work_on.result.0) B) s)) same left;
+      leaves =
+          subst (λ (B : Ledger). LeavesRowsOf (g.K.Keep.leaves c.work_on.result.0)
+              (IsFoundAfterWork c.args.work.now (desk_left (session_on g.K.Keep c.args.keep c.work_on.result.0) B) s))
+              same left;
     }

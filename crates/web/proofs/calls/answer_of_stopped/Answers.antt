@@ -12,4 +12,6 @@ pub returns-in-Nothing : goal.returns-in-Nothing
 returns-in-Nothing c = c.answer-in-Nothing.ensures ∙ ap (λ (a : Ask). answer_bytes (reply_of_stopped a)) (sym c.in-Nothing.is)
 
 pub returns-in_default : goal.returns-in_default
-returns-in_default c = c.answer-in_default.ensures ∙ ap answer_bytes (stopped_else c.args.ask.now c.in_default.not-BadCall c.in_default.not-Nothing)
+returns-in_default c =
+    c.answer-in_default.ensures
+    ∙ ap answer_bytes (stopped_else c.args.ask.now c.in_default.not-BadCall c.in_default.not-Nothing)

@@ -8,7 +8,8 @@ loop-preserved c =
     let room : 50 - c.loop.counter ≡ suc (50 - (c.loop.counter + 1)) = omega (arith, c.loop-test.true) in
     let before = subst (λ n. IsListed A c.args.floor c.loop.last n c.loop.numbers.items) room c.loop.invariant in
     subst (λ n. IsListed A c.args.floor n (50 - (c.loop.counter + 1)) c.push.new.self.items) (sym c.get-last.ensures.value)
-    (one_more A c.args.floor c.loop.last c.in-Some.next (50 - (c.loop.counter + 1)) c.loop.numbers.items c.push.new.self.items c.in-Some.ensures
+    (one_more A c.args.floor c.loop.last c.in-Some.next (50 - (c.loop.counter + 1)) c.loop.numbers.items
+    c.push.new.self.items c.in-Some.ensures
     c.in_ok-push.ensures.items before)
 
 pub returns : goal.returns
@@ -18,4 +19,5 @@ returns c =
 
 pub returns-in_default : goal.returns-in_default
 returns-in_default c =
-    none_more c.args.book.now.ledger c.args.floor c.loop.last (50 - c.loop.counter) c.loop.numbers.items c.in_default.ensures c.loop.invariant
+    none_more c.args.book.now.ledger c.args.floor c.loop.last (50 - c.loop.counter) c.loop.numbers.items
+        c.in_default.ensures c.loop.invariant

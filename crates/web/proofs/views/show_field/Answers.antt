@@ -11,4 +11,5 @@ returns-in_ok-field_answer-in-Some c = (
 )
 
 pub returns-in-None : goal.returns-in-None
-returns-in-None c = (none_answer, no_field c.args.book.now.ledger c.args.branch c.args.article c.in-None.ensures, c.answer.ensures)
+returns-in-None c =
+    (none_answer, no_field c.args.book.now.ledger c.args.branch c.args.article c.in-None.ensures, c.answer.ensures)

@@ -10,6 +10,7 @@ pub returns : goal.returns
 returns c =
     let A = c.args.book.now.ledger in
     let written =
-    list_written A (λ o. is_open o && nat_lt c.args.floor o.number) _ _ c.in_ok-numbers.numbers.items c.requires c.deref.ensures.value
+    list_written A (λ o. is_open o && nat_lt c.args.floor o.number) _ _ c.in_ok-numbers.numbers.items c.requires
+    c.deref.ensures.value
     c.in_ok-numbers.ensures c.in_ok-orders_answer.ensures in
     (json_answer 200 (orders_object (open_above A c.args.floor)), refl, written)

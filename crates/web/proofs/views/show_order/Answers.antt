@@ -7,7 +7,8 @@ use Rattle.web.proofs.views.show_order.Goals as goal
 
 pub returns-in_ok-order_answer-in-Some : goal.returns-in_ok-order_answer-in-Some
 returns-in_ok-order_answer-in-Some c =
-    some_found order_object (λ o. ShowsOrder o c.in-Some.view) (order_numbered c.args.book.now.ledger c.args.number) _ c.in-Some.ensures
+    some_found order_object (λ o. ShowsOrder o c.in-Some.view) (order_numbered c.args.book.now.ledger c.args.number) _
+    c.in-Some.ensures
     c.in_ok-order_answer-in-Some.ensures
 
 pub returns-in-None : goal.returns-in-None

@@ -13,8 +13,11 @@ loop-line-preserved c = (
 
 pub returns-in_default-last_line-clause-bad : goal.returns-in_default-last_line-clause-bad
 returns-in_default-last_line-clause-bad c is lines are e =
-    spelled_none (words_of c.loop-line.rest.now) (parts_some 32 c.loop-line.rest.now) c.in_default.ensures.none c.in_default-last_line.ensures.none
+    spelled_none (words_of c.loop-line.rest.now) (parts_some 32 c.loop-line.rest.now) c.in_default.ensures.none
+    c.in_default-last_line.ensures.none
     (c.loop-line.invariant.1 (record { lines = lines; each = recursion_from_All IsOpenLine lines are.each; are = e }))
 
 pub returns-clause-found : goal.returns-clause-found
-returns-clause-found c = one_last _ _ _ c.in-Some-last_line.line _ c.loop-line.invariant.0 c.in-Some-last_line.ensures.found c.in-Ok-push.ensures.items
+returns-clause-found c =
+    one_last _ _ _ c.in-Some-last_line.line _ c.loop-line.invariant.0 c.in-Some-last_line.ensures.found
+        c.in-Ok-push.ensures.items

@@ -1,6 +1,9 @@
-use Rattle.ledger.proofs.Prelude.{Command, checks, subst, sym}
-use Rattle.book.proofs.Prelude.{Finds, IsFound}
+use Rattle.ledger.proofs.Prelude.{More, refl}
+use Rattle.book.proofs.CheckAnswers.{finds_order}
 use Rattle.book.proofs.book.Book.check.Goals as goal
 
-pub returns-in-Rebound : goal.returns-in-Rebound
-returns-in-Rebound c = let A = c.args.self.now.ledger in subst (λ (d : Command). Finds (checks A d) (IsFound A d) c.check_rebound.result) (sym c.in-Rebound.is) c.check_rebound.ensures
+pub returns-in-More : goal.returns-in-More
+returns-in-More c =
+    rw c.in-More.is (finds_order c.args.self.now.ledger
+        (More c.in-More.number c.in-More.way c.in-More.branch c.in-More.article c.in-More.qty) c.in-More.number
+        c.check_more.result refl c.check_more.ensures)

@@ -1,12 +1,12 @@
 use Rattle.ledger.proofs.Prelude.{arith, common_steps, inr, refl}
 use Rattle.book.proofs.CheckAnswers.{no}
-use Rattle.book.proofs.FieldRows.{new_found, only_found}
-use Rattle.words.specs.declared.command.Command.TheVariants.{Field}
+use Rattle.book.proofs.FieldRows.{new_found}
 use Rattle.book.proofs.book.Book.check_field.Goals as goal
 
 pub returns-in-Ok : goal.returns-in-Ok
 returns-in-Ok c = (
-  inr (no c.is_full.ensures c.if-is_full.false, inr (grind (arith, common_steps), inr (grind arith, inr ((λ k. k (c.in-Ok.ensures.within.0 refl)), refl)))),
-  only_found c.args.self.now.ledger (Field c.args.name.now.branch c.args.name.now.article c.args.lo c.args.hi c.args.start) (c.args.name.now, record { start = c.args.start; quantity = c.in-Ok.quantity }) c.one_field.result c.one_field.ensures
-      (new_found c.args.self.now.ledger c.args.name.now c.args.lo c.args.hi c.args.start c.in-Ok.quantity c.in-Ok.ensures.ok),
+  inr (no c.is_full.ensures c.if-is_full.false,
+      inr (grind (arith, common_steps), inr (grind arith, inr ((λ k. k (c.in-Ok.ensures.within.0 refl)), refl)))),
+  (new_found c.args.self.now.ledger c.args.name.now c.args.lo c.args.hi c.args.start c.in-Ok.quantity
+      c.in-Ok.ensures.ok, refl, refl),
 )

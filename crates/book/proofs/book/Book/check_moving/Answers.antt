@@ -1,32 +1,51 @@
-use Rattle.ledger.proofs.Prelude.{[], ◌∙◌, ◌∷◌, None, Some, Refusal, ap, inl, inr, no_field, refl, sym, true≢false}
+use Rattle.ledger.proofs.Prelude.{[], ◌∷◌, None, Some, Refusal, ap, inl, inr, is_some, no_field, refl, sym, true≢false}
 use Rattle.book.proofs.CheckAnswers.{fails_with, cut_short, full_decides, go_on, moving_decides, no}
-use Rattle.book.proofs.FieldRows.{moved_found, only_found}
+use Rattle.book.proofs.FieldRows.{moved_found}
 use Rattle.book.proofs.RunningNumbers.{grants, move_granted, refuses}
+use Rattle.ledger.proofs.Steps.{moves_alone}
 use Rattle.book.specs.inner.Checking.{bound_checks}
 use Rattle.book.proofs.book.Book.check_moving.Goals as goal
 
 pub returns-then-is_full : goal.returns-then-is_full
-returns-then-is_full c some = full_decides c.args.self.now.ledger c.args.command.now some (c.is_full.ensures.0 c.if-is_full.true)
+returns-then-is_full c k is = full_decides c.args.self.now.ledger k (ap is_some is) (c.is_full.ensures.0 c.if-is_full.true)
 
 pub returns-in_err-field : goal.returns-in_err-field
-returns-in_err-field c some =
-    let m = c.in-Some.moved in let A = c.args.self.now.ledger in let x = c.in_err-field.field-0.0 in
-    fails_with _ _ c.from_residual.result x c.from_residual.ensures.1 (moving_decides A c.args.command.now m.0 m.1 m.2 (Some x) (sym c.moved_at_once.ensures ∙ c.in-Some.is) (no c.is_full.ensures c.if-is_full.false) c.in_err-field.ensures.good
-    (cut_short (no_field A m.0 0 ∷ []) (bound_checks m.1 A m.0 m.2 0) x c.in_err-field.ensures.found))
+returns-in_err-field c k is =
+    let A = c.args.self.now.ledger in
+    let n = c.args.name.now in
+    let w = c.args.way in
+    let q = c.args.qty in
+    let x = c.in_err-field.field-0.0 in
+    fails_with _ _ c.from_residual.result x c.from_residual.ensures.1
+        (moving_decides A k n w q (Some x) is (no c.is_full.ensures c.if-is_full.false) c.in_err-field.ensures.good
+    (cut_short (no_field A n 0 ∷ []) (bound_checks w A n q 0) x c.in_err-field.ensures.found))
 
 pub returns-in-Ok : goal.returns-in-Ok
-returns-in-Ok c some =
-    let m = c.in-Some.moved in let A = c.args.self.now.ledger in let f = c.in_ok-field.field in let is = sym c.moved_at_once.ensures ∙ c.in-Some.is in
+returns-in-Ok c k is =
+    let A = c.args.self.now.ledger in
+    let n = c.args.name.now in
+    let w = c.args.way in
+    let q = c.args.qty in
+    let f = c.in_ok-field.field in
     let up = c.in_ok-field.ensures.up_to_date in
     let found = c.in_ok-field.ensures.found in (
-      moving_decides A c.args.command.now m.0 m.1 m.2 None is (no c.is_full.ensures c.if-is_full.false) c.in_ok-field.ensures.good
-          (go_on (no_field A m.0 0 ∷ []) (bound_checks m.1 A m.0 m.2 0) None found.0 (inr (grants A m.0 f m.1 m.2 up found.1 (move_granted f.quantity m.1 m.2 (c.in-Ok.ensures.granted.0 refl)), refl))),
-      only_found A c.args.command.now (m.0, record { start = f.start; quantity = c.at_once.new.self }) c.one_field.result c.one_field.ensures (moved_found A c.args.command.now m.0 m.1 m.2 f c.at_once.new.self is up found.1 c.in-Ok.ensures.ok),
+      moving_decides A k n w q None is (no c.is_full.ensures c.if-is_full.false) c.in_ok-field.ensures.good
+          (go_on (no_field A n 0 ∷ []) (bound_checks w A n q 0) None found.0
+              (inr (grants A n f w q up found.1 (move_granted f.quantity w q (c.in-Ok.ensures.granted.0 refl)), refl))),
+      (moved_found A k n w q f c.at_once.new.self is up found.1 c.in-Ok.ensures.ok, (moves_alone k (n, w, q) is).unordered, is),
     )
 
 pub returns-in-Err : goal.returns-in-Err
-returns-in-Err c some =
-    let m = c.in-Some.moved in let A = c.args.self.now.ledger in let f = c.in_ok-field.field in let found = c.in_ok-field.ensures.found in
-    moving_decides A c.args.command.now m.0 m.1 m.2 (Some (c.refusal_of.result, 0)) (sym c.moved_at_once.ensures ∙ c.in-Some.is) (no c.is_full.ensures c.if-is_full.false) c.in_ok-field.ensures.good
-    (go_on (no_field A m.0 0 ∷ []) (bound_checks m.1 A m.0 m.2 0) (Some (c.refusal_of.result, 0)) found.0
-    (inl (refuses A m.0 f m.1 m.2 c.in_ok-field.ensures.good c.in_ok-field.ensures.up_to_date found.1 (λ safe. true≢false (sym (c.in-Err.ensures.granted.1 safe.1))), ap (λ (r : Refusal). Some (r, 0)) (c.refusal_of.ensures m.1 c.in-Err.ensures.bound))))
+returns-in-Err c k is =
+    let A = c.args.self.now.ledger in
+    let n = c.args.name.now in
+    let w = c.args.way in
+    let q = c.args.qty in
+    let f = c.in_ok-field.field in
+    let found = c.in_ok-field.ensures.found in
+    moving_decides A k n w q (Some (c.refusal_of.result, 0)) is (no c.is_full.ensures c.if-is_full.false)
+    c.in_ok-field.ensures.good
+    (go_on (no_field A n 0 ∷ []) (bound_checks w A n q 0) (Some (c.refusal_of.result, 0)) found.0
+    (inl (refuses A n f w q c.in_ok-field.ensures.good c.in_ok-field.ensures.up_to_date found.1
+        (λ safe. true≢false (sym (c.in-Err.ensures.granted.1 safe.1))),
+        ap (λ (r : Refusal). Some (r, 0)) (c.refusal_of.ensures w c.in-Err.ensures.bound))))

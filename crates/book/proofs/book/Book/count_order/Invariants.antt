@@ -1,7 +1,14 @@
--- the lines so far are counted
-use Rattle.ledger.proofs.Prelude.{[], line_steps, map, option_map_or, share_step, take}
-use Rattle.book.proofs.Prelude.{CountsMore, order_of, step_to}
+-- the lines left may be counted, and what they count for with those so far is all
+use Rattle.book.proofs.Prelude.{CountsMore, FieldEntry, MayCount, lines_before, step_seen}
+use Rattle.ledger.proofs.Prelude.{List, Name, map, option_copied, share_step, shares_of_step}
+use Rattle.book.proofs.ChangedFields.{steps_from}
 use Rattle.book.proofs.book.Book.count_order.Given as goal
 
 abbrev pub invariant-loop-place : goal.invariant-loop-place
-invariant-loop-place l = CountsMore l.self.ledger (map (share_step (step_to l.self.ledger (order_of l.order))) (line_steps 1 (option_map_or (λ o. o.lines) (step_to l.self.ledger (order_of l.order)).before []) (take l.place l.order.1.lines.items))) l.initial.fields.entries l.fields.entries
+invariant-loop-place l = record {
+  may : MayCount l.self.ledger (map (share_step (step_seen (option_copied l.before) l.after))
+      (steps_from (lines_before (option_copied l.before)) l.after.1.lines.items l.place)) l.fields.entries;
+  more : (E : List (Name × FieldEntry)) → CountsMore l.self.ledger (map (share_step (step_seen (option_copied l.before) l.after))
+      (steps_from (lines_before (option_copied l.before)) l.after.1.lines.items l.place)) l.fields.entries E
+      → CountsMore l.self.ledger (shares_of_step (step_seen (option_copied l.before) l.after)) l.initial.fields.entries E;
+}

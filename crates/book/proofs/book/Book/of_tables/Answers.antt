@@ -1,7 +1,7 @@
-use Rattle.ledger.proofs.Prelude.{◌∙◌, ◌≡◌, AllZip, Content, Each, Field, Good, IsFieldRow, IsRowsOf, Kept, Ledger, Order, ap, arith, count_by, is_open, map, map-map, open_orders, open_state, subst, sym, ℕ}
-use Rattle.book.proofs.Prelude.{IsUpToDate, OrderEntry, field_of, kept_of, ledger_of, move_of, order_of, told_ledger}
+use Rattle.ledger.proofs.Prelude.{◌∙◌, ◌≡◌, AllZip, Content, Each, Field, Good, IsFieldRow, IsRowsOf, Kept, Ledger,
+    Order, ap, arith, map, map-map, subst, sym}
+use Rattle.book.proofs.Prelude.{IsUpToDate, field_of, kept_of, ledger_of, move_of, order_of, told_ledger}
 use Rattle.ledger.specs.Tables.{content_of}
-use Rattle.book.proofs.NextRows.{viewed}
 use Rattle.ledger.proofs.TestResults.{true_not_false}
 use Rattle.ledger.proofs.EqualRows.{one_content, rows_are, rows_of, rows_tell, told_once}
 use Rattle.book.proofs.RowEntries.{told_bounded, told_rows}
@@ -9,7 +9,8 @@ use Rattle.book.proofs.RunningNumbers.{entries_of_rows, rows_of_entries}
 use Rattle.book.proofs.book.Book.of_tables.Goals as goal
 
 pub are_good-requires-clause-bounded : goal.are_good-requires-clause-bounded
-are_good-requires-clause-bounded c = told_bounded c.in_ok-entries.entries.fields.items c.args.tables.fields c.in_ok-entries.ensures.fields
+are_good-requires-clause-bounded c =
+    told_bounded c.in_ok-entries.entries.fields.items c.args.tables.fields c.in_ok-entries.ensures.fields
 
 pub returns-in-Ok-false-clause-damaged : goal.returns-in-Ok-false-clause-damaged
 returns-in-Ok-false-clause-damaged c _ A g rows =
@@ -18,8 +19,11 @@ returns-in-Ok-false-clause-damaged c _ A g rows =
     let same = told_once A B C g c.in_ok-entries.ensures.form.kept (rows_tell A C rows) c.in_ok-entries.ensures.told in
     let good = subst Good same g in
     let fields = told_rows c.in_ok-entries.entries.fields.items c.args.tables.fields c.in_ok-entries.ensures.fields
-    ∙ ap (λ (D : Content). D.fields) (one_content B C (rows_of B) (subst (λ (L : Ledger). IsRowsOf L C) same rows) (rows_are B good)) in
-    true_not_false (c.in-Ok-false.ensures.1 (good, (entries_of_rows B c.in_ok-entries.entries.fields.items B.fields fields).1)) c.in-Ok-false.field-0-test
+    ∙ ap (λ (D : Content). D.fields)
+        (one_content B C (rows_of B) (subst (λ (L : Ledger). IsRowsOf L C) same rows) (rows_are B good)) in
+    true_not_false
+        (c.in-Ok-false.ensures.1 (good, (entries_of_rows B c.in_ok-entries.entries.fields.items B.fields fields).1))
+        c.in-Ok-false.field-0-test
 
 pub from_sorted-requires : goal.from_sorted-requires
 from_sorted-requires c = grind (arith, (map-map (λ (f : Field). f.name) field_of c.in_ok-entries.entries.fields.items))
@@ -35,8 +39,17 @@ returns-clause-ok c =
     let B : Ledger = told_ledger c.in_ok-entries.entries in
     let good = c.in-Ok-true.ensures.0 c.in-Ok-true.field-0-test in
     let told = c.in_ok-entries.ensures.told in
-    let rows = sym (told_rows c.in_ok-entries.entries.fields.items c.args.tables.fields c.in_ok-entries.ensures.fields) ∙ rows_of_entries B c.in_ok-entries.entries.fields.items good.1 in
-    let is : B ≡ ledger_of (record { clock = c.in_ok-entries.entries.clock; fields = c.in-Ok.fields; moves = c.in_ok-entries.entries.moves; orders = c.in-Ok-from_sorted.orders; kept = c.in-Ok-from_sorted-2.kept }) = λ i. record {
+    let rows =
+        sym (told_rows c.in_ok-entries.entries.fields.items c.args.tables.fields c.in_ok-entries.ensures.fields)
+        ∙ rows_of_entries B c.in_ok-entries.entries.fields.items good.1 in
+    let is : B
+        ≡ ledger_of (record {
+          clock = c.in_ok-entries.entries.clock;
+          fields = c.in-Ok.fields;
+          moves = c.in_ok-entries.entries.moves;
+          orders = c.in-Ok-from_sorted.orders;
+          kept = c.in-Ok-from_sorted-2.kept
+        }) = λ i. record {
       clock = c.in_ok-entries.entries.clock;
       fields = map field_of (sym c.in-Ok.ensures i);
       moves = map move_of c.in_ok-entries.entries.moves.items;
@@ -60,7 +73,14 @@ pub invariant_of-result : goal.invariant_of-result
 invariant_of-result c =
     let B : Ledger = told_ledger c.in_ok-entries.entries in
     let good = c.in-Ok-true.ensures.0 c.in-Ok-true.field-0-test in
-    let is : B ≡ ledger_of (record { clock = c.in_ok-entries.entries.clock; fields = c.in-Ok.fields; moves = c.in_ok-entries.entries.moves; orders = c.in-Ok-from_sorted.orders; kept = c.in-Ok-from_sorted-2.kept }) = λ i. record {
+    let is : B
+        ≡ ledger_of (record {
+          clock = c.in_ok-entries.entries.clock;
+          fields = c.in-Ok.fields;
+          moves = c.in_ok-entries.entries.moves;
+          orders = c.in-Ok-from_sorted.orders;
+          kept = c.in-Ok-from_sorted-2.kept
+        }) = λ i. record {
       clock = c.in_ok-entries.entries.clock;
       fields = map field_of (sym c.in-Ok.ensures i);
       moves = map move_of c.in_ok-entries.entries.moves.items;

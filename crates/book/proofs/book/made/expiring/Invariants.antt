@@ -4,4 +4,5 @@ use Rattle.book.proofs.Prelude.{order_of}
 use Rattle.book.proofs.book.made.expiring.Given as goal
 
 abbrev pub invariant-loop-order : goal.invariant-loop-order
-invariant-loop-order l = l.numbers.items ≡ map (λ o. o.number) (filter (expires l.now) (map order_of (take l.order-index l.orders)))
+invariant-loop-order l =
+    l.numbers.items ≡ map (λ o. o.number) (filter (expires l.now) (map order_of (take l.order-index l.orders)))

@@ -4,7 +4,8 @@ use Rattle.ledger.proofs.TestResults.{passed_up}
 use Rattle.book.proofs.book.tables.read_orders.Goals as goal
 
 pub returns-in_err-told-clause-damaged : goal.returns-in_err-told-clause-damaged
-returns-in_err-told-clause-damaged c = passed_up c.from_residual-in_err-told.result c.in_err-told.field-0.0 _ c.from_residual-in_err-told.ensures.1
+returns-in_err-told-clause-damaged c = passed_up c.from_residual-in_err-told.result c.in_err-told.field-0.0 _
+    c.from_residual-in_err-told.ensures.1
     (λ is A g rows. c.in_err-told.ensures.damaged is (lines_told A c.args.lines.now g rows.lines_are))
 
 pub returns-clause-told : goal.returns-clause-told

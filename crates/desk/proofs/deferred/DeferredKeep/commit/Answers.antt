@@ -9,7 +9,8 @@ use Rattle.desk.proofs.deferred.DeferredKeep.commit.Goals as goal
 pub returns-in-Ok-clause-alone : goal.returns-in-Ok-clause-alone
 returns-in-Ok-clause-alone g c = λ honest x h.
     let keep = c.self.inside.keep in
-    off_alone g.K.Keep keep (λ these only. g.met.K.Keep.some_content keep these honest only) (g.met.K.Keep.among keep) c.put_off.new.kept.items x h
+    off_alone g.K.Keep keep (λ these only. g.met.K.Keep.some_content keep these honest only) (g.met.K.Keep.among keep)
+        c.put_off.new.kept.items x h
 
 pub returns-in-Ok-clause-either : goal.returns-in-Ok-clause-either
 returns-in-Ok-clause-either g c =
@@ -27,5 +28,6 @@ returns-in-Err-clause-either g c =
     → PutsOffOneOf g.K.Keep d.keep d.changes (x ∷ [])
     → PutsOffOneOf g.K.Keep here.keep c.put_off.new.kept.items (x ∷ with_changes c.args.changes.now x ∷ [])) c.self.view_is
     (λ honest going x h only.
-    subst (λ (cs : List Change). PutsOffOneOf g.K.Keep here.keep cs (x ∷ with_changes c.args.changes.now x ∷ [])) (sym c.in-Err.ensures.none)
+    subst (λ (cs : List Change). PutsOffOneOf g.K.Keep here.keep cs (x ∷ with_changes c.args.changes.now x ∷ []))
+    (sym c.in-Err.ensures.none)
     (off_still g.K.Keep here.keep here.changes.items c.args.changes.now x h only))

@@ -56,7 +56,8 @@ returns-in-Ok-of_tables-clause-opened g c =
         held = ((c.in-Ok.ensures.found honest).same (content_of c.in-Ok.tables)).1 (c.in-Ok.ensures.found honest).content;
         alone = (c.in-Ok.ensures.found honest).alone;
       };
-      rows = λ honest x held. subst (IsRowsOf c.in-Ok-of_tables.book.ledger) ((c.in-Ok.ensures.found honest).one x held) (found g c);
+      rows = λ honest x held.
+          subst (IsRowsOf c.in-Ok-of_tables.book.ledger) ((c.in-Ok.ensures.found honest).one x held) (found g c);
     }
 
 pub returns-in-Err-Damaged-clause-nothing_else : goal.returns-in-Err-Damaged-clause-nothing_else
@@ -65,11 +66,15 @@ returns-in-Err-Damaged-clause-nothing_else g c honest A x good rows held =
 
 pub returns-in-Err-Damaged-clause-unopened : goal.returns-in-Err-Damaged-clause-unopened
 returns-in-Err-Damaged-clause-unopened g c = record {
-  damaged = λ is honest x held A good rows. damaged g c A good (subst (IsRowsOf A) (sym ((c.in-Ok.ensures.found honest).one x held)) rows);
+  damaged = λ is honest x held A good rows.
+      damaged g c A good (subst (IsRowsOf A) (sym ((c.in-Ok.ensures.found honest).one x held)) rows);
   loaded = λ is. c.in-Ok.ensures.goes.ok;
   not_a_desk = λ is. absurd (not_a_desk is);
   old_version = λ is. absurd (not_old is);
-  stopped = λ is. elim is [ inl e ↦ absurd (not_the_store e) | inr more ↦ elim more [ inl e ↦ absurd (not_a_desk e) | inr e ↦ absurd (not_old e) ] ];
+  stopped = λ is. elim is [
+    inl e ↦ absurd (not_the_store e)
+    | inr more ↦ elim more [ inl e ↦ absurd (not_a_desk e) | inr e ↦ absurd (not_old e) ]
+  ];
 }
 
 pub returns-in-Ok-of_tables-clause-left : goal.returns-in-Ok-of_tables-clause-left

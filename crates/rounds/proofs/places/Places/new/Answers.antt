@@ -7,8 +7,11 @@ use Rattle.rounds.proofs.places.Places.new.Goals as goal
 
 pub loop-place-preserved : goal.loop-place-preserved
 loop-place-preserved g c = record {
-  size = ap length c.in_ok-push.ensures.items ∙ length-append c.loop-place.lines.items _ ∙ ap (λ n. n + 1) c.loop-place.invariant.size;
-  free = λ place v e. free_more c.loop-place.lines.items c.loop-place.invariant.free place v (subst (λ xs. slice_get xs place ≡ Some (Some v)) c.in_ok-push.ensures.items e);
+  size =
+      ap length c.in_ok-push.ensures.items ∙ length-append c.loop-place.lines.items _
+      ∙ ap (λ n. n + 1) c.loop-place.invariant.size;
+  free = λ place v e. free_more c.loop-place.lines.items c.loop-place.invariant.free place v
+      (subst (λ xs. slice_get xs place ≡ Some (Some v)) c.in_ok-push.ensures.items e);
 }
 
 pub returns-clause-reached : goal.returns-clause-reached

@@ -10,7 +10,9 @@ pub returns-in-Current-clause-upgrades : goal.returns-in-Current-clause-upgrades
 returns-in-Current-clause-upgrades g c clean =
     let is = rw c.schema.ensures.value at (c.in-Current.ensures.current refl) in
     record {
-      done = on_ok_weaker c.expect_current.result (newest_read (state g.S.Store c.args.conn.now) (state g.S.Store c.expect_current.new.conn) (λ is_open trees left. g.met.S.Store.settled c.expect_current.new.conn.store trees is_open left))
+      done = on_ok_weaker c.expect_current.result
+          (newest_read (state g.S.Store c.args.conn.now) (state g.S.Store c.expect_current.new.conn)
+              (λ is_open trees left. g.met.S.Store.settled c.expect_current.new.conn.store trees is_open left))
           (c.expect_current.ensures.read clean);
       desk = λ told. (not_older (state g.S.Store c.args.conn.now).now is.1, (c.expect_current.ensures.desk clean told).0);
       unchanged = search rules;
@@ -21,9 +23,12 @@ pub returns-in-Old-clause-upgrades : goal.returns-in-Old-clause-upgrades
 returns-in-Old-clause-upgrades g c clean =
     let is = rw c.schema.ensures.value at (c.in-Old.ensures.old _ refl) in
     record {
-      done = on_ok_weaker c.upgrade.result (newest_made (state g.S.Store c.args.conn.now) (state g.S.Store c.upgrade.new.conn) (λ is_open trees left. g.met.S.Store.settled c.upgrade.new.conn.store trees is_open left))
+      done = on_ok_weaker c.upgrade.result
+          (newest_made (state g.S.Store c.args.conn.now) (state g.S.Store c.upgrade.new.conn)
+              (λ is_open trees left. g.met.S.Store.settled c.upgrade.new.conn.store trees is_open left))
           (c.upgrade.ensures.made clean);
-      desk = λ told. ((c.upgrade.ensures.desk clean told).0, λ x has _. lacks_one (state g.S.Store c.args.conn.now).now x _ is.2 is.3 has);
+      desk = λ told. ((c.upgrade.ensures.desk clean told).0,
+          λ x has _. lacks_one (state g.S.Store c.args.conn.now).now x _ is.2 is.3 has);
       unchanged = search rules;
       either = search rules;
     }
@@ -41,15 +46,18 @@ returns-in-Nameless-clause-upgrades g c clean =
 
 pub returns-in-Current-clause-other : goal.returns-in-Current-clause-other
 returns-in-Current-clause-other g c =
-    let is = rw c.schema.ensures.value at (c.in-Current.ensures.current refl) in of_a_version _ newest _ _ is.0 (omega arith) (omega arith) is.1
+    let is = rw c.schema.ensures.value at (c.in-Current.ensures.current refl) in
+    of_a_version _ newest _ _ is.0 (omega arith) (omega arith) is.1
 
 pub returns-in-Old-clause-other : goal.returns-in-Old-clause-other
 returns-in-Old-clause-other g c =
-    let is = rw c.schema.ensures.value at (c.in-Old.ensures.old _ refl) in of_a_version _ c.in-Old.version _ _ is.0 is.1 (omega (arith, is.2)) is.3
+    let is = rw c.schema.ensures.value at (c.in-Old.ensures.old _ refl) in
+    of_a_version _ c.in-Old.version _ _ is.0 is.1 (omega (arith, is.2)) is.3
 
 pub returns-in-Nameless-clause-other : goal.returns-in-Nameless-clause-other
 returns-in-Nameless-clause-other g c =
-    let none = rw c.schema.ensures.value at (c.in-Nameless.ensures.nameless refl) in record { nameless = λ _. (refl, refl); other = λ names _. absurd (none names) }
+    let none = rw c.schema.ensures.value at (c.in-Nameless.ensures.nameless refl) in
+    record { nameless = λ _. (refl, refl); other = λ names _. absurd (none names) }
 
 pub upgrade-requires-clause-some : goal.upgrade-requires-clause-some
 upgrade-requires-clause-some g c = (c.in-Old.ensures.old _ refl).1

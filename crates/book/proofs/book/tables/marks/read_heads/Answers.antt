@@ -12,4 +12,5 @@ pub returns-then-mark-clause-told : goal.returns-then-mark-clause-told
 returns-then-mark-clause-told c = grind (arith, take-append_seam, heads_cells)
 
 pub returns-else-mark-clause-damaged : goal.returns-else-mark-clause-damaged
-returns-else-mark-clause-damaged c _ A g orders firms = grind (arith, (marked_by A c.in_ok-heads.heads.items c.args.orders.now g c.in_ok-heads.ensures.told orders))
+returns-else-mark-clause-damaged c _ A g orders firms =
+    grind (arith, (marked_by A c.in_ok-heads.heads.items c.args.orders.now g c.in_ok-heads.ensures.told orders))

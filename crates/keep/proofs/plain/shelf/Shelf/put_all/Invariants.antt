@@ -13,5 +13,6 @@ invariant-loop-change l = record {
   order : IsInOrder l.self;
   one : All IsTheRow (rows_among (into_iter_items l.change-iterator)).desk;
   room : HasRoom (length (into_iter_items l.change-iterator)) l.self;
-  put : put_content (rows_among (into_iter_items l.change-iterator)) (shelf_content l.self) ≡ put_content (rows_among l.fn.changes.items) (shelf_content l.fn.self);
+  put : put_content (rows_among (into_iter_items l.change-iterator)) (shelf_content l.self)
+      ≡ put_content (rows_among l.fn.changes.items) (shelf_content l.fn.self);
 }

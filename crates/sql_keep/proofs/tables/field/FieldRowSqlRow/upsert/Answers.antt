@@ -14,5 +14,6 @@ returns-clause-put g c clean begun =
     let v5 : owned c.params-to_sql-6.result ≡ Int c.args.self.now.value = search rules in
     let v6 : owned c.params-to_sql-7.result ≡ Int c.args.self.now.inf = search rules in
     let v7 : owned c.params-to_sql-8.result ≡ Int c.args.self.now.sup = search rules in
-    row_upserted (change.Field c.args.self.now) c.upsert_text.result.now c.upsert_text.ensures (state g.S.Store c.args.tx.now.conn.now) (state g.S.Store c.execute.new.self.conn.now) c.execute.result
+    row_upserted (change.Field c.args.self.now) c.upsert_text.result.now c.upsert_text.ensures
+    (state g.S.Store c.args.tx.now.conn.now) (state g.S.Store c.execute.new.self.conn.now) c.execute.result
     (rw (c.params-to_sql.ensures, c.params-to_sql-2.ensures, v2, v3, v4, v5, v6, v7) at (c.execute.ensures.runs clean begun))

@@ -13,5 +13,6 @@ returns-clause-put g c clean begun =
     let v4 : owned c.params-to_sql-5.result ≡ Int c.args.self.now.way = search rules in
     let v5 : owned c.params-to_sql-6.result ≡ Int c.args.self.now.held = search rules in
     let v6 : owned c.params-to_sql-7.result ≡ Int c.args.self.now.used = search rules in
-    row_upserted (change.Line c.args.self.now) c.upsert_text.result.now c.upsert_text.ensures (state g.S.Store c.args.tx.now.conn.now) (state g.S.Store c.execute.new.self.conn.now) c.execute.result
+    row_upserted (change.Line c.args.self.now) c.upsert_text.result.now c.upsert_text.ensures
+    (state g.S.Store c.args.tx.now.conn.now) (state g.S.Store c.execute.new.self.conn.now) c.execute.result
     (rw (v0, v1, c.params-to_sql-3.ensures, c.params-to_sql-4.ensures, v4, v5, v6) at (c.execute.ensures.runs clean begun))

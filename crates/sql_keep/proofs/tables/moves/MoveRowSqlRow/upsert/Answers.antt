@@ -10,5 +10,6 @@ pub returns-clause-put : goal.returns-clause-put
 returns-clause-put g c clean begun =
     let v0 : owned c.params-to_sql.result ≡ Int c.args.self.now.place = search rules in
     let v3 : owned c.params-to_sql-4.result ≡ Int c.args.self.now.qty = search rules in
-    row_upserted (change.Move c.args.self.now) c.upsert_text.result.now c.upsert_text.ensures (state g.S.Store c.args.tx.now.conn.now) (state g.S.Store c.execute.new.self.conn.now) c.execute.result
+    row_upserted (change.Move c.args.self.now) c.upsert_text.result.now c.upsert_text.ensures
+    (state g.S.Store c.args.tx.now.conn.now) (state g.S.Store c.execute.new.self.conn.now) c.execute.result
     (rw (v0, c.params-to_sql-2.ensures, c.params-to_sql-3.ensures, v3) at (c.execute.ensures.runs clean begun))

@@ -1,0 +1,6 @@
+use Rattle.std.proofs.Common.{arith}
+use Rattle.escrow.proofs.Texts.{article_utf8}
+use Rattle.escrow.proofs.code.article.Article.as_str.Goals as goal
+
+pub as_str-requires : goal.as_str-requires
+as_str-requires c = (omega arith, article_utf8 _ c.self.invariant)
