@@ -1,13 +1,16 @@
 -- The fields that a request makes or changes, put in one after the other, and what lines add to them.
-use Rattle.ledger.proofs.Prelude.{Bool, Each, Equal, Field, FieldCells, Greater, IsStrictlySortedBy, Ledger, Less,
-    LineStep, List, Name, None, OnOk, Option, Ordering, Part, Result, ShareStep, Some, Stock, [], add_part, added_on,
-    ap, append-nil, append_assoc, arith, cond, drop, false, field_named, find, flat_map, get_or, held_to_add,
-    held_to_take, if◌then◌else◌, inl, inr, insert_entry, ints, is_at, is_eq, is_some, keys_of, length, line_steps,
-    list_any, lookup, map, match_ordering, name_cmp, not, option_map, option_map_or, ordering_reverse, pos, refl,
-    same_name, settled, settled_part, slice_get, subst, sym, take_part, tied_itself, true, true≢false, ℕ, ℤ, ◌&&◌, ◌++◌,
-    ◌+ℤ◌, ◌+◌, ◌-ℤ◌, ◌<◌, ◌||◌, ◌∙◌, ◌∷◌, ◌≡◌, ◌≤◌, ◌⊎◌}
-use Rattle.book.proofs.Prelude.{Becomes, Counts, CountsAll, CountsMore, FieldEntry, IsUpToDate, MayCount, OrderEntry,
-    entry_row, field_of, lines_before, order_of, share_numbers, LieWithin, becoming, numbers_with}
+use Rattle.ledger.proofs.Prelude.{Bool, Each, Equal, Field, FieldCells, Greater, IsStrictlySortedBy, Ledger, Less}
+use Rattle.ledger.proofs.Prelude.{LineStep, List, Name, None, OnOk, Option, Ordering, Part, Result, ShareStep, Some}
+use Rattle.ledger.proofs.Prelude.{Stock, [], add_part, added_on, ap, append-nil, append_assoc, arith, cond, drop, false}
+use Rattle.ledger.proofs.Prelude.{field_named, find, flat_map, get_or, held_to_add, held_to_take, if◌then◌else◌, inl}
+use Rattle.ledger.proofs.Prelude.{inr, insert_entry, ints, is_at, is_eq, is_some, keys_of, length, line_steps, list_any}
+use Rattle.ledger.proofs.Prelude.{lookup, map, match_ordering, name_cmp, not, option_map, option_map_or}
+use Rattle.ledger.proofs.Prelude.{ordering_reverse, pos, refl, same_name, settled, settled_part, slice_get, subst, sym}
+use Rattle.ledger.proofs.Prelude.{take_part, tied_itself, true, true≢false, ℕ, ℤ, ◌&&◌, ◌++◌, ◌+ℤ◌, ◌+◌, ◌-ℤ◌, ◌<◌}
+use Rattle.ledger.proofs.Prelude.{◌||◌, ◌∙◌, ◌∷◌, ◌≡◌, ◌≤◌, ◌⊎◌}
+use Rattle.book.proofs.Prelude.{Becomes, Counts, CountsAll, CountsMore, FieldEntry, IsUpToDate, MayCount, OrderEntry}
+use Rattle.book.proofs.Prelude.{entry_row, field_of, lines_before, order_of, share_numbers, LieWithin, becoming}
+use Rattle.book.proofs.Prelude.{numbers_with}
 use Rattle.ledger.specs.declared.order.Line.{Line}
 use Rattle.book.specs.inner.RunningNumbers.{IsOneOf}
 use Rattle.ledger.proofs.Lists.{or_right, some_is, each-left, each-right}
@@ -30,7 +33,7 @@ self_eq n = ap is_eq (tied_itself name_cmp_total n)
 -- what is there once one is put in
 pub put_has : (C : List (Name × FieldEntry)) (n m : Name) (v : FieldEntry)
     → is_some (lookup (is_at (name_cmp m)) (insert_entry name_cmp C n v))
-        ≡ (is_some (lookup (is_at (name_cmp m)) C) || is_eq (name_cmp m n))
+    ≡ (is_some (lookup (is_at (name_cmp m)) C) || is_eq (name_cmp m n))
 put_has [] n m v = grind arith
 put_has (e ∷ C) n m v = by (name_cmp n e.0) refl (put_has C n m v)
   where
@@ -47,7 +50,7 @@ put_has (e ∷ C) n m v = by (name_cmp n e.0) refl (put_has C n m v)
 
     by : (o : Ordering) → name_cmp n e.0 ≡ o
         → is_some (lookup (is_at (name_cmp m)) (insert_entry name_cmp C n v))
-            ≡ (is_some (lookup (is_at (name_cmp m)) C) || is_eq (name_cmp m n))
+        ≡ (is_some (lookup (is_at (name_cmp m)) C) || is_eq (name_cmp m n))
         → is_some (lookup (is_at (name_cmp m)) (match_ordering o ((n, v) ∷ e ∷ C) ((e.0, v) ∷ C)
         (e ∷ insert_entry name_cmp C n v))) ≡ (is_some (lookup (is_at (name_cmp m)) (e ∷ C)) || is_eq (name_cmp m n))
     by Less is more = first (is_eq (name_cmp m n)) (lookup (is_at (name_cmp m)) (e ∷ C))
@@ -131,9 +134,10 @@ module _ (t : Name → Bool) (row : Field → FieldCells) where
   later_ones : (f : Field) (fs : List Field) (x : Name × FieldEntry) (C : List (Name × FieldEntry)) → x.0 ≡ f.name
       → Each (λ k. name_cmp x.0 k ≡ Less) (keys_of C) → Each (IsOne (f ∷ fs)) C → Each (IsOne fs) C
   later_ones f fs x [] same rising each = tt
-  later_ones f fs x (y ∷ C) same rising each =
-      (passed_by f fs y (less_other f.name y.0 (ap (λ (n : Name). name_cmp n y.0) (sym same) ∙ rising.0)) each.0,
-          later_ones f fs x C same rising.1 each.1)
+  later_ones f fs x (y ∷ C) same rising each = (
+    passed_by f fs y (less_other f.name y.0 (ap (λ (n : Name). name_cmp n y.0) (sym same) ∙ rising.0)) each.0,
+    later_ones f fs x C same rising.1 each.1,
+  )
 
   later_there : (f : Field) (x : Name × FieldEntry) (C : List (Name × FieldEntry)) (fs : List Field) → x.0 ≡ f.name
       → Each (λ k. name_cmp f.name k ≡ Less) (map (λ f. f.name) fs)
@@ -165,8 +169,8 @@ module _ (t : Name → Bool) (row : Field → FieldCells) where
       first x C passes rising each all more true e =
           let same = name_is x.0 f.name e in
           let field =
-              some_is f each.0.field
-                  (ap (λ b. if b then Some f else find (λ g. same_name x.0 g.name) fs) (sym e) ∙ each.0.there) in
+          some_is f each.0.field
+          (ap (λ b. if b then Some f else find (λ g. same_name x.0 g.name) fs) (sym e) ∙ each.0.there) in
           let here = each.0.has_row ∙ ap row (sym field) in
           let rest = more C rising.1 (later_ones f fs x C same rising.0 each.1) (later_there f x C fs same sorted.0 all.1) in
           λ i. here i ∷ rest i
@@ -193,7 +197,7 @@ each_at_name P name (e ∷ l) v all there = by (name_cmp name e.0) refl there (�
         → (lookup (is_at (name_cmp name)) l ≡ Some v → P (name, v)) → P (name, v)
     by Equal o is more =
         subst (λ (v : FieldEntry). P (name, v)) (some_is e.1 v is)
-            (subst (λ (k : Name). P (k, e.1)) (sym (equal_field name e.0 o)) all.0)
+        (subst (λ (k : Name). P (k, e.1)) (sym (equal_field name e.0 o)) all.0)
     by c o is more = more is
 
 -- ---- sums over the lines so far
@@ -349,7 +353,7 @@ counted : (A : Ledger) (done : List ShareStep) (s : ShareStep) (v : FieldEntry) 
 counted A done s v C D changes all own put = subst (CountsAll A (done ++ s ∷ [])) (sym put) (record {
   each =
       put_other (Counts A done) (Counts A (done ++ s ∷ [])) s.name v own (λ e other c. counted_other A done s e other c)
-          C all.rising all.each;
+      C all.rising all.each;
   all =
       λ n. put_has C s.name n v ∙ (λ i. all.all n i || sym (same_field n s.name) i)
       ∙ (λ i. list_any (λ x. same_name n x.name && x.changes) done

@@ -1,11 +1,13 @@
 -- What the comparisons of a program say of the checks of a command.
-use Rattle.ledger.proofs.Prelude.{Add, Bool, BreaksBound, Check, Command, Deliver, Each, Err, FallsBelow, Field,
-    FirstFailure, Good, IsFalse, IsNone, IsSome, IsTrue, Ledger, List, MAX_ORDER_LINES, More, Name, None, Ok, OpenLine,
-    Option, Order, Refusal, Result, RisesAbove, Some, Take, Way, Writeoff, [], ap, arith, bound, checks, drop, false,
-    field_named, find, full, get_or, inl, inr, is_open, is_some, is_transfer, length, length-take, line_checks,
-    line_name, line_on, loose_checks, map, name_of, new_line, new_order, next, no_field, numbered, on, order_numbered,
-    pos, same_name, subst, sym, take, true≢false, with_order, ℕ, ◌++◌, ◌+ℤ◌, ◌+◌, ◌-ℤ◌, ◌<ℤ◌, ◌<◌, ◌↔◌, ◌∙◌, ◌∷◌, ◌≡◌,
-    ◌≢◌, ◌≤◌, IsDistinct}
+use Rattle.ledger.proofs.Prelude.{Add, Bool, BreaksBound, Check, Command, Deliver, Each, Err, FallsBelow, Field}
+use Rattle.ledger.proofs.Prelude.{FirstFailure, Good, IsFalse, IsNone, IsSome, IsTrue, Ledger, List, MAX_ORDER_LINES}
+use Rattle.ledger.proofs.Prelude.{More, Name, None, Ok, OpenLine, Option, Order, Refusal, Result, RisesAbove, Some}
+use Rattle.ledger.proofs.Prelude.{Take, Way, Writeoff, [], ap, arith, bound, checks, drop, false, field_named, find}
+use Rattle.ledger.proofs.Prelude.{full, get_or, inl, inr, is_open, is_some, is_transfer, length, length-take}
+use Rattle.ledger.proofs.Prelude.{line_checks, line_name, line_on, loose_checks, map, name_of, new_line, new_order}
+use Rattle.ledger.proofs.Prelude.{next, no_field, numbered, on, order_numbered, pos, same_name, subst, sym, take}
+use Rattle.ledger.proofs.Prelude.{true≢false, with_order, ℕ, ◌++◌, ◌+ℤ◌, ◌+◌, ◌-ℤ◌, ◌<ℤ◌, ◌<◌, ◌↔◌, ◌∙◌, ◌∷◌, ◌≡◌, ◌≢◌}
+use Rattle.ledger.proofs.Prelude.{◌≤◌, IsDistinct}
 use Rattle.book.proofs.Prelude.{FieldEntry, Finds, IsUpToDate, field_of, IsFound}
 use Rattle.ledger.specs.declared.order.Kind.{Kind}
 use Rattle.ledger.specs.declared.order.Line.{Line}
@@ -229,8 +231,8 @@ module _ (A : Ledger) (lines : List OpenLine) (i : ℕ) (l : OpenLine) (h : i < 
 
   here : (n : ℕ) (kind : Kind) (until : ℕ) (found : Option (Refusal × ℕ))
       → FirstFailure
-          (own n kind until ++ line_checks A (new_order n kind until) (take i lines ++ l ∷ []) (drop (i + 1) lines))
-          found
+      (own n kind until ++ line_checks A (new_order n kind until) (take i lines ++ l ∷ []) (drop (i + 1) lines))
+      found
       → FirstFailure (line_checks A (new_order n kind until) (take i lines) (drop i lines)) found
   unfolding own
   here n kind until found k = subst (λ ls. FirstFailure

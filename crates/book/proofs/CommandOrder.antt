@@ -1,9 +1,10 @@
 -- An order, changed in a copy and put in by its number.
-use Rattle.ledger.proofs.Prelude.{[], ◌+◌, ◌-◌, ◌∷◌, ◌≡◌, ◌≤◌, Bool, Changes, Each, Effect, Good, IsGoodLine,
-    IsGoodOrder, Ledger, List, None, OpenLine, Option, Order, Request, Some, accept, add_hold, arith, effect, find,
-    if◌then◌else◌, insert_entry, map, nat_cmp, numbered, orders_after, put_row, refl, subst, sym, true, true≢false,
-    vec_capacity, vec_len, ℕ, IsSome, Ordering, inl, inr, is_at, lookup, is_eq, cond, match_ordering, Less, Equal,
-    Greater}
+use Rattle.ledger.proofs.Prelude.{[], ◌+◌, ◌-◌, ◌∷◌, ◌≡◌, ◌≤◌, Bool, Changes, Each, Effect, Good, IsGoodLine}
+use Rattle.ledger.proofs.Prelude.{IsGoodOrder, Ledger, List, None, OpenLine, Option, Order, Request, Some, accept}
+use Rattle.ledger.proofs.Prelude.{add_hold, arith, effect, find, if◌then◌else◌, insert_entry, map, nat_cmp, numbered}
+use Rattle.ledger.proofs.Prelude.{orders_after, put_row, refl, subst, sym, true, true≢false, vec_capacity, vec_len, ℕ}
+use Rattle.ledger.proofs.Prelude.{IsSome, Ordering, inl, inr, is_at, lookup, is_eq, cond, match_ordering, Less, Equal}
+use Rattle.ledger.proofs.Prelude.{Greater}
 use Rattle.ledger.specs.declared.order.Line.{Line}
 use Rattle.book.proofs.Prelude.{MayChangeOrder, OrderEntry, changed_line, changed_order, number_cmp, order_of}
 use Rattle.ledger.proofs.Lists.{each-found, each-unmap, found_passes}

@@ -1,8 +1,9 @@
 -- The orders that a command changes, by their numbers.
-use Rattle.ledger.proofs.Prelude.{Bool, Changes, Each, Good, IsNonDecreasingBy, IsPermutation, IsPermutation-map,
-    Ledger, Less, List, Order, Some, [], ap, arith, cases_lt, common_steps, count_by, expires, false, filter, flat_map,
-    get_or, if◌then◌else◌, inl, inr, length, map, nat_cmp, option_map_or, order_numbered, refl, steps, suc, sym, true,
-    ℕ, ◌&&◌, ◌++◌, ◌+◌, ◌<◌, ◌==◌, ◌∙◌, ◌∷◌, ◌≡◌, ◌≤◌, IsStrictlySortedBy, turn}
+use Rattle.ledger.proofs.Prelude.{Bool, Changes, Each, Good, IsNonDecreasingBy, IsPermutation, IsPermutation-map}
+use Rattle.ledger.proofs.Prelude.{Ledger, Less, List, Order, Some, [], ap, arith, cases_lt, common_steps, count_by}
+use Rattle.ledger.proofs.Prelude.{expires, false, filter, flat_map, get_or, if◌then◌else◌, inl, inr, length, map}
+use Rattle.ledger.proofs.Prelude.{nat_cmp, option_map_or, order_numbered, refl, steps, suc, sym, true, ℕ, ◌&&◌, ◌++◌}
+use Rattle.ledger.proofs.Prelude.{◌+◌, ◌<◌, ◌==◌, ◌∙◌, ◌∷◌, ◌≡◌, ◌≤◌, IsStrictlySortedBy, turn}
 use Rattle.book.proofs.Prelude.{OrderEntry, changed_order, order_of, steps_under}
 use Rattle.book.specs.declared.book.made.OrderChange.{OrderChange}
 use Rattle.std.proofs.lemmas.List.Sorted.{sum_by-IsPermutation}
@@ -74,9 +75,10 @@ each_above x (y ∷ ys) h = (h 0 (omega arith), each_above x ys (λ j lt. h (suc
 
 from_sort : (xs : List ℕ) → IsNonDecreasingBy (λ x. x) xs → Rising xs
 from_sort [] h = tt
-from_sort (x ∷ xs) h =
-    (each_above x xs (λ j lt. h 0 (suc j) 0 (omega arith) (omega arith)),
-        from_sort xs (λ i j d le lt. h (suc i) (suc j) d (omega arith) (omega arith)))
+from_sort (x ∷ xs) h = (
+  each_above x xs (λ j lt. h 0 (suc j) 0 (omega arith) (omega arith)),
+  from_sort xs (λ i j d le lt. h (suc i) (suc j) d (omega arith) (omega arith)),
+)
 
 -- ---- those of the orders that pass a test
 
@@ -129,8 +131,8 @@ numbers_sorted now es lying ns sorted moved put up =
     let p : Order → Bool = expires now in
     alike ns (numbers p (map order_of es)) (from_sort ns up) (numbers_rise p (map order_of es) sorted)
     (λ n.
-        sum_by-IsPermutation (λ m. if m == n then 1 else 0) (numbers p (map order_of lying)) ns put
-        ∙ count_numbers p n (map order_of lying)
+    sum_by-IsPermutation (λ m. if m == n then 1 else 0) (numbers p (map order_of lying)) ns put
+    ∙ count_numbers p n (map order_of lying)
     ∙ sum_by-IsPermutation (λ o. if p o && (o.number == n) then 1 else 0) (map order_of es) (map order_of lying)
-        (IsPermutation-map order_of es lying moved)
+    (IsPermutation-map order_of es lying moved)
     ∙ sym (count_numbers p n (map order_of es)))

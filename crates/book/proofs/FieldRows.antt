@@ -1,11 +1,12 @@
 -- The rows of the fields that a request makes or changes, for each kind of command.
-use Rattle.ledger.proofs.Prelude.{Accepts, Command, Each, Effect, Field, FieldCells, FirstFailure, Good, Ledger, List,
-    Name, None, Option, Request, Some, Stock, Way, [], accept, add_part, added_on, ap, arith, changes_field,
-    changes_stock, checks, common_steps, false, field_named, field_row, field_rows, find, flat_map, held_to_add,
-    held_to_take, if◌then◌else◌, ints, is_lt, keys_of, lines_of, list_any, map, moved_at_once, moved_by_command,
-    name_cmp, next, on, option_map, option_map_or, own_field, pos, refl, same_name, settled, settled_part, share_steps,
-    shares_of_step, signed, steps, steps_of, subst, sym, take_part, true, ℕ, ℤ, ◌&&◌, ◌+ℤ◌, ◌||◌, ◌∙◌, ◌∷◌, ◌≡◌,
-    IsStrictlySortedBy}
+use Rattle.ledger.proofs.Prelude.{Accepts, Command, Each, Effect, Field, FieldCells, FirstFailure, Good, Ledger, List}
+use Rattle.ledger.proofs.Prelude.{Name, None, Option, Request, Some, Stock, Way, [], accept, add_part, added_on, ap}
+use Rattle.ledger.proofs.Prelude.{arith, changes_field, changes_stock, checks, common_steps, false, field_named}
+use Rattle.ledger.proofs.Prelude.{field_row, field_rows, find, flat_map, held_to_add, held_to_take, if◌then◌else◌, ints}
+use Rattle.ledger.proofs.Prelude.{is_lt, keys_of, lines_of, list_any, map, moved_at_once, moved_by_command, name_cmp}
+use Rattle.ledger.proofs.Prelude.{next, on, option_map, option_map_or, own_field, pos, refl, same_name, settled}
+use Rattle.ledger.proofs.Prelude.{settled_part, share_steps, shares_of_step, signed, steps, steps_of, subst, sym}
+use Rattle.ledger.proofs.Prelude.{take_part, true, ℕ, ℤ, ◌&&◌, ◌+ℤ◌, ◌||◌, ◌∙◌, ◌∷◌, ◌≡◌, IsStrictlySortedBy}
 use Rattle.book.proofs.Prelude.{Counts, CountsAll, FieldEntry, HasEntry, IsChangedField, IsUpToDate, entry_row, field_of}
 use Rattle.ledger.specs.Next.{with_bounds}
 use Rattle.book.specs.inner.Checking.{IsFound, IsOnly, changed_number}
@@ -37,7 +38,7 @@ changed_rows : (A : Ledger) (r : Request) (D : List (Name × FieldEntry)) → Go
     → ((f : Field) → changes_field A r.command f.name ≡ true → HasEntry D f.name) → map entry_row D ≡ field_rows A r
 changed_rows A r D good rising changed all =
     all_rows (changes_field A r.command) (field_row (accept A r)) (accept A r).fields D good.fields_in_order rising
-        changed (each all (accept A r).fields)
+    changed (each all (accept A r).fields)
 
 -- ---- one field
 
@@ -102,7 +103,7 @@ moved_found A c n w q e new is up there moves key accepts =
       passes = m.names n ∙ same_self n;
       has_row =
           value_moved A (next A c) n e w q new up (sum ∙ moved_is w q (settled A (field_of (n, e))))
-              (omega (arith, ints)) (omega (arith, ints)) moves;
+          (omega (arith, ints)) (omega (arith, ints)) moves;
     }) m.names
 
 -- ---- a new field

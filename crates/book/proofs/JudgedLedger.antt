@@ -1,10 +1,11 @@
 -- What makes a told ledger good, and that rows tell one good ledger at the most.
-use Rattle.book.proofs.Prelude.{AreMovesOnFields, AreOnFields, AreOrdersOnFields, FieldEntry, HasNumbers, HaveNumbers,
-    IsBounded, IsField, IsMoveByItself, IsOrderByItself, IsUpToDate, IsWhole, Numbers, field_of, move_of, numbers_on,
-    order_of, told_ledger}
-use Rattle.ledger.proofs.Prelude.{Each, Field, Good, IsGoodLine, IsGoodMove, IsGoodOrder, IsSafe, IsStrictlySortedBy,
-    List, Name, Order, [], arith, common_steps, held_to_add, held_to_take, length, line_name, map, name_cmp, nat_cmp,
-    places, pos, settled, slice_cmp, subst, sym, ◌+ℤ◌, ◌↔◌, ◌∷◌, ◌≡◌, ◌≤◌}
+use Rattle.book.proofs.Prelude.{AreMovesOnFields, AreOnFields, AreOrdersOnFields, FieldEntry, HasNumbers, HaveNumbers}
+use Rattle.book.proofs.Prelude.{IsBounded, IsField, IsMoveByItself, IsOrderByItself, IsUpToDate, IsWhole, Numbers}
+use Rattle.book.proofs.Prelude.{field_of, move_of, numbers_on, order_of, told_ledger}
+use Rattle.ledger.proofs.Prelude.{Each, Field, Good, IsGoodLine, IsGoodMove, IsGoodOrder, IsSafe, IsStrictlySortedBy}
+use Rattle.ledger.proofs.Prelude.{List, Name, Order, [], arith, common_steps, held_to_add, held_to_take, length}
+use Rattle.ledger.proofs.Prelude.{line_name, map, name_cmp, nat_cmp, places, pos, settled, slice_cmp, subst, sym, ◌+ℤ◌}
+use Rattle.ledger.proofs.Prelude.{◌↔◌, ◌∷◌, ◌≡◌, ◌≤◌}
 use Rattle.ledger.specs.declared.limits.TheConstants.{MAX_PLACES}
 use Rattle.book.specs.declared.book.tables.Entries.{Entries}
 use Rattle.book.specs.inner.RowEntries.{AreGood, AreInOrder, IsInForm}
@@ -35,22 +36,22 @@ good_order e o x = record {
   lines = good_lines e o x.0 x.1;
   apart = x.0.apart;
   transfer = x.0.transfer;
-  firm = x.0.firm
+  firm = x.0.firm;
 }
 
 moves_good : (e : Entries) → IsWhole e → AreMovesOnFields e.fields.items e.moves.items
     → Each (IsGoodMove (told_ledger e)) (told_ledger e).moves
 moves_good e w there = let ms = e.moves.items in
     each-map (IsGoodMove (told_ledger e)) move_of ms
-        (each-imp (λ m x. record { first = x.0.first; last = x.0.last; field = x.1; size = x.0.size }) ms
+    (each-imp (λ m x. record { first = x.0.first; last = x.0.last; field = x.1; size = x.0.size }) ms
     (each-two _ _ ms (each-unmap (IsMoveByItself (places (told_ledger e))) move_of ms w.moves) there))
 
 orders_good : (e : Entries) → IsWhole e → AreOrdersOnFields e.fields.items e.orders.items
     → Each (IsGoodOrder (told_ledger e)) (told_ledger e).orders
 orders_good e w there = let os = e.orders.items in
     each-map (IsGoodOrder (told_ledger e)) order_of os
-        (each-imp (λ o x. good_order e (order_of o) x) os
-            (each-two _ _ os (each-unmap IsOrderByItself order_of os w.orders) there))
+    (each-imp (λ o x. good_order e (order_of o) x) os
+    (each-two _ _ os (each-unmap IsOrderByItself order_of os w.orders) there))
 
 pub good_if_whole : (e : Entries) → IsInForm (told_ledger e) → IsWhole e
     → AreOnFields e.fields.items e.moves.items e.orders.items → IsSafe (told_ledger e) → Good (told_ledger e)
@@ -66,7 +67,7 @@ whole_if_good e g =
       fields = subst (IsStrictlySortedBy name_cmp) (sym (told_names e)) g.fields_in_order;
       moves = g.moves_in_order;
       orders = subst (IsStrictlySortedBy nat_cmp) (sym (told_numbers e)) g.orders_in_order;
-      kept = subst (IsStrictlySortedBy (slice_cmp nat_cmp)) (sym (told_keys e)) g.kept_in_order
+      kept = subst (IsStrictlySortedBy (slice_cmp nat_cmp)) (sym (told_keys e)) g.kept_in_order;
     } in
     grind (arith, each-imp)
 
@@ -107,9 +108,12 @@ numbers_if e f up = grind (arith, (told_settled e (field_of f)), (told_takes e f
 pub few_moves_if_whole : (e : Entries) → IsWhole e → length (told_ledger e).moves ≤ MAX_PLACES
 few_moves_if_whole e w =
     let A = told_ledger e in
-    grind (arith,
-        (few_sorted 0 (places A) A.moves (omega arith) (each-imp (λ m x. x.first) A.moves w.moves)
-            (each-imp (λ m x. x.last) A.moves w.moves) w.in_order.moves), w.limits.places)
+    grind (
+      arith,
+      (few_sorted 0 (places A) A.moves (omega arith) (each-imp (λ m x. x.first) A.moves w.moves)
+          (each-imp (λ m x. x.last) A.moves w.moves) w.in_order.moves),
+      w.limits.places,
+    )
 
 pub good_iff : (e : Entries) → IsInForm (told_ledger e) → Each (λ f. IsBounded f.1.quantity) e.fields.items → IsWhole e
     → (AreOnFields e.fields.items e.moves.items e.orders.items × HaveNumbers (numbers_of e) e.fields.items) ↔ AreGood e

@@ -1,8 +1,9 @@
 -- Entries under keys, as they stand in a ledger.
-use Rattle.ledger.proofs.Prelude.{Bool, Each, Equal, Greater, IsStrictlySortedBy, IsTotalOrder, Less, List, Name, None,
-    Option, Ordering, [], ap, arith, bytes_decides, bytes_eq, find, insert_entry, insert_in_order, is_at, is_eq,
-    is_eq-slice_cmp, is_lt, keys_of, lookup, map, match_ordering, name_cmp, nat_cmp, option_map, ordering_reverse, refl,
-    same_name, slice_cmp, sym, ℕ, ◌==◌, ◌∙◌, ◌∷◌, ◌≡◌}
+use Rattle.ledger.proofs.Prelude.{Bool, Each, Equal, Greater, IsStrictlySortedBy, IsTotalOrder, Less, List, Name, None}
+use Rattle.ledger.proofs.Prelude.{Option, Ordering, [], ap, arith, bytes_decides, bytes_eq, find, insert_entry}
+use Rattle.ledger.proofs.Prelude.{insert_in_order, is_at, is_eq, is_eq-slice_cmp, is_lt, keys_of, lookup, map}
+use Rattle.ledger.proofs.Prelude.{match_ordering, name_cmp, nat_cmp, option_map, ordering_reverse, refl, same_name}
+use Rattle.ledger.proofs.Prelude.{slice_cmp, sym, ℕ, ◌==◌, ◌∙◌, ◌∷◌, ◌≡◌}
 use Rattle.book.proofs.Prelude.{FieldEntry, KeptEntry, OrderEntry, field_of, kept_of, order_of}
 use Rattle.std.proofs.lemmas.Cmp.{nat_list_eq_equiv}
 use Rattle.ledger.proofs.GoodParts.{equal_name, equal_number}
@@ -90,10 +91,10 @@ same_text a b h = (bytes_decides a b).0 (sym (is_eq-slice_cmp a b) ∙ ap is_eq 
 
 pub kept_found : (key : List ℕ) (l : List (List ℕ × KeptEntry))
     → find (λ k. bytes_eq k.key key) (map kept_of l)
-        ≡ option_map (λ v. kept_of (key, v)) (lookup (is_at (slice_cmp nat_cmp key)) l)
+    ≡ option_map (λ v. kept_of (key, v)) (lookup (is_at (slice_cmp nat_cmp key)) l)
 kept_found key l =
     found (slice_cmp nat_cmp) same_text kept_of key (λ k. bytes_eq k.key key)
-        (λ e. nat_list_eq_equiv.symm e.0 key ∙ sym (is_eq-slice_cmp key e.0)) l
+    (λ e. nat_list_eq_equiv.symm e.0 key ∙ sym (is_eq-slice_cmp key e.0)) l
 
 pub kept_absent : (key : List ℕ) (l : List (List ℕ × KeptEntry))
     → find (λ k. bytes_eq k.key key) (map kept_of l) ≡ None → lookup (is_at (slice_cmp nat_cmp key)) l ≡ None
@@ -103,7 +104,7 @@ kept_absent key l none =
 pub kept_inserted : (key : List ℕ) (v : KeptEntry) (l : List (List ℕ × KeptEntry))
     → find (λ k. bytes_eq k.key key) (map kept_of l) ≡ None
     → map kept_of (insert_entry (slice_cmp nat_cmp) l key v)
-        ≡ insert_in_order (λ a b. is_lt (slice_cmp nat_cmp a.key b.key)) (kept_of (key, v)) (map kept_of l)
+    ≡ insert_in_order (λ a b. is_lt (slice_cmp nat_cmp a.key b.key)) (kept_of (key, v)) (map kept_of l)
 kept_inserted key v l none =
     inserted (slice_cmp nat_cmp) same_text kept_of key v (λ a b. is_lt (slice_cmp nat_cmp a.key b.key)) (λ e. refl) l
-        (kept_absent key l none)
+    (kept_absent key l none)

@@ -1,7 +1,8 @@
 -- Rows of lines in a row, order after order.
-use Rattle.ledger.proofs.Prelude.{[], ◌++◌, ◌+◌, ◌<◌, ◌∙◌, ◌∷◌, ◌≡◌, ◌≤◌, AllZip, AreOthers, Each, IsStrictlySortedBy,
-    LineCells, List, Order, ap, append-nil, arith, common_steps, drop, flat_map, flat_map-append, get_or, length,
-    length-drop, line_cells, line_row, lines_from, map, nat_cmp, order_lines, pos, refl, subst, suc, sym, zero, ℕ}
+use Rattle.ledger.proofs.Prelude.{[], ◌++◌, ◌+◌, ◌<◌, ◌∙◌, ◌∷◌, ◌≡◌, ◌≤◌, AllZip, AreOthers, Each, IsStrictlySortedBy}
+use Rattle.ledger.proofs.Prelude.{LineCells, List, Order, ap, append-nil, arith, common_steps, drop, flat_map}
+use Rattle.ledger.proofs.Prelude.{flat_map-append, get_or, length, length-drop, line_cells, line_row, lines_from, map}
+use Rattle.ledger.proofs.Prelude.{nat_cmp, order_lines, pos, refl, subst, suc, sym, zero, ℕ}
 use Rattle.book.proofs.Prelude.{AreNumbered, BeginsOther, Head, IsLineTold, TellOrders, head_of}
 use Rattle.ledger.specs.declared.order.Line.{Line}
 use Rattle.ledger.specs.declared.rows.LineRow.{LineRow}
@@ -69,8 +70,8 @@ split_rows n k (l ∷ own) rest [] (t ∷ tail) others all end e =
     absurd (end (sym (ap (λ (r : LineCells). r.number) (same_first _ _ _ _ e))))
 split_rows n k (l ∷ own) rest (r ∷ run) tail others all end e =
     let more =
-        split_rows n (k + 1) own rest run tail others all.1 end
-            (same_rest (line_row n k l) r (lines_from n (k + 1) own ++ rest) (run ++ tail) e) in
+    split_rows n (k + 1) own rest run tail others all.1 end
+    (same_rest (line_row n k l) r (lines_from n (k + 1) own ++ rest) (run ++ tail) e) in
     grind arith
 
 -- rows of an order's lines count on
@@ -79,10 +80,11 @@ pub numbered-from : (n k : ℕ) (own : List Line) (rows : List LineRow) → line
 numbered-from n k [] [] e = tt
 numbered-from n k [] (r ∷ rows) e = absurd (cc)
 numbered-from n k (l ∷ own) [] e = absurd (cc)
-numbered-from n k (l ∷ own) (r ∷ rows) e =
-    (sym (ap (λ (r : LineCells). r.nr) (same_first _ _ _ _ e)),
-        numbered-from n (k + 1) own rows
-            (same_rest (line_row n k l) (line_cells r) (lines_from n (k + 1) own) (map line_cells rows) e))
+numbered-from n k (l ∷ own) (r ∷ rows) e = (
+  sym (ap (λ (r : LineCells). r.nr) (same_first _ _ _ _ e)),
+  numbered-from n (k + 1) own rows
+      (same_rest (line_row n k l) (line_cells r) (lines_from n (k + 1) own) (map line_cells rows) e),
+)
 
 -- ---- the orders from here on
 
@@ -116,7 +118,7 @@ tail-first h heads lines t = by t.orders t.sorted t.tell
     by [] sorted tell = absurd (cc)
     by (o ∷ os) sorted tell =
         let is : o.number ≡ h.number =
-            ap (λ (h : Head). h.number) (same_first (head_of o) h (map head_of os) heads tell.heads_are) in
+        ap (λ (h : Head). h.number) (same_first (head_of o) h (map head_of os) heads tell.heads_are) in
         record {
           own = o.lines;
           rest = flat_map order_lines os;
@@ -127,8 +129,8 @@ tail-first h heads lines t = by t.orders t.sorted t.tell
             sorted = sorted.1;
             tell = record {
               heads_are = same_rest (head_of o) h (map head_of os) heads tell.heads_are;
-              lines_are = refl
-            }
+              lines_are = refl;
+            };
           };
         }
 
@@ -139,23 +141,31 @@ pub left_step : (h : Head) (heads : List Head) (own : List Line) (rows : List Li
     → BeginsOther h.number (drop (length own) rows) → Tail (h ∷ heads) (map line_cells rows)
     → Tail heads (map line_cells (drop (length own) rows))
 left_step h heads own rows told end t =
-    grind (arith, (own-number h.number 1 own), (begins-cells h.number (drop (length own) rows) end),
-        (tail-first h heads (map line_cells rows) t), split_rows)
+    grind (
+      arith,
+      (own-number h.number 1 own),
+      (begins-cells h.number (drop (length own) rows) end),
+      (tail-first h heads (map line_cells rows) t),
+      split_rows,
+    )
 
 pub lines_step : (os : List Order) (o : Order) (tail mid whole : List LineCells)
     → flat_map order_lines os ++ mid ≡ whole → order_lines o ++ tail ≡ mid
     → flat_map order_lines (os ++ o ∷ []) ++ tail ≡ whole
 lines_step os o tail mid whole e d =
-    grind (arith, common_steps,
-        (flat_map-append order_lines os (o ∷ [])
-            ∙ ap (λ (xs : List LineCells). flat_map order_lines os ++ xs) (append-nil (order_lines o))))
+    grind (
+      arith,
+      common_steps,
+      (flat_map-append order_lines os (o ∷ [])
+          ∙ ap (λ (xs : List LineCells). flat_map order_lines os ++ xs) (append-nil (order_lines o))),
+    )
 
 -- at the end of the heads, rows that are left belong to no order
 pub none_left : (heads : List Head) (i : ℕ) (rows : List LineRow) (start : ℕ) → length heads ≤ i → start ≤ length rows
     → (start ≡ length rows → ⊥) → Tail (drop i heads) (map line_cells (drop start rows)) → ⊥
 none_left heads i rows start past within more t =
     let none : map line_cells (drop start rows) ≡ [] =
-        tail-end _ (subst (λ hs. Tail hs (map line_cells (drop start rows))) (drop_of_length-le heads past) t) in
+    tail-end _ (subst (λ hs. Tail hs (map line_cells (drop start rows))) (drop_of_length-le heads past) t) in
     let long = length-drop start rows in
     let same = length-of-map line_cells (drop start rows) in
     let zero : length (map line_cells (drop start rows)) ≡ 0 = ap (λ xs. length xs) none in

@@ -1,8 +1,9 @@
 -- Heads of orders that the rows of firm orders mark.
-use Rattle.ledger.proofs.Prelude.{FirmCells, IsStrictlySortedBy, Less, List, Option, OrderCells, Some, [], ap,
-    append-nil, arith, drop, false, firm_cells, firm_row, flat_map, flat_map-append, get_or, get_or_from_slice_get,
-    if◌then◌else◌, length, length-drop, map, map-append, nat_cmp, pos, refl, set, slice_get, slice_get_within, subst,
-    suc, sym, take, take_all, true, zero, ℕ, ◌++◌, ◌+◌, ◌<◌, ◌∙◌, ◌∷◌, ◌≡◌, ◌≤◌}
+use Rattle.ledger.proofs.Prelude.{FirmCells, IsStrictlySortedBy, Less, List, Option, OrderCells, Some, [], ap}
+use Rattle.ledger.proofs.Prelude.{append-nil, arith, drop, false, firm_cells, firm_row, flat_map, flat_map-append}
+use Rattle.ledger.proofs.Prelude.{get_or, get_or_from_slice_get, if◌then◌else◌, length, length-drop, map, map-append}
+use Rattle.ledger.proofs.Prelude.{nat_cmp, pos, refl, set, slice_get, slice_get_within, subst, suc, sym, take, take_all}
+use Rattle.ledger.proofs.Prelude.{true, zero, ℕ, ◌++◌, ◌+◌, ◌<◌, ◌∙◌, ◌∷◌, ◌≡◌, ◌≤◌}
 use Rattle.ledger.specs.declared.rows.FirmRow.{FirmRow}
 use Rattle.book.proofs.Prelude.{Head, head_row, mark_rows}
 use Rattle.std.proofs.Math.ListN.{drop_of_length-le}
@@ -26,8 +27,8 @@ marks_after : (h : Head) (hs : List Head) → IsStrictlySortedBy nat_cmp (map (�
 unfolding IsStrictlySortedBy
 marks_after h hs sorted =
     later_marks (λ (m : Head). m.number) (λ m. m.firm) h.number hs
-        (each-imp (λ m e. less_is h.number m.number e) hs
-            (each-unmap (λ n. nat_cmp h.number n ≡ Less) (λ m. m.number) hs sorted.0))
+    (each-imp (λ m e. less_is h.number m.number e) hs
+    (each-unmap (λ n. nat_cmp h.number n ≡ Less) (λ m. m.number) hs sorted.0))
 
 same_numbers : (hs ks : List Head) → map head_row hs ≡ map head_row ks → map (λ h. h.number) hs ≡ map (λ h. h.number) ks
 same_numbers [] [] e = refl
@@ -64,7 +65,7 @@ same_heads hs ks s e m = heads_once hs ks s (subst (IsStrictlySortedBy nat_cmp) 
 -- what is behind the first of the heads, where the rows that are left tell whether it is marked
 behind : (c : OrderCells) (cells : List OrderCells) (marks rest : List FirmCells)
     → ((h : Head) (hs : List Head) → c.number ≡ pos h.number → MarkOthers h.number (flat_map mark_rows hs)
-        → mark_rows h ++ flat_map mark_rows hs ≡ marks → flat_map mark_rows hs ≡ rest)
+    → mark_rows h ++ flat_map mark_rows hs ≡ marks → flat_map mark_rows hs ≡ rest)
     → Marked (c ∷ cells) marks → Marked cells rest
 unfolding IsStrictlySortedBy
 behind c cells marks rest rows t = by t.heads t.sorted t.same t.rows
@@ -78,7 +79,7 @@ behind c cells marks rest rows t = by t.heads t.sorted t.same t.rows
       same = same_rest (head_row h) c (map head_row hs) cells same;
       rows =
           rows h hs (sym (ap (λ (r : OrderCells). r.number) (same_first (head_row h) c (map head_row hs) cells same)))
-              (marks_after h hs sorted) e;
+          (marks_after h hs sorted) e;
     }
 
 -- the first row names the first head
@@ -119,10 +120,10 @@ left_if_named c cells rows i n is named t =
     let row = marking_row (slice_get rows i) n named in
     let within = slice_get_within rows i row.it row.is in
     let cut =
-        drop-step rows i row.it within
-        ∙ ap (λ (r : FirmRow). r ∷ drop (i + 1) rows) (get_or_from_slice_get rows i row.it row.it row.is) in
+    drop-step rows i row.it within
+    ∙ ap (λ (r : FirmRow). r ∷ drop (i + 1) rows) (get_or_from_slice_get rows i row.it row.it row.is) in
     named_first c cells (firm_cells row.it) (map firm_cells (drop (i + 1) rows)) (row.number ∙ sym is)
-        (subst (λ (left : List FirmRow). Marked (c ∷ cells) (map firm_cells left)) cut t)
+    (subst (λ (left : List FirmRow). Marked (c ∷ cells) (map firm_cells left)) cut t)
 
 -- a head is not marked
 pub left_if_unnamed : (c : OrderCells) (cells : List OrderCells) (rows : List FirmRow) (i n : ℕ) → c.number ≡ pos n
@@ -130,7 +131,7 @@ pub left_if_unnamed : (c : OrderCells) (cells : List OrderCells) (rows : List Fi
     → Marked cells (map firm_cells (drop i rows))
 left_if_unnamed c cells rows i n is unnamed t =
     unnamed_first c cells (map firm_cells (drop i rows))
-        (λ m rest e named. unnamed (marks_there rows i n m rest e (named ∙ is))) t
+    (λ m rest e named. unnamed (marks_there rows i n m rest e (named ∙ is))) t
 
 -- no heads are left, and no rows
 none_left : (marks : List FirmCells) → Marked [] marks → marks ≡ []
@@ -165,8 +166,8 @@ cells_here cells hs i d same within =
     let as_long = ap (λ (cs : List OrderCells). length cs) same in
     drop-step cells i (head_row d) (omega arith)
     ∙ ap (λ (c : OrderCells). c ∷ drop (i + 1) cells)
-        (ap (λ (cs : List OrderCells). get_or cs i (head_row d)) (sym same)
-            ∙ get-of-map head_row hs i d (head_row d) within)
+    (ap (λ (cs : List OrderCells). get_or cs i (head_row d)) (sym same)
+    ∙ get-of-map head_row hs i d (head_row d) within)
 
 -- the head at hand, with its mark: a row names it
 pub step_if_named : (cells : List OrderCells) (hs : List Head) (i : ℕ) (d h : Head) (rows : List FirmRow) (next : ℕ)
@@ -177,8 +178,8 @@ step_if_named cells hs i d h rows next so_far within same firm named =
     let row = marking_row (slice_get rows next) h.number named in
     let there = slice_get_within rows next row.it row.is in
     let one : mark_rows h ≡ firm_cells row.it ∷ [] =
-        ap (λ b. if b then firm_row h.number ∷ [] else []) firm
-        ∙ ap (λ n. record { number = n } ∷ []) (sym row.number) in
+    ap (λ b. if b then firm_row h.number ∷ [] else []) firm
+    ∙ ap (λ n. record { number = n } ∷ []) (sym row.number) in
     record {
       within = omega arith;
       same = map-set_same head_row hs i h d same ∙ so_far.same;
@@ -189,8 +190,8 @@ step_if_named cells hs i d h rows next so_far within same firm named =
           ∙ ap (map firm_cells) (sym (read-step rows next row.it row.is));
       left = λ t. left_if_named (head_row h) (drop (i + 1) cells) rows next h.number refl named
           (subst (λ cs. Marked cs (map firm_cells (drop next rows)))
-              (cells_here cells hs i d so_far.same within ∙ ap (λ (c : OrderCells). c ∷ drop (i + 1) cells) (sym same))
-              (so_far.left t));
+          (cells_here cells hs i d so_far.same within ∙ ap (λ (c : OrderCells). c ∷ drop (i + 1) cells) (sym same))
+          (so_far.left t));
     }
 
 -- no row names it
@@ -209,10 +210,10 @@ all_named cells hs i rows next so_far past t =
     let as_long = ap (λ (cs : List OrderCells). length cs) so_far.same in
     let past_cells : length cells ≤ i = omega arith in
     let none =
-        ap (λ (rs : List FirmCells). length rs)
-            (none_left (map firm_cells (drop next rows))
-                (subst (λ cs. Marked cs (map firm_cells (drop next rows))) (drop_of_length-le cells past_cells)
-                    (so_far.left t))) in
+    ap (λ (rs : List FirmCells). length rs)
+    (none_left (map firm_cells (drop next rows))
+    (subst (λ cs. Marked cs (map firm_cells (drop next rows))) (drop_of_length-le cells past_cells)
+    (so_far.left t))) in
     let left = length-of-map firm_cells (drop next rows) in
     let long = length-drop next rows in
     omega arith

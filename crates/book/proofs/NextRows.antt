@@ -1,8 +1,9 @@
 -- The next ledger: the rows that an accepted request changes.
 use Rattle.book.proofs.Prelude.{BookView, ChangesTo, Inside, kept_of, ledger_of, view_of}
-use Rattle.ledger.proofs.Prelude.{Bool, Content, FieldCells, Good, IsAccepted, IsInRange, IsKey, IsRowsOf, Ledger, List,
-    Request, [], accept, ap, arith, changed_rows, changes_field, count_by, desk_row, field_row, field_rows, filter,
-    if◌then◌else◌, length, map, name_of, no_content, places, put_content, refl, subst, sym, ℕ, ◌+◌, ◌∙◌, ◌∷◌, ◌≡◌, ◌≤◌}
+use Rattle.ledger.proofs.Prelude.{Bool, Content, FieldCells, Good, IsAccepted, IsInRange, IsKey, IsRowsOf, Ledger, List}
+use Rattle.ledger.proofs.Prelude.{Request, [], accept, ap, arith, changed_rows, changes_field, count_by, desk_row}
+use Rattle.ledger.proofs.Prelude.{field_row, field_rows, filter, if◌then◌else◌, length, map, name_of, no_content}
+use Rattle.ledger.proofs.Prelude.{places, put_content, refl, subst, sym, ℕ, ◌+◌, ◌∙◌, ◌∷◌, ◌≡◌, ◌≤◌}
 use Rattle.ledger.specs.declared.limits.TheConstants.{MAX_PLACES}
 use Rattle.ledger.proofs.EqualRows.{one_content, rows_are, rows_of}
 use Rattle.ledger.proofs.Goodness.{good_accept}
@@ -48,8 +49,8 @@ changes_to A r rows g key range ok is = record {
     changed : (D : Content) → IsRowsOf (accept A r) D → rows ≡ changed_rows A r D
     changed D y =
         let next_is =
-            one_content (accept A r) (rows_of (accept A r)) D
-                (rows_are (accept A r) (good_accept A r g key range (no_key _ ok.0) ok.1)) y in
+        one_content (accept A r) (rows_of (accept A r)) D
+        (rows_are (accept A r) (good_accept A r g key range (no_key _ ok.0) ok.1)) y in
         is ∙ (λ i. record (rows_made A r) { fields = sym (fields_changed A r) i }) ∙ ap (changed_rows A r) next_is
 
 -- ---- what the book knows as it makes them

@@ -1,15 +1,18 @@
 -- What the lines of an accepted command count for all falls or all rises: so on the way each field stays within its bounds.
-use Rattle.ledger.proofs.Prelude.{Accepts, Add, Bool, Changes, Command, Contains, Each, Effect, Field, FirstFailure,
-    Good, IsSome, IsSomeAnd, Ledger, List, MAX_ORDER_LINES, Name, None, Nothing, OpenLine, Option, Order, Request,
-    ShareStep, Some, Step, Take, Way, [], accept, add_hold, add_part, added_on, ap, append-nil, append_assoc, arith,
-    checks, effect, false, field_named, find, flat_map, flat_map-append, held_to_add, held_to_take, hold_more,
-    if◌then◌else◌, inl, inr, ints, is_open, is_some, length, line_name, line_on, line_steps, map, map-append,
-    moved_by_command, name_of, new_line, new_order, next, no_content, numbered, on, opening, option_map_or,
-    order_numbered, orders_made, own_field, pos, raise_held, refl, rows_among, same_name, settled, settled_part,
-    settled_state, share_of, share_step, share_steps, shares_of_step, steps, steps_of, subst, sym, take_part,
-    transfer_lines, true, turn, ℕ, ℤ, ◌++◌, ◌+ℤ◌, ◌+◌, ◌-ℤ◌, ◌∙◌, ◌∷◌, ◌≡◌, ◌≤ℤ◌, ◌≤◌, ◌⊎◌}
-use Rattle.book.proofs.Prelude.{Adds, CountsAll, CountsMore, IsMadeBy, LieWithin, Made, MayCount, MayMake, joined,
-    numbers_with, order_of, step_rows}
+use Rattle.ledger.proofs.Prelude.{Accepts, Add, Bool, Changes, Command, Contains, Each, Effect, Field, FirstFailure}
+use Rattle.ledger.proofs.Prelude.{Good, IsSome, IsSomeAnd, Ledger, List, MAX_ORDER_LINES, Name, None, Nothing, OpenLine}
+use Rattle.ledger.proofs.Prelude.{Option, Order, Request, ShareStep, Some, Step, Take, Way, [], accept, add_hold}
+use Rattle.ledger.proofs.Prelude.{add_part, added_on, ap, append-nil, append_assoc, arith, checks, effect, false}
+use Rattle.ledger.proofs.Prelude.{field_named, find, flat_map, flat_map-append, held_to_add, held_to_take, hold_more}
+use Rattle.ledger.proofs.Prelude.{if◌then◌else◌, inl, inr, ints, is_open, is_some, length, line_name, line_on}
+use Rattle.ledger.proofs.Prelude.{line_steps, map, map-append, moved_by_command, name_of, new_line, new_order, next}
+use Rattle.ledger.proofs.Prelude.{no_content, numbered, on, opening, option_map_or, order_numbered, orders_made}
+use Rattle.ledger.proofs.Prelude.{own_field, pos, raise_held, refl, rows_among, same_name, settled, settled_part}
+use Rattle.ledger.proofs.Prelude.{settled_state, share_of, share_step, share_steps, shares_of_step, steps, steps_of}
+use Rattle.ledger.proofs.Prelude.{subst, sym, take_part, transfer_lines, true, turn, ℕ, ℤ, ◌++◌, ◌+ℤ◌, ◌+◌, ◌-ℤ◌, ◌∙◌}
+use Rattle.ledger.proofs.Prelude.{◌∷◌, ◌≡◌, ◌≤ℤ◌, ◌≤◌, ◌⊎◌}
+use Rattle.book.proofs.Prelude.{Adds, CountsAll, CountsMore, IsMadeBy, LieWithin, Made, MayCount, MayMake, joined}
+use Rattle.book.proofs.Prelude.{numbers_with, order_of, step_rows}
 use Rattle.ledger.proofs.Falls.{Falls, all_fall, fields_there, lowers, made_each}
 use Rattle.ledger.specs.declared.order.Line.{Line}
 use Rattle.ledger.specs.declared.order.Share.{Share}
@@ -94,9 +97,10 @@ stays_within A B f xs ys good next here there reaches one_way = by one_way
 new_rise : (o : Order) (nr : ℕ) (ls : List Line) → o.state ≡ Open → o.firm ≡ false
     → Each Rises (map (share_step (opening o)) (line_steps nr [] ls))
 new_rise o nr [] unended loose = tt
-new_rise o nr (l ∷ ls) unended loose =
-    (record { settled = λ i. if settled_state (unended i) (loose i) then l.used else 0; held = omega arith },
-        new_rise o (nr + 1) ls unended loose)
+new_rise o nr (l ∷ ls) unended loose = (
+  record { settled = λ i. if settled_state (unended i) (loose i) then l.used else 0; held = omega arith },
+  new_rise o (nr + 1) ls unended loose,
+)
 
 -- the step of an order to one with other lines
 abbrev relined : Order → List Line → Step
@@ -241,7 +245,7 @@ makes-first A xs ys a may = record {
   there = each-left _ xs ys may.there;
   count =
       may-first A _ (flat_map shares_of_step ys) _
-          (subst (λ zs. MayCount A zs a.fields.entries) (flat_map-append shares_of_step xs ys) may.count);
+      (subst (λ zs. MayCount A zs a.fields.entries) (flat_map-append shares_of_step xs ys) may.count);
 }
 
 pub makes-then : (A : Ledger) (xs ys : List Step) (a b : Made) → MayMake A (xs ++ ys) a → Adds A xs a b → MayMake A ys b

@@ -1,9 +1,10 @@
 -- The numbers of open orders, in order.
-use Rattle.ledger.proofs.Prelude.{[], ◌&&◌, ◌+◌, ◌<◌, ◌∙◌, ◌∷◌, ◌≡◌, ◌≤◌, ◌⊎◌, ◌++◌, Bool, Each, Equal, Greater, IsSome,
-    IsStrictlySortedBy, Less, List, MatchOrdering, None, Option, Ordering, Some, ap, arith, cond, count_by, false,
-    filter, find, get_or, get_or_from_slice_get, if◌then◌else◌, inl, inr, insert_entry, is_at, is_eq, is_open, length,
-    lookup, map, match_ordering, nat_cmp, nat_le, open_state, option_map, refl, slice_get, slice_get_within, subst, suc,
-    sym, true, zero, ℕ}
+use Rattle.ledger.proofs.Prelude.{[], ◌&&◌, ◌+◌, ◌<◌, ◌∙◌, ◌∷◌, ◌≡◌, ◌≤◌, ◌⊎◌, ◌++◌, Bool, Each, Equal, Greater, IsSome}
+use Rattle.ledger.proofs.Prelude.{IsStrictlySortedBy, Less, List, MatchOrdering, None, Option, Ordering, Some, ap}
+use Rattle.ledger.proofs.Prelude.{arith, cond, count_by, false, filter, find, get_or, get_or_from_slice_get}
+use Rattle.ledger.proofs.Prelude.{if◌then◌else◌, inl, inr, insert_entry, is_at, is_eq, is_open, length, lookup, map}
+use Rattle.ledger.proofs.Prelude.{match_ordering, nat_cmp, nat_le, open_state, option_map, refl, slice_get}
+use Rattle.ledger.proofs.Prelude.{slice_get_within, subst, suc, sym, true, zero, ℕ}
 use Rattle.book.proofs.Prelude.{OrderEntry, order_of}
 use Rattle.std.specs.Prelude.{Result, MatchResult}
 use Rattle.std.specs.List.{insert, remove}
@@ -51,13 +52,13 @@ marked_first b n (m ∷ ms) h =
 marked_there : (b : Bool) (n m : ℕ) (ms : List ℕ) → m ≡ n → marked b n (m ∷ ms) ≡ (if b then m ∷ ms else ms)
 marked_there b n m ms same =
     ap (λ o. match_ordering o (if b then n ∷ m ∷ ms else m ∷ ms) (if b then m ∷ ms else ms) (m ∷ marked b n ms))
-        (is_equal n m same)
+    (is_equal n m same)
 
 -- further on
 marked_later : (b : Bool) (n m : ℕ) (ms : List ℕ) → m < n → marked b n (m ∷ ms) ≡ m ∷ marked b n ms
 marked_later b n m ms h =
     ap (λ o. match_ordering o (if b then n ∷ m ∷ ms else m ∷ ms) (if b then m ∷ ms else ms) (m ∷ marked b n ms))
-        (is_greater n m h)
+    (is_greater n m h)
 
 -- taken out where it stands
 pub taken_out : (n : ℕ) (ms : List ℕ) (place : ℕ) → IsStrictlySortedBy nat_cmp ms → IsPlaceOf n ms place
@@ -82,9 +83,11 @@ left_in n (m ∷ ms) (suc p) sorted (within, is) =
 
 -- the rest of the places, where the first is below
 rest_for : (n m : ℕ) (ms : List ℕ) (p : ℕ) → IsPlaceFor n (m ∷ ms) (suc p) → IsPlaceFor n ms p
-rest_for n m ms p (within, below, above) =
-    (omega (arith, within), λ k lt. below (suc k) (omega (arith, lt)),
-        λ k le lt. above (suc k) (omega (arith, le)) (omega (arith, lt)))
+rest_for n m ms p (within, below, above) = (
+  omega (arith, within),
+  λ k lt. below (suc k) (omega (arith, lt)),
+  λ k le lt. above (suc k) (omega (arith, le)) (omega (arith, lt)),
+)
 
 -- put in where it would go
 pub put_in : (n : ℕ) (ms : List ℕ) (place : ℕ) → IsPlaceFor n ms place → insert ms place n ≡ marked true n ms
@@ -92,7 +95,7 @@ put_in n [] zero h = refl
 put_in n [] (suc p) h = absurd (omega (arith, h.0))
 put_in n (m ∷ ms) zero h =
     ap (λ o. match_ordering o (n ∷ m ∷ ms) (m ∷ ms) (m ∷ marked true n ms))
-        (sym (is_less n m (h.2 0 (omega arith) (omega arith))))
+    (sym (is_less n m (h.2 0 (omega arith) (omega arith))))
 put_in n (m ∷ ms) (suc p) h =
     ap (λ l. m ∷ l) (put_in n ms p (rest_for n m ms p h)) ∙ sym (marked_later true n m ms (h.1 0 (omega arith)))
 
@@ -102,7 +105,7 @@ left_out n [] zero h = refl
 left_out n [] (suc p) h = absurd (omega (arith, h.0))
 left_out n (m ∷ ms) zero h =
     ap (λ o. match_ordering o (m ∷ ms) ms (m ∷ marked false n ms))
-        (sym (is_less n m (h.2 0 (omega arith) (omega arith))))
+    (sym (is_less n m (h.2 0 (omega arith) (omega arith))))
 left_out n (m ∷ ms) (suc p) h =
     ap (λ l. m ∷ l) (left_out n ms p (rest_for n m ms p h)) ∙ sym (marked_later false n m ms (h.1 0 (omega arith)))
 
@@ -138,7 +141,7 @@ open_above n (e ∷ es) h = by (open_state e.1.state) (open_above n es h.1)
   where
     by : (b : Bool) → Each (λ m. nat_cmp n m ≡ Less) (open_numbers es)
         → Each (λ m. nat_cmp n m ≡ Less)
-            (keys_of (cond b (e ∷ filter (λ x. open_state x.1.state) es) (filter (λ x. open_state x.1.state) es)))
+        (keys_of (cond b (e ∷ filter (λ x. open_state x.1.state) es) (filter (λ x. open_state x.1.state) es)))
     by true more = (h.0, more)
     by false more = more
 
@@ -167,10 +170,10 @@ open_put n v (e ∷ es) sorted = by (nat_cmp n e.0) refl (open_put n v es sorted
     in_place true false same =
         ap (λ k. k ∷ keys_of rest) (sym same)
         ∙ sym (marked_first true n (keys_of rest)
-            (open_above n es (on_from n e.0 (keys_of es) (omega (arith, same)) sorted.0)))
+        (open_above n es (on_from n e.0 (keys_of es) (omega (arith, same)) sorted.0)))
     in_place false false same =
         sym (marked_first false n (keys_of rest)
-            (open_above n es (on_from n e.0 (keys_of es) (omega (arith, same)) sorted.0)))
+        (open_above n es (on_from n e.0 (keys_of es) (omega (arith, same)) sorted.0)))
 
     later : (c : Bool) (xs : List (ℕ × OrderEntry)) (b : Bool) → e.0 < n → keys_of xs ≡ marked b n (keys_of rest)
         → keys_of (cond c (e ∷ xs) xs) ≡ marked b n (keys_of (cond c (e ∷ rest) rest))
@@ -180,11 +183,11 @@ open_put n v (e ∷ es) sorted = by (nat_cmp n e.0) refl (open_put n v es sorted
     by : (o : Ordering) → nat_cmp n e.0 ≡ o
         → open_numbers (insert_entry nat_cmp es n v) ≡ marked (open_state v.state) n (open_numbers es)
         → open_numbers (match_ordering o ((n, v) ∷ e ∷ es) ((e.0, v) ∷ es) (e ∷ insert_entry nat_cmp es n v))
-            ≡ marked (open_state v.state) n (open_numbers (e ∷ es))
+        ≡ marked (open_state v.state) n (open_numbers (e ∷ es))
     by Less is more =
         front (open_state v.state) (filter (λ x. open_state x.1.state) (e ∷ es))
         ∙ sym (marked_first (open_state v.state) n (open_numbers (e ∷ es))
-            (open_above n (e ∷ es) (is, on_from n e.0 (keys_of es) (omega (arith, less_than n e.0 is)) sorted.0)))
+        (open_above n (e ∷ es) (is, on_from n e.0 (keys_of es) (omega (arith, less_than n e.0 is)) sorted.0)))
     by Equal is more = in_place (open_state v.state) (open_state e.1.state) (equal_to n e.0 is)
     by Greater is more = later (open_state e.1.state) (filter (λ x. open_state x.1.state) (insert_entry nat_cmp es n v))
         (open_state v.state)
@@ -198,7 +201,7 @@ open_sorted (e ∷ es) sorted = by (open_state e.1.state) (open_sorted es sorted
   where
     by : (b : Bool) → IsStrictlySortedBy nat_cmp (open_numbers es)
         → IsStrictlySortedBy nat_cmp
-            (keys_of (cond b (e ∷ filter (λ x. open_state x.1.state) es) (filter (λ x. open_state x.1.state) es)))
+        (keys_of (cond b (e ∷ filter (λ x. open_state x.1.state) es) (filter (λ x. open_state x.1.state) es)))
     by true more = (open_above e.0 es sorted.0, more)
     by false more = more
 
@@ -214,10 +217,10 @@ open_pushed (x ∷ es) e = by (open_state x.1.state) (open_state e.1.state) (ope
   where
     by : (b c : Bool) → open_numbers (es ++ e ∷ []) ≡ (if c then open_numbers es ++ e.0 ∷ [] else open_numbers es)
         → keys_of (cond b (x ∷ filter (λ y. open_state y.1.state) (es ++ e ∷ []))
-            (filter (λ y. open_state y.1.state) (es ++ e ∷ [])))
+        (filter (λ y. open_state y.1.state) (es ++ e ∷ [])))
         ≡ (if c
-            then keys_of (cond b (x ∷ filter (λ y. open_state y.1.state) es) (filter (λ y. open_state y.1.state) es))
-                ++ e.0 ∷ []
+        then keys_of (cond b (x ∷ filter (λ y. open_state y.1.state) es) (filter (λ y. open_state y.1.state) es))
+        ++ e.0 ∷ []
         else keys_of (cond b (x ∷ filter (λ y. open_state y.1.state) es) (filter (λ y. open_state y.1.state) es)))
     by true true more = ap (λ l. x.0 ∷ l) more
     by true false more = ap (λ l. x.0 ∷ l) more
@@ -236,7 +239,7 @@ few_open (e ∷ es) = by (open_state e.1.state) (few_open es)
   where
     by : (b : Bool) → length (open_numbers es) ≤ length es
         → length (keys_of (cond b (e ∷ filter (λ x. open_state x.1.state) es) (filter (λ x. open_state x.1.state) es)))
-            ≤ suc (length es)
+        ≤ suc (length es)
     by true more = omega (arith, more)
     by false more = omega (arith, more)
 
@@ -259,11 +262,11 @@ put_sizes n v (e ∷ es) sorted = by (nat_cmp n e.0) refl (put_sizes n v es sort
         → ((lookup (is_at (nat_cmp n)) es ≡ None) × (length (insert_entry nat_cmp es n v) ≡ length es + 1))
         ⊎ (IsSome (lookup (is_at (nat_cmp n)) es) × (length (insert_entry nat_cmp es n v) ≡ length es))
         → ((cond (is_eq o) (Some e.1) (lookup (is_at (nat_cmp n)) es) ≡ None)
-            × (length (match_ordering o ((n, v) ∷ e ∷ es) ((e.0, v) ∷ es) (e ∷ insert_entry nat_cmp es n v))
-                ≡ length (e ∷ es) + 1))
+        × (length (match_ordering o ((n, v) ∷ e ∷ es) ((e.0, v) ∷ es) (e ∷ insert_entry nat_cmp es n v))
+        ≡ length (e ∷ es) + 1))
         ⊎ (IsSome (cond (is_eq o) (Some e.1) (lookup (is_at (nat_cmp n)) es))
-            × (length (match_ordering o ((n, v) ∷ e ∷ es) ((e.0, v) ∷ es) (e ∷ insert_entry nat_cmp es n v))
-                ≡ length (e ∷ es)))
+        × (length (match_ordering o ((n, v) ∷ e ∷ es) ((e.0, v) ∷ es) (e ∷ insert_entry nat_cmp es n v))
+        ≡ length (e ∷ es)))
     by Less is more = inl (none_above n es (on_from n e.0 (keys_of es) (omega (arith, less_than n e.0 is)) sorted.0), omega arith)
     by Equal is more = inr (refl, refl)
     by Greater is (inl (none, size)) = inl (none, omega (arith, size))
@@ -313,7 +316,7 @@ first_number n (e ∷ es) = by (open_state e.1.state) (first_number n es)
   where
     at_front : (c : Bool) → option_map (λ e. e.0) (find (is_open_from n) es) ≡ find (nat_le n) (open_numbers es)
         → option_map (λ x. x.0) (if c then Some e else find (is_open_from n) es)
-            ≡ (if c then Some e.0 else find (nat_le n) (open_numbers es))
+        ≡ (if c then Some e.0 else find (nat_le n) (open_numbers es))
     at_front true more = refl
     at_front false more = more
 
@@ -337,14 +340,14 @@ found_under n (x ∷ es) e sorted found = by (is_open_from n x) found (λ later.
     by true found more =
         let same : x ≡ e = cc in
         subst (λ (y : ℕ × OrderEntry).
-            cond (is_eq (nat_cmp y.0 x.0)) (Some x.1) (lookup (is_at (nat_cmp y.0)) es) ≡ Some y.1) same
+        cond (is_eq (nat_cmp y.0 x.0)) (Some x.1) (lookup (is_at (nat_cmp y.0)) es) ≡ Some y.1) same
         (ap (λ o. cond (is_eq o) (Some x.1) (lookup (is_at (nat_cmp x.0)) es)) (is_equal x.0 x.0 refl))
     by false found more =
         let above =
-            each-found (λ (y : ℕ × OrderEntry). nat_cmp x.0 y.0 ≡ Less) (is_open_from n) e es
-                (each-unmap (λ k. nat_cmp x.0 k ≡ Less) (λ (y : ℕ × OrderEntry). y.0) es sorted.0) found in
+        each-found (λ (y : ℕ × OrderEntry). nat_cmp x.0 y.0 ≡ Less) (is_open_from n) e es
+        (each-unmap (λ k. nat_cmp x.0 k ≡ Less) (λ (y : ℕ × OrderEntry). y.0) es sorted.0) found in
         ap (λ o. cond (is_eq o) (Some x.1) (lookup (is_at (nat_cmp e.0)) es))
-            (is_greater e.0 x.0 (less_than x.0 e.0 above)) ∙ more found
+        (is_greater e.0 x.0 (less_than x.0 e.0 above)) ∙ more found
 
 pub place_is_first : (n : ℕ) (ms : List ℕ) (place : ℕ) → IsStrictlySortedBy nat_cmp ms → IsPlaceOf n ms place
     → IsFirstFrom n ms place
@@ -361,9 +364,9 @@ none_from n (m ∷ ms) zero h le = absurd (omega (arith, le))
 none_from n (m ∷ ms) (suc p) (within, below, first) le =
     let less = below 0 (omega arith) in
     let more =
-        none_from n ms p
-            (omega (arith, within), λ k lt. below (suc k) (omega (arith, lt)), λ lt. first (omega (arith, lt)))
-            (omega (arith, le)) in
+    none_from n ms p
+    (omega (arith, within), λ k lt. below (suc k) (omega (arith, lt)), λ lt. first (omega (arith, lt)))
+    (omega (arith, le)) in
     grind arith
 
 there_from : (n : ℕ) (ms : List ℕ) (place : ℕ) → IsFirstFrom n ms place → place < length ms
@@ -373,9 +376,9 @@ there_from n (m ∷ ms) zero (within, below, first) lt = let le = first lt in gr
 there_from n (m ∷ ms) (suc p) (within, below, first) lt =
     let less = below 0 (omega arith) in
     let more =
-        there_from n ms p
-            (omega (arith, within), λ k lt. below (suc k) (omega (arith, lt)), λ lt. first (omega (arith, lt)))
-            (omega (arith, lt)) in
+    there_from n ms p
+    (omega (arith, within), λ k lt. below (suc k) (omega (arith, lt)), λ lt. first (omega (arith, lt)))
+    (omega (arith, lt)) in
     grind arith
 
 no_number : (x : Option (ℕ × OrderEntry)) → option_map (λ e. e.0) x ≡ None → x ≡ None
@@ -400,8 +403,8 @@ first_open n es place m sorted h there =
     let within = slice_get_within (open_numbers es) place m there in
     let is : get_or (open_numbers es) place 0 ≡ m = get_or_from_slice_get (open_numbers es) place m 0 there in
     let (e, found, same) =
-        a_number (find (is_open_from n) es) m
-            (first_number n es ∙ there_from n (open_numbers es) place h within ∙ ap Some is) in (
+    a_number (find (is_open_from n) es) m
+    (first_number n es ∙ there_from n (open_numbers es) place h within ∙ ap Some is) in (
       e.1,
       subst (λ k. lookup (is_at (nat_cmp k)) es ≡ Some e.1) same (found_under n es e sorted found),
       found ∙ ap (λ k. Some (k, e.1)) same,
@@ -416,6 +419,6 @@ open_viewed n (e ∷ es) = by (is_open_from n e) (open_viewed n es)
     by : (b : Bool)
         → find (λ o. is_open o && nat_le n o.number) (map order_of es) ≡ option_map order_of (find (is_open_from n) es)
         → (if b then Some (order_of e) else find (λ o. is_open o && nat_le n o.number) (map order_of es))
-            ≡ option_map order_of (if b then Some e else find (is_open_from n) es)
+        ≡ option_map order_of (if b then Some e else find (is_open_from n) es)
     by true more = refl
     by false more = more

@@ -1,9 +1,10 @@
 -- Orders put in by their numbers.
-use Rattle.ledger.proofs.Prelude.{Bool, Changes, Command, Each, Effect, FirstFailure, Good, IsSome, IsStrictlySortedBy,
-    IsTotalOrder, Ledger, Less, List, None, Nothing, Opens, Option, Order, Some, Step, [], ap, arith, checks, effect,
-    false, find, flat_map, if◌then◌else◌, inl, inr, is_at, length, lookup, map, nat_cmp, nat_cmp_total, next, on_total,
-    option_map, order_numbered, orders_made, put_rows, refl, steps, steps_of, subst, sym, tied_itself, true, true≢false,
-    ℕ, ◌++◌, ◌==◌, ◌∙◌, ◌∷◌, ◌≡◌, ◌≤◌, turn}
+use Rattle.ledger.proofs.Prelude.{Bool, Changes, Command, Each, Effect, FirstFailure, Good, IsSome, IsStrictlySortedBy}
+use Rattle.ledger.proofs.Prelude.{IsTotalOrder, Ledger, Less, List, None, Nothing, Opens, Option, Order, Some, Step, []}
+use Rattle.ledger.proofs.Prelude.{ap, arith, checks, effect, false, find, flat_map, if◌then◌else◌, inl, inr, is_at}
+use Rattle.ledger.proofs.Prelude.{length, lookup, map, nat_cmp, nat_cmp_total, next, on_total, option_map}
+use Rattle.ledger.proofs.Prelude.{order_numbered, orders_made, put_rows, refl, steps, steps_of, subst, sym, tied_itself}
+use Rattle.ledger.proofs.Prelude.{true, true≢false, ℕ, ◌++◌, ◌==◌, ◌∙◌, ◌∷◌, ◌≡◌, ◌≤◌, turn}
 use Rattle.book.proofs.Prelude.{OrderEntry, number_cmp, order_of}
 use Rattle.ledger.proofs.Sums.{each-imp}
 use Rattle.ledger.proofs.Puts.{Follows, follows-new, follows-one, steps_put}
@@ -25,7 +26,7 @@ map-id (x ∷ xs) = ap (λ ys. x ∷ ys) (map-id xs)
 order_follows : (b a : Order) → Goes b a → Follows number_cmp (a ∷ []) (b ∷ []) (a ∷ [])
 order_follows b a goes =
     follows-one number_cmp true b a (ap (λ n. nat_cmp n b.number) goes.number ∙ tied_itself nat_cmp_total b.number)
-        (λ e. absurd (true≢false e))
+    (λ e. absurd (true≢false e))
 
 numbers_sorted : (os : List Order) → IsStrictlySortedBy nat_cmp (map (λ o. o.number) os)
     → IsStrictlySortedBy number_cmp os
@@ -72,7 +73,7 @@ may_be_put A c room made entries some good passed is makes =
     by (Changes names change) m goes =
         inr (each-imp has made (each-unmap (λ o. IsSome (order_numbered A o.number)) order_of made
         (subst (Each (λ o. IsSome (order_numbered A o.number))) (sym m)
-            (changed names change A.orders (find_self A.orders good.orders_in_order) goes))))
+        (changed names change A.orders (find_self A.orders good.orders_in_order) goes))))
 
 -- the orders that a command makes, put in by their numbers
 pub orders_put : (A : Ledger) (c : Command) → Good A
@@ -80,7 +81,7 @@ pub orders_put : (A : Ledger) (c : Command) → Good A
     → put_rows number_cmp (orders_made A c) A.orders ≡ (next A c).orders
 orders_put A c good sorted passed =
     (λ i. put_rows number_cmp (sym (flat-one (λ (s : Step). s.after) (steps_of A c)) i)
-        (sym (flat-one (λ (o : Order). o) A.orders ∙ map-id A.orders) i))
+    (sym (flat-one (λ (o : Order). o) A.orders ∙ map-id A.orders) i))
     ∙ steps_put Order number_cmp (λ o. o ∷ []) (λ s. s.after ∷ []) (λ o. follows-new number_cmp (o ∷ []))
     order_follows number_cmp_total (effect c) A.orders
     (subst (IsStrictlySortedBy number_cmp) (sym same) (numbers_sorted (next A c).orders sorted))

@@ -1,12 +1,14 @@
 -- Rows of a good ledger each tell something in range, and rows that each tell something tell a ledger.
-use Rattle.ledger.proofs.Prelude.{AllZip, Bool, Each, Field, Good, IsArticle, IsBranch, IsFieldRow, IsGoodField,
-    IsGoodKept, IsGoodLine, IsGoodMove, IsGoodOrder, IsLevel, IsSome, IsStrictlySortedBy, Ledger, LineCells, List, Name,
-    Order, Some, TellsField, [], ap, arith, false, field_cells, find, firm_rows, flat_map, held_to_add, held_to_take,
-    if◌then◌else◌, ints, kept_cells, kept_row, line_cells, line_name, lines_from, map, move_cells, move_row, nat_abs,
-    nat_cmp, order_cells, order_lines, order_row, pos, refl, same_name, settled, subst, sym, true, true≢false, ℕ, ◌++◌,
-    ◌+ℤ◌, ◌+◌, ◌-ℤ◌, ◌∙◌, ◌∷◌, ◌≡◌, ◌≤ℤ◌, ◌≤◌}
-use Rattle.book.proofs.Prelude.{FieldEntry, Head, IsBounded, IsFieldTold, IsKeptTold, IsLineTold, IsMoveTold, KeptEntry,
-    MoveEntry, TellHeads, entry_row, field_of, head_of, mark_rows}
+use Rattle.ledger.proofs.Prelude.{AllZip, Bool, Each, Field, Good, IsArticle, IsBranch, IsFieldRow, IsGoodField}
+use Rattle.ledger.proofs.Prelude.{IsGoodKept, IsGoodLine, IsGoodMove, IsGoodOrder, IsLevel, IsSome, IsStrictlySortedBy}
+use Rattle.ledger.proofs.Prelude.{Ledger, LineCells, List, Name, Order, Some, TellsField, [], ap, arith, false}
+use Rattle.ledger.proofs.Prelude.{field_cells, find, firm_rows, flat_map, held_to_add, held_to_take, if◌then◌else◌}
+use Rattle.ledger.proofs.Prelude.{ints, kept_cells, kept_row, line_cells, line_name, lines_from, map, move_cells}
+use Rattle.ledger.proofs.Prelude.{move_row, nat_abs, nat_cmp, order_cells, order_lines, order_row, pos, refl, same_name}
+use Rattle.ledger.proofs.Prelude.{settled, subst, sym, true, true≢false, ℕ, ◌++◌, ◌+ℤ◌, ◌+◌, ◌-ℤ◌, ◌∙◌, ◌∷◌, ◌≡◌, ◌≤ℤ◌}
+use Rattle.ledger.proofs.Prelude.{◌≤◌}
+use Rattle.book.proofs.Prelude.{FieldEntry, Head, IsBounded, IsFieldTold, IsKeptTold, IsLineTold, IsMoveTold, KeptEntry}
+use Rattle.book.proofs.Prelude.{MoveEntry, TellHeads, entry_row, field_of, head_of, mark_rows}
 use Rattle.ledger.specs.declared.rows.FieldRow.{FieldRow}
 use Rattle.ledger.specs.declared.rows.KeptRow.{KeptRow}
 use Rattle.ledger.specs.declared.order.Line.{Line}
@@ -53,9 +55,10 @@ named_codes n (f ∷ fs) good there = step (same_name n f.name) refl (λ k. name
         → (IsSome (find (λ f. same_name n f.name) fs) → IsBranch n.branch × IsArticle n.article)
         → IsSome (if b then Some f else find (λ f. same_name n f.name) fs) → IsBranch n.branch × IsArticle n.article
     step true e more h =
-        let is = name_is n f.name e in
-        (subst (λ (m : Name). IsBranch m.branch) (sym is) good.0.branch,
-            subst (λ (m : Name). IsArticle m.article) (sym is) good.0.article)
+        let is = name_is n f.name e in (
+          subst (λ (m : Name). IsBranch m.branch) (sym is) good.0.branch,
+          subst (λ (m : Name). IsArticle m.article) (sym is) good.0.article,
+        )
     step false e more h = more h
 
 -- the numbers of a field, in their order
@@ -120,7 +123,7 @@ tells_field e row told = record {
   article = told.article_is;
   lo = told.quantity.lo;
   hi = told.quantity.hi;
-  start = told.start_is
+  start = told.start_is;
 }
 
 pub told_bounded : (es : List (Name × FieldEntry)) (rows : List FieldRow) → AllZip IsFieldTold es rows
@@ -186,7 +189,7 @@ orders_each : (A : Ledger) (os : List Order) → Good A → Each (IsGoodOrder A)
 orders_each A [] g good = tt
 orders_each A (o ∷ os) g good =
     each-join _ (order_lines o) (flat_map order_lines os) (lines_each A o.number 1 o.lines g good.0.lines)
-        (orders_each A os g good.1)
+    (orders_each A os g good.1)
 
 pub lines_told : (A : Ledger) (rows : List LineRow) → Good A → map line_cells rows ≡ flat_map order_lines A.orders
     → Each (λ row. (l : Line) × IsLineTold l row) rows
@@ -234,7 +237,7 @@ pub orders_rows : (hs : List Head) (os : List Order) → map head_of os ≡ hs
     → TellHeads hs (map order_row os) (flat_map firm_rows os)
 orders_rows hs os e = record {
   orders_are = ap (map head_row) (sym e) ∙ heads_rows os;
-  firms_are = ap (flat_map mark_rows) (sym e) ∙ marks_rows os
+  firms_are = ap (flat_map mark_rows) (sym e) ∙ marks_rows os;
 }
 
 -- orders that heads and lines tell have the rows that tell these heads and lines
@@ -246,7 +249,7 @@ rows_of_orders hs os orders lines firms heads told =
     record {
       orders_are = sym heads.orders_are ∙ have.orders_are;
       lines_are = sym told.lines_are;
-      firms_are = sym heads.firms_are ∙ have.firms_are
+      firms_are = sym heads.firms_are ∙ have.firms_are;
     }
 
 -- the heads that a good ledger's rows tell, and the rows of its lines, tell its orders
@@ -255,7 +258,7 @@ pub orders_told : (A : Ledger) (hs : List Head) (orders : List OrderCells) (line
 orders_told A hs orders lines firms g heads rows = record {
   heads_are =
       heads_same hs A.orders g.orders_in_order
-          (record { orders_are = heads.orders_are ∙ rows.orders_are; firms_are = heads.firms_are ∙ rows.firms_are });
+      (record { orders_are = heads.orders_are ∙ rows.orders_are; firms_are = heads.firms_are ∙ rows.firms_are });
   lines_are = sym rows.lines_are;
 }
 

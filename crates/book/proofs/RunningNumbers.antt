@@ -1,10 +1,11 @@
 -- Running numbers: what the entries of fields say of a ledger, and what becomes of them.
-use Rattle.ledger.proofs.Prelude.{Add, Bool, BreaksBound, Contains, Content, Each, Equal, Field, FieldCells, Global,
-    Good, Greater, IsSafeMoved, IsSomeAnd, Ledger, Less, List, Name, None, Option, Ordering, Some, Stock, String, Take,
-    Way, [], accept, ap, arith, common_steps, false, field_cells, field_cmp, field_named, field_row, held_to_add,
-    held_to_take, holding, if◌then◌else◌, insert_entry, ints, is_eq, is_lt, is_some, map, match_ordering, name_cmp,
-    next, pos, put_row, put_rows, refl, same_name, settled, string_bytes, subst, sym, true≢false, ℕ, ℤ, ◌+ℤ◌, ◌+◌, ◌-ℤ◌,
-    ◌<ℤ◌, ◌∙◌, ◌∷◌, ◌≡◌, ◌≤ℤ◌, ◌≤◌}
+use Rattle.ledger.proofs.Prelude.{Add, Bool, BreaksBound, Contains, Content, Each, Equal, Field, FieldCells, Global}
+use Rattle.ledger.proofs.Prelude.{Good, Greater, IsSafeMoved, IsSomeAnd, Ledger, Less, List, Name, None, Option}
+use Rattle.ledger.proofs.Prelude.{Ordering, Some, Stock, String, Take, Way, [], accept, ap, arith, common_steps, false}
+use Rattle.ledger.proofs.Prelude.{field_cells, field_cmp, field_named, field_row, held_to_add, held_to_take, holding}
+use Rattle.ledger.proofs.Prelude.{if◌then◌else◌, insert_entry, ints, is_eq, is_lt, is_some, map, match_ordering}
+use Rattle.ledger.proofs.Prelude.{name_cmp, next, pos, put_row, put_rows, refl, same_name, settled, string_bytes, subst}
+use Rattle.ledger.proofs.Prelude.{sym, true≢false, ℕ, ℤ, ◌+ℤ◌, ◌+◌, ◌-ℤ◌, ◌<ℤ◌, ◌∙◌, ◌∷◌, ◌≡◌, ◌≤ℤ◌, ◌≤◌}
 use Rattle.book.proofs.Prelude.{FieldEntry, IsUpToDate, entry_row, field_of, with_entries}
 use Rattle.escrow.specs.Choices.{IsInfimum as IsLeastOf, IsSafe as IsSafeStock, IsSupremum as IsGreatestOf}
 use Rattle.book.specs.Plans.{Fits, PlanView}
@@ -88,16 +89,20 @@ refuses A n e Take q good up there unsafe =
     let numbers = numbers_up A n e up in
     subst (λ (o : Option Field). IsSomeAnd o (λ f. ((settled A f -ℤ held_to_take A f.name) -ℤ pos q) <ℤ pos f.lo)) (sym there)
     (not_above (pos e.quantity.lo) ((settled A f -ℤ held_to_take A n) -ℤ pos q)
-    (λ low. unsafe ((λ taken added t a. (omega (arith, ints), omega (arith, ints))),
-        (λ taken added t a. (omega (arith, ints), omega (arith, ints))))))
+    (λ low. unsafe (
+      (λ taken added t a. (omega (arith, ints), omega (arith, ints))),
+      (λ taken added t a. (omega (arith, ints), omega (arith, ints))),
+    )))
 refuses A n e Add q good up there unsafe =
     let f : Field = field_of (n, e) in
     let r = bounds_at A f good (Contains-of_find (λ g. same_name n g.name) A.fields f there) in
     let numbers = numbers_up A n e up in
     subst (λ (o : Option Field). IsSomeAnd o (λ f. pos f.hi <ℤ ((settled A f +ℤ held_to_add A f.name) +ℤ pos q))) (sym there)
     (not_above ((settled A f +ℤ held_to_add A n) +ℤ pos q) (pos e.quantity.hi)
-    (λ high. unsafe ((λ taken added t a. (omega (arith, ints), omega (arith, ints))),
-        (λ taken added t a. (omega (arith, ints), omega (arith, ints))))))
+    (λ high. unsafe (
+      (λ taken added t a. (omega (arith, ints), omega (arith, ints))),
+      (λ taken added t a. (omega (arith, ints), omega (arith, ints))),
+    )))
 
 -- ---- rows of entries
 
@@ -122,7 +127,7 @@ pub entry_cells_are : (e : Name × FieldEntry) (branch article : String Global) 
       start = start;
       value = value;
       inf = inf;
-      sup = sup
+      sup = sup;
     }) ≡ entry_row e
 entry_cells_are e branch article lo hi start value inf sup b a l h s v i u =
     λ z. record { branch = b z; article = a z; lo = l z; hi = h z; start = s z; value = v z; inf = i z; sup = u z }
@@ -155,7 +160,7 @@ put_one n v (e ∷ l) = by (name_cmp n e.0) refl (put_one n v l)
         → map entry_row (match_ordering o ((n, v) ∷ e ∷ l) ((e.0, v) ∷ l) (e ∷ insert_entry name_cmp l n v))
         ≡ (if is_lt o then entry_row (n, v) ∷ entry_row e ∷ map entry_row l
         else (if is_eq o then entry_row (n, v) ∷ map entry_row l
-            else entry_row e ∷ put_row field_cmp (entry_row (n, v)) (map entry_row l)))
+        else entry_row e ∷ put_row field_cmp (entry_row (n, v)) (map entry_row l)))
     by Less is more = refl
     by Equal is more = ap (λ (k : Name). entry_row (k, v) ∷ map entry_row l) (sym (equal_field n e.0 is))
     by Greater is more = ap (λ (rows : List FieldCells). entry_row e ∷ rows) more
@@ -171,13 +176,13 @@ pub adopted : (A : Ledger) (plan : PlanView) (es old : List (Name × FieldEntry)
     → Good (accept A plan.request) → Fits A plan → map entry_row es ≡ plan.changes.fields
     → map field_of old ≡ A.fields → Each (IsUpToDate A) old
     → (map field_of (with_entries es old) ≡ (accept A plan.request).fields)
-        × Each (IsUpToDate (accept A plan.request)) (with_entries es old)
+    × Each (IsUpToDate (accept A plan.request)) (with_entries es old)
 adopted A plan es old good next fits told fields all =
     let B : Ledger = accept A plan.request in
     let before = rows_of_entries A old all ∙ ap (map (field_row A)) fields in
     let put = fits.changes.suffice (rows_of A) (rows_of B) (rows_are A good) (rows_are B next) in
     entries_of_rows B (with_entries es old) B.fields
-        (put_all es old ∙ (λ i. put_rows field_cmp (told i) (before i)) ∙ ap (λ (c : Content). c.fields) put)
+    (put_all es old ∙ (λ i. put_rows field_cmp (told i) (before i)) ∙ ap (λ (c : Content). c.fields) put)
 
 -- the clock of a desk row
 pub clock_told : (B : Ledger) (n : ℕ) (rows : List DeskCells) → rows ≡ desk_row B ∷ []
@@ -193,11 +198,13 @@ off b z e = cc
 -- its value is its start, and nothing is held on it
 pub new_field : (A B : Ledger) (n : Name) (lo hi start : ℕ) → Good A → field_named A n ≡ None → B.moves ≡ A.moves
     → B.orders ≡ A.orders
-    → entry_row (n,
-        record {
-          start = start;
-          quantity = record { lo = lo; hi = hi; value = start; held_to_take = 0; held_to_add = 0 }
-        })
+    → entry_row (
+      n,
+      record {
+        start = start;
+        quantity = record { lo = lo; hi = hi; value = start; held_to_take = 0; held_to_add = 0 };
+      },
+    )
     ≡ field_row B (record { name = n; lo = lo; hi = hi; start = start })
 new_field A B n lo hi start good none same_moves same_orders =
     grind (arith, numbers.0, numbers.1, numbers.2, same_moves, same_orders)

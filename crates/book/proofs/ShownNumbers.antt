@@ -1,7 +1,8 @@
 -- The numbers that a book shows of its fields.
-use Rattle.ledger.proofs.Prelude.{[], ◌+ℤ◌, ◌-ℤ◌, ◌∙◌, ◌∷◌, ◌≡◌, ◌≤ℤ◌, Bool, Contains, Field, Good, Ledger, List, Name,
-    Some, ap, arith, common_steps, false, find, held_to_add, held_to_take, if◌then◌else◌, is_some, option_map, pos,
-    settled, slice_get, slice_get-map, suc, sym, true, true≢false, ℕ}
+use Rattle.ledger.proofs.Prelude.{[], ◌+ℤ◌, ◌-ℤ◌, ◌∙◌, ◌∷◌, ◌≡◌, ◌≤ℤ◌, Bool, Contains, Field, Good, Ledger, List, Name}
+use Rattle.ledger.proofs.Prelude.{Some, ap, arith, common_steps, false, find, held_to_add, held_to_take, if◌then◌else◌}
+use Rattle.ledger.proofs.Prelude.{is_some, option_map, pos, settled, slice_get, slice_get-map, suc, sym, true}
+use Rattle.ledger.proofs.Prelude.{true≢false, ℕ}
 use Rattle.book.proofs.Prelude.{BookView, FieldEntry, Inside, field_of, view_of}
 use Rattle.escrow.specs.declared.limits.TheConstants.{MAX_LEVEL}
 use Rattle.ledger.proofs.Lists.{from_some, each-at}

@@ -1,11 +1,13 @@
 -- Sums on each of the fields: where a field stands among those in order, and what an entry more adds.
-use Rattle.ledger.proofs.Prelude.{Bool, Each, Equal, IsBinarySearchResult, IsNonDecreasingBy, IsNone, IsSearchInRange,
-    IsStrictlySortedBy, Less, List, MatchResult, Name, Ordering, Part, Result, Some, [], add_part, ap, arith,
-    common_steps, false, get_or, if◌then◌else◌, ints, is_lt, is_some, length, map, name_cmp, ordering_index,
-    ordering_reverse, refl, same_name, set, settled_part, subst, suc, sym, take, take_part, tied_itself, true,
-    true≢false, zero, ℕ, ◌+◌, ◌<◌, ◌∙◌, ◌∷◌, ◌≡◌, ◌≤◌}
-use Rattle.book.proofs.Prelude.{FieldEntry, IsField, IsSmall, MoveEntry, Numbers, OrderEntry, added, entry_name,
-    field_of, line_part, lines_numbers, moved_by_move, nothing, numbers_on, only_on, part_of_entry, plus}
+use Rattle.ledger.proofs.Prelude.{Bool, Each, Equal, IsBinarySearchResult, IsNonDecreasingBy, IsNone, IsSearchInRange}
+use Rattle.ledger.proofs.Prelude.{IsStrictlySortedBy, Less, List, MatchResult, Name, Ordering, Part, Result, Some, []}
+use Rattle.ledger.proofs.Prelude.{add_part, ap, arith, common_steps, false, get_or, if◌then◌else◌, ints, is_lt, is_some}
+use Rattle.ledger.proofs.Prelude.{length, map, name_cmp, ordering_index, ordering_reverse, refl, same_name, set}
+use Rattle.ledger.proofs.Prelude.{settled_part, subst, suc, sym, take, take_part, tied_itself, true, true≢false, zero}
+use Rattle.ledger.proofs.Prelude.{ℕ, ◌+◌, ◌<◌, ◌∙◌, ◌∷◌, ◌≡◌, ◌≤◌}
+use Rattle.book.proofs.Prelude.{FieldEntry, IsField, IsSmall, MoveEntry, Numbers, OrderEntry, added, entry_name}
+use Rattle.book.proofs.Prelude.{field_of, line_part, lines_numbers, moved_by_move, nothing, numbers_on, only_on}
+use Rattle.book.proofs.Prelude.{part_of_entry, plus}
 use Rattle.ledger.specs.declared.order.Line.{Line}
 use Rattle.ledger.specs.declared.order.State.{State}
 use Rattle.std.proofs.lemmas.List.Sorted.{searchable_from_sorted}
@@ -37,7 +39,7 @@ small-up k m n h s = record {
   take_low = omega (arith, ints);
   take_high = omega (arith, ints);
   add_low = omega (arith, ints);
-  add_high = omega (arith, ints)
+  add_high = omega (arith, ints);
 }
 
 -- the bounds of two add up
@@ -48,7 +50,7 @@ small-plus k m a b s t = record {
   take_low = omega (arith, ints);
   take_high = omega (arith, ints);
   add_low = omega (arith, ints);
-  add_high = omega (arith, ints)
+  add_high = omega (arith, ints);
 }
 
 -- ---- bounds of the sums
@@ -192,21 +194,23 @@ added-at name part (f ∷ fs) (n ∷ ns) zero s long at = λ i. first i ∷ sym 
     after : (g : Name × FieldEntry) → name_cmp (entry_name f) (entry_name g) ≡ Less → same_name (entry_name g) name ≡ false
     after g less =
         subst (λ k. same_name (entry_name g) k ≡ false) (at.named f)
-            (other_name (entry_name f) (entry_name g) (not_less _ less)).1
+        (other_name (entry_name f) (entry_name g) (not_less _ less)).1
 
     more : added (only_on name part) fs ns ≡ ns
     more =
         added-elsewhere name part fs ns
-            (each-imp after fs (each-unmap (λ k. name_cmp (entry_name f) k ≡ Less) (λ e. e.0) fs s.0))
+        (each-imp after fs (each-unmap (λ k. name_cmp (entry_name f) k ≡ Less) (λ e. e.0) fs s.0))
 added-at name part (f ∷ fs) (n ∷ ns) (suc i) s long at =
-    grind (arith,
-        (added-at name part fs ns i s.1 (omega arith) (record { within = omega (arith, at.within); named = at.named })),
-        first)
+    grind (
+      arith,
+      (added-at name part fs ns i s.1 (omega arith) (record { within = omega (arith, at.within); named = at.named })),
+      first,
+    )
   where
     before : name_cmp (entry_name f) name ≡ Less
     before = subst (λ k. name_cmp (entry_name f) k ≡ Less) (at.named f)
         (each_get (λ g. name_cmp (entry_name f) (entry_name g) ≡ Less) fs i f (omega (arith, at.within))
-            (each-unmap (λ k. name_cmp (entry_name f) k ≡ Less) (λ e. e.0) fs s.0))
+        (each-unmap (λ k. name_cmp (entry_name f) k ≡ Less) (λ e. e.0) fs s.0))
 
     first : plus n (only_on name part (entry_name f)) ≡ n
     first = ap (λ b. plus n (if b then part else nothing)) (other_name (entry_name f) name (not_less _ before)).0 ∙ plus-nothing n
@@ -222,7 +226,7 @@ move-step ms i m h e f = grind (arith, (total-step (moved_by_move f) ms i m h e)
 pub line-step : (s : State) (firm : Bool) (ls : List Line) (i : ℕ) (l : Line) → i < length ls → l ≡ get_or ls i l
     → (f : Name)
     → plus (lines_numbers s firm (take i ls) f) (lines_numbers s firm (l ∷ []) f)
-        ≡ lines_numbers s firm (take (i + 1) ls) f
+    ≡ lines_numbers s firm (take (i + 1) ls) f
 line-step s firm ls i l h e f = let one = λ (part : Part). total-step (line_part part s firm f) ls i l h e in
     grind (arith, common_steps, (one settled_part), (one take_part), (one add_part), same-numbers)
 
@@ -230,18 +234,18 @@ line-step s firm ls i l h e f = let one = λ (part : Part). total-step (line_par
 pub order-step : (os : List (ℕ × OrderEntry)) (i : ℕ) (o : ℕ × OrderEntry) → i < length os → o ≡ get_or os i o
     → (f : Name)
     → plus (numbers_on [] (take i os) f) (lines_numbers o.1.state o.1.firm o.1.lines.items f)
-        ≡ numbers_on [] (take (i + 1) os) f
+    ≡ numbers_on [] (take (i + 1) os) f
 order-step os i o h e f = let one = λ (part : Part). total-step (part_of_entry part f) os i o h e in
     grind (arith, (one settled_part), (one take_part), (one add_part), same-numbers)
 
 -- the moves' sums, and then the orders', from nothing
 pub added-all : (ms : List MoveEntry) (os : List (ℕ × OrderEntry)) (fs : List (Name × FieldEntry))
     → added (numbers_on [] os) fs (added (numbers_on ms []) fs (replicate (length fs) nothing))
-        ≡ map (λ f. numbers_on ms os (entry_name f)) fs
+    ≡ map (λ f. numbers_on ms os (entry_name f)) fs
 added-all ms os fs =
     added-twice (numbers_on ms []) (numbers_on [] os) (numbers_on ms os)
-        (λ f. same-numbers _ _ (omega (arith, ints)) (omega (arith, ints)) (omega (arith, ints))) fs
-        (replicate (length fs) nothing) ∙ added-to_nothing (numbers_on ms os) fs
+    (λ f. same-numbers _ _ (omega (arith, ints)) (omega (arith, ints)) (omega (arith, ints))) fs
+    (replicate (length fs) nothing) ∙ added-to_nothing (numbers_on ms os) fs
 
 -- nothing is small
 pub small-nothing : (n : ℕ) → Each (IsSmall 0) (replicate n nothing)

@@ -1,6 +1,6 @@
 -- The spellings of commands are in ASCII.
-use Rattle.ledger.proofs.Prelude.{Command, Each, IsInRange, IsOpenLine, IsUtf8, List, OpenLine, Way, [], arith, decimal,
-    recursion_from_All, spelling, ℕ, ◌<◌, ◌∷◌, ◌≤◌}
+use Rattle.ledger.proofs.Prelude.{Command, Each, IsInRange, IsOpenLine, IsUtf8, List, OpenLine, Way, [], arith, decimal}
+use Rattle.ledger.proofs.Prelude.{recursion_from_All, spelling, ℕ, ◌<◌, ◌∷◌, ◌≤◌}
 use Rattle.std.proofs.lemmas.Fmt.{IsAscii-decimal}
 use Rattle.std.proofs.lemmas.Str.{IsAscii-append, IsUtf8-from_ascii}
 use Rattle.std.proofs.lemmas.Str.Ascii.{IsAscii-nil}
@@ -22,7 +22,7 @@ spaced_ascii [] h = IsAscii-nil
 spaced_ascii (w ∷ []) h = h.0
 spaced_ascii (w ∷ v ∷ ws) h =
     IsAscii-append w (32 ∷ spaced (v ∷ ws)) h.0
-        (ascii_cons 32 (spaced (v ∷ ws)) (omega arith) (spaced_ascii (v ∷ ws) h.1))
+    (ascii_cons 32 (spaced (v ∷ ws)) (omega arith) (spaced_ascii (v ∷ ws) h.1))
 
 way_ascii : (way : Way) → IsAscii (way_word way)
 way_ascii b = grind arith

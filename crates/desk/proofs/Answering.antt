@@ -27,7 +27,7 @@ module _ {Q A : Type 0} (L : Language Q A) where
   pub last_answer : (questions : List Q) (kinds : List AnswerKind) (xs : List A) (x : A) (old new : Snapshot)
       → AreAnswers L old questions kinds (xs ++ x ∷ []) new
       → (before : List Q) × (last : Q) × (more : List AnswerKind) × (kind : AnswerKind) × (mid : Snapshot)
-          × (questions ≡ before ++ last ∷ []) × AreAnswers L old before more xs mid × L.answers mid last kind x new
+      × (questions ≡ before ++ last ∷ []) × AreAnswers L old before more xs mid × L.answers mid last kind x new
   last_answer [] [] [] x old new h = absurd h
   last_answer [] [] (y ∷ xs) x old new h = absurd h
   last_answer [] (kind ∷ kinds) xs x old new h = absurd h

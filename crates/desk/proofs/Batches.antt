@@ -1,6 +1,7 @@
 -- Batches: how they are made, and that they come again.
-use Rattle.std.proofs.Common.{◌≡◌, ◌≢◌, ◌∙◌, ◌+◌, ◌-◌, ◌<◌, ◌≤◌, ◌++◌, ◌⊎◌, Bool, false, true, true≢false, ℕ, List, [],
-    ◌∷◌, ap, append-nil, append_assoc, arith, drop, inl, inr, length, refl, subst, sym, take, Err, Ok, Result}
+use Rattle.std.proofs.Common.{◌≡◌, ◌≢◌, ◌∙◌, ◌+◌, ◌-◌, ◌<◌, ◌≤◌, ◌++◌, ◌⊎◌, Bool, false, true, true≢false, ℕ, List, []}
+use Rattle.std.proofs.Common.{◌∷◌, ap, append-nil, append_assoc, arith, drop, inl, inr, length, refl, subst, sym, take}
+use Rattle.std.proofs.Common.{Err, Ok, Result}
 use Rattle.std.proofs.lemmas.Bool.{eqb-true}
 use Rattle.std.proofs.lemmas.List.{length-append, length-drop, map-append}
 use Rattle.std.proofs.Math.Seq.{take-add, take-length}
@@ -106,7 +107,7 @@ batch_new A batch good none no_text no_rows going = record {
     replies_are = none;
     done = refl;
     all_done = tt;
-    rest = refl
+    rest = refl;
   };
   rows = λ C is. subst (λ (cs : List Change). IsRowsOf A (with_changes cs C)) (sym no_rows) is;
   desk = subst (λ (cs : List Change). All IsTheRow (rows_among cs).desk) (sym no_rows) (All-from_recursion IsTheRow [] tt);
@@ -192,7 +193,7 @@ module _ (A M B : Ledger) (rs : List Request) (r : Request) (old new : Batch) (s
         (h.rows (with_changes old.changes.items C) (so_far.rows C is));
     desk = subst (λ (cs : List Change). All IsTheRow (rows_among cs).desk) (sym h.changes)
         (subst (λ (rows : List DeskCells). All IsTheRow rows) (sym (desk_joined old.changes.items h.more))
-            (All-append IsTheRow (rows_among old.changes.items).desk (rows_among h.more).desk so_far.desk h.desk));
+        (All-append IsTheRow (rows_among old.changes.items).desk (rows_among h.more).desk so_far.desk h.desk));
     all_done = all_more;
     some = λ _.
         let size = ap (λ (ps : List Reply). length ps) h.replies ∙ length-append old.run.replies.items (h.reply ∷ []) in
@@ -204,7 +205,7 @@ module _ (A M B : Ledger) (rs : List Request) (r : Request) (old new : Batch) (s
     accepted = accepted_more;
     lines =
         subst (λ (out : List ℕ). RepliesAll A (items_of (rs ++ r ∷ [])) out B) (sym h.line)
-            (lines_on A M B rs r h.reply old.run.lines.items so_far.lines h.answer);
+        (lines_on A M B rs r h.reply old.run.lines.items so_far.lines h.answer);
     short =
         let size = ap (λ (ps : List Reply). length ps) h.replies ∙ length-append old.run.replies.items (h.reply ∷ []) in
         omega (arith, size, so_far.short, h.short);
@@ -248,16 +249,16 @@ joined_accepted A B plan rows old new good key range fits are is_next good_then 
   line = line;
   answer =
       subst (λ L. Answers A plan.request (Done plan.place) L) (sym is_next)
-          (subst (λ p. Answers A plan.request (Done p) (accept A plan.request)) (sym fits.place)
-              (accepted_answered A plan.request fits.accepted));
+      (subst (λ p. Answers A plan.request (Done p) (accept A plan.request)) (sym fits.place)
+      (accepted_answered A plan.request fits.accepted));
   more = rows;
   changes = changes;
   rows = λ C is. subst (λ L. IsRowsOf L (with_changes rows C)) (sym is_next)
       (subst (λ some. IsRowsOf (accept A plan.request) (put_content some C)) (sym are)
-          (next_rows A plan C good key range fits is));
+      (next_rows A plan C good key range fits is));
   desk = subst (λ (some : Content). All IsTheRow some.desk) (sym are)
       (subst (λ (some : List DeskCells). All IsTheRow some) (sym fits.changes.desk)
-          (All-from_recursion IsTheRow (desk_row (accept A plan.request) ∷ []) ((refl, refl), tt)));
+      (All-from_recursion IsTheRow (desk_row (accept A plan.request) ∷ []) ((refl, refl), tt)));
   done = λ _. ((plan.place, refl), had);
   nothing = λ refused. absurd (true≢false (sym refused ∙ has));
   accepted = inl fits.accepted;
@@ -270,7 +271,7 @@ joined_accepted A B plan rows old new good key range fits are is_next good_then 
 pub batch_runs : (A B : Ledger) (rs : List Request) (ps : List Reply) → IsBatch A rs ps B → Runs A rs ps B
 batch_runs A B rs ps h = subst (λ (xs : List Request). Runs A xs ps B) (sym h.requests_are)
     (subst (λ (qs : List Reply). Runs A (h.first ++ h.behind) qs B) (sym h.replies_are)
-        (runs_joined A B B h.first h.behind h.told h.refused h.done h.rest))
+    (runs_joined A B B h.first h.behind h.told h.refused h.done h.rest))
 
 module _ (A B : Ledger) (rs : List Request) (batch : Batch) (ps : List Reply)
     (so_far : BatchSoFar A (take (length batch.run.replies.items) rs) batch B) (same : ps ≡ batch.run.replies.items) where
@@ -280,7 +281,7 @@ module _ (A B : Ledger) (rs : List Request) (batch : Batch) (ps : List Reply)
   pub lines_told : (out : List ℕ) → out ≡ batch.run.lines.items → RepliesAll A (items_of (take (length ps) rs)) out B
   lines_told out are = subst (λ (qs : List Reply). RepliesAll A (items_of (take (length qs) rs)) out B) (sym same)
       (subst (λ (text : List ℕ). RepliesAll A (items_of (take (length batch.run.replies.items) rs)) text B) (sym are)
-          so_far.lines)
+      so_far.lines)
 
 one_at_least : (ps : List Reply) → ps ≢ [] → 1 ≤ length ps
 one_at_least [] some = absurd (some refl)
@@ -309,7 +310,7 @@ batch_fails old new holds rs batch changes so_far few good are some stored eithe
     are_before = s.are_rows;
     are_after =
         subst (λ (cs : List Change). IsRowsOf new.ledger (with_changes cs s.rows)) (sym are)
-            (so_far.rows s.rows s.are_rows);
+        (so_far.rows s.rows s.are_rows);
     either = either honest s.rows s.held s.alone;
   };
 }
@@ -330,7 +331,7 @@ stored_still A B rs batch holds leaves so_far none stored = record {
   rows = stored.rows;
   are_rows =
       subst (λ (cs : List Change). IsRowsOf B (with_changes cs stored.rows)) none
-          (so_far.rows stored.rows stored.are_rows);
+      (so_far.rows stored.rows stored.are_rows);
   held = stored.held;
   alone = stored.alone;
 }
@@ -345,7 +346,7 @@ stored_batch A B rs batch changes holds holds_new old new so_far are stored put 
   rows = with_changes changes stored.rows;
   are_rows =
       subst (λ (cs : List Change). IsRowsOf B (with_changes cs stored.rows)) (sym are)
-          (so_far.rows stored.rows stored.are_rows);
+      (so_far.rows stored.rows stored.are_rows);
   held = put stored.rows stored.held;
   alone = alone (with_changes changes stored.rows) (put stored.rows stored.held);
 }
@@ -379,13 +380,13 @@ module _ {K : Type 0} (g : Ghosts K) (old mid new : K) (none : List Change) (emp
   -- a stop leaves what the second alone would leave
   pub left_between : {S T : Type 0}
       (widens : (these those : List Content) → ((x : Content) → IsAmong these x → IsAmong those x) → g.leaves mid these
-          → g.leaves mid those)
+      → g.leaves mid those)
       (all : List Change) (first : Result S KeepFault) (second : Result T KeepFault)
       → GoesOn g.stopped old mid first → GoesOn g.stopped mid new second → OnOk first Puts
       → OnOk first ((x : Content) → g.holds mid x → g.leaves mid (x ∷ []))
       → ((x : Content) → g.holds old x → g.leaves old (x ∷ []) → g.leaves mid (x ∷ with_changes none x ∷ []))
       → (g.stopped mid ≡ false → (x : Content) → g.holds mid x → g.leaves mid (x ∷ [])
-          → g.leaves new (x ∷ with_changes all x ∷ []))
+      → g.leaves new (x ∷ with_changes all x ∷ []))
       → (x : Content) → g.holds old x → g.leaves old (x ∷ []) → g.leaves new (x ∷ with_changes all x ∷ [])
   left_between widens all (Ok done) second began went puts alone either then x there only =
       let held = kept_by puts x there in then began.ok x held (alone x held)
@@ -417,12 +418,12 @@ lines_further : (A M B : Ledger) (rs : List Request) (n : ℕ) (ps qs all : List
 lines_further A M B rs n ps qs all text more is told same then =
     let size : length all ≡ length ps + length qs = ap (λ (xs : List Reply). length xs) same ∙ length-append ps qs in
     let split : items_of (take (length all) rs)
-        ≡ items_of (take (length ps) rs) ++ items_of (take (length qs) (drop (length ps) rs)) =
+    ≡ items_of (take (length ps) rs) ++ items_of (take (length qs) (drop (length ps) rs)) =
     ap (λ i. items_of (take i rs)) size ∙ ap items_of (take-add (length ps) (length qs) rs)
     ∙ map-append (λ x. item.Request x) (take (length ps) rs) (take (length qs) (drop (length ps) rs)) in
     subst (λ (xs : List Item). RepliesAll A xs (text ++ more) B) (sym split)
     (replies_joined (items_of (take (length ps) rs)) (items_of (take (length qs) (drop (length ps) rs))) A M B text more
-        told (subst (λ i. RepliesAll M (items_of (take (length qs) (drop i rs))) more B) is then))
+    told (subst (λ i. RepliesAll M (items_of (take (length qs) (drop i rs))) more B) is then))
 
 pub no_lines : (A : Ledger) (rs : List Request) (ps : List Reply) (out : List ℕ) → ps ≡ [] → out ≡ []
     → RepliesAll A (items_of (take (length ps) rs)) out A
@@ -447,7 +448,7 @@ pub told_so_far : (A M B : Ledger) (rs : List Request) (n : ℕ) (ps qs all : Li
     (ending : Ending) → n ≡ length ps → Tells A rs ps text M → all ≡ ps ++ qs → out ≡ text ++ more
     → (ending ≢ Stopped → Tells M (drop n rs) qs more B) → (ending ≡ Stopped → (qs ≡ []) × (more ≡ []))
     → (mid : Ledger) × Runs A (take (length all) rs) all mid × (ending ≢ Stopped → B ≡ mid)
-        × RepliesAll A (items_of (take (length all) rs)) out mid
+    × RepliesAll A (items_of (take (length all) rs)) out mid
 told_so_far A M B rs n ps qs all text more out AllAnswered is so_far same are kept none =
     let tells = tells_further A M B rs n ps qs all text more out is so_far same are (kept (λ e. cc)) in
     (B, tells.0, (λ _. refl), tells.1)
@@ -476,7 +477,7 @@ pub batch_tells : (M B : Ledger) (rs : List Request) (n : ℕ) (qs : List Reply)
     → Tells M (drop n rs) qs more B
 batch_tells M B rs n qs more batch lines =
     subst (λ (xs : List Request). Tells M xs qs more B) (slice_is rs n)
-        (batch_runs M B (take (length qs) (take (length rs - n) (drop n rs))) qs batch, lines)
+    (batch_runs M B (take (length qs) (take (length rs - n) (drop n rs))) qs batch, lines)
 
 -- ---- the batches behind it
 

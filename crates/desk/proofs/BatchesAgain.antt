@@ -1,7 +1,7 @@
 -- What is kept under a key stays so: a batch that comes again is answered the same, and changes nothing.
-use Rattle.std.proofs.Common.{◌≡◌, ◌∙◌, ◌+◌, ◌-◌, ◌≤◌, ◌⊎◌, Bool, List, [], ◌∷◌, ◌++◌, ℕ, Option, Some, None,
-    MatchOption, ap, arith, drop, false, find, if◌then◌else◌, inl, inr, is_some, length, refl, subst, sym, take,
-    take-append-drop, true, true≢false}
+use Rattle.std.proofs.Common.{◌≡◌, ◌∙◌, ◌+◌, ◌-◌, ◌≤◌, ◌⊎◌, Bool, List, [], ◌∷◌, ◌++◌, ℕ, Option, Some, None}
+use Rattle.std.proofs.Common.{MatchOption, ap, arith, drop, false, find, if◌then◌else◌, inl, inr, is_some, length, refl}
+use Rattle.std.proofs.Common.{subst, sym, take, take-append-drop, true, true≢false}
 use lib.Pointwise.{bytes_decides}
 use Rattle.std.specs.List.{AllByRecursion as Each}
 use Rattle.std.specs.Cmp.Lexicographic.{slice_cmp}
@@ -48,14 +48,14 @@ kept_stays A B r reply k e h there = by_key (kept_under A r.key) refl h
   where
     by_key : (o : Option Kept) → kept_under A r.key ≡ o
         → MatchOption o (AnswersNew A r reply B)
-            (λ k. (reply ≡ (if same_command k.command r.command then Done k.place else Refused KeyReused 0)) × (B ≡ A))
+        (λ k. (reply ≡ (if same_command k.command r.command then Done k.place else Refused KeyReused 0)) × (B ≡ A))
         → kept_under B k ≡ Some e
     by_key (Some other) is (told, same) = subst (λ L. kept_under L k ≡ Some e) (sym same) there
     by_key None is (Some f, failed, left) = subst (λ L. kept_under L k ≡ Some e) (sym left.1) there
     by_key None is (None, passed, left) = subst (λ L. kept_under L k ≡ Some e) (sym left.1)
         (find_past (λ (x : Kept). bytes_eq x.key k) (λ a b. is_lt (slice_cmp nat_cmp a.key b.key))
-            (record { key = r.key; place = places A + 1; command = r.command }) A.kept (other_key A r.key k e is there)
-            ∙ there)
+        (record { key = r.key; place = places A + 1; command = r.command }) A.kept (other_key A r.key k e is there)
+        ∙ there)
 
 -- what is done is kept
 done_kept : (A B : Ledger) (r : Request) (p : ℕ) → Answers A r (Done p) B
@@ -70,7 +70,7 @@ done_kept A B r p h = by_key (kept_under A r.key) refl h
 
     by_key : (o : Option Kept) → kept_under A r.key ≡ o
         → MatchOption o (AnswersNew A r (Done p) B)
-            (λ k. (Done p ≡ (if same_command k.command r.command then Done k.place else Refused KeyReused 0)) × (B ≡ A))
+        (λ k. (Done p ≡ (if same_command k.command r.command then Done k.place else Refused KeyReused 0)) × (B ≡ A))
         → (e : Kept) × (kept_under B r.key ≡ Some e) × (same_command e.command r.command ≡ true) × (e.place ≡ p)
     by_key (Some k) e (is, same) =
         let t = told k (same_command k.command r.command) refl is in
@@ -105,7 +105,7 @@ done_again A B C (r ∷ rs) [] h done keeps = absurd h
 done_again A B C (r ∷ rs) (p ∷ ps) (L, first, rest) ((place, is), more) keeps =
     let (e, there, same, at) = done_kept A L r place (subst (λ q. Answers A r q L) is first) in
     let again : Answers C r (Done place) C =
-        kept_again C r place e (keeps r.key e (runs_keep L B rs ps r.key e rest there)) same at in
+    kept_again C r place e (keeps r.key e (runs_keep L B rs ps r.key e rest there)) same at in
     (C, subst (λ q. Answers C r q C) (sym is) again, done_again L B C rs ps rest more keeps)
 
 pub batch_again : (A B : Ledger) (rs : List Request) (ps : List Reply) → IsBatch A rs ps B → Runs B rs ps B
@@ -113,22 +113,22 @@ batch_again A B rs ps h =
     let first = done_again A B B h.first h.told h.done h.all_done (λ k e there. there) in
     subst (λ (xs : List Request). Runs B xs ps B) (sym h.requests_are)
     (subst (λ (qs : List Reply). Runs B (h.first ++ h.behind) qs B) (sym h.replies_are)
-        (runs_joined B B B h.first h.behind h.told h.refused first h.rest))
+    (runs_joined B B B h.first h.behind h.told h.refused first h.rest))
 
 -- who stands behind a batch gets what one who stands before it gets
 batch_resumed : (A B last : Ledger) (rs : List Request) (n : ℕ) (told ps : List Reply) → IsBatch A (take n rs) told B
     → Runs B rs ps last → Runs A rs ps last
 batch_resumed A B last rs n told ps batch run =
     let parts =
-        runs_split B last (take n rs) (drop n rs) ps
-            (subst (λ (xs : List Request). Runs B xs ps last) (sym (take-append-drop n rs)) run) in
+    runs_split B last (take n rs) (drop n rs) ps
+    (subst (λ (xs : List Request). Runs B xs ps last) (sym (take-append-drop n rs)) run) in
     let same = runs_once B (take n rs) _ told parts.0 B parts.1 (batch_again A B (take n rs) told batch) in
     let front : Runs A (take n rs) (take (length (take n rs)) ps) B =
-        subst (λ (qs : List Reply). Runs A (take n rs) qs B) (sym same.0) (batch_runs A B (take n rs) told batch) in
+    subst (λ (qs : List Reply). Runs A (take n rs) qs B) (sym same.0) (batch_runs A B (take n rs) told batch) in
     subst (λ (xs : List Request). Runs A xs ps last) (take-append-drop n rs)
     (subst (λ (qs : List Reply). Runs A (take n rs ++ drop n rs) qs last) (take-append-drop (length (take n rs)) ps)
     (runs_joined A B last (take n rs) (drop n rs) _ _ front
-        (subst (λ L. Runs L (drop n rs) (drop (length (take n rs)) ps) last) same.1 parts.2)))
+    (subst (λ L. Runs L (drop n rs) (drop (length (take n rs)) ps) last) same.1 parts.2)))
 
 -- ---- where a run may be resumed that was cut by a failing commit
 
@@ -140,9 +140,15 @@ pub fails_within : (A mid B : Ledger) (rs : List Request) (ps untold : List Repl
     → ResumableWithin A rs (length ps + 1) mid × ResumableWithin A rs (length ps + 1) B
 fails_within A mid B rs ps untold count run batch = (
   (mid, before, inl refl),
-  (mid, before,
-      inr (count, untold,
-          subst (λ i. IsBatch mid (take count (drop i rs)) untold B) (sym (one_less (length ps))) batch)),
+  (
+    mid,
+    before,
+    inr (
+      count,
+      untold,
+      subst (λ i. IsBatch mid (take count (drop i rs)) untold B) (sym (one_less (length ps))) batch,
+    ),
+  ),
 )
   where
     before : After A rs (length ps + 1 - 1) mid
@@ -153,7 +159,7 @@ pub resumed_within : (A B last : Ledger) (rs : List Request) (k : ℕ) (ps : Lis
     → (before : List Reply) × (length before + 1 ≡ k) × Runs A rs (before ++ ps) last
 resumed_within A B last rs k ps one le (M, (before, first), stands) run =
     let size : length before ≡ k - 1 =
-        runs_length A M (take (k - 1) rs) before first ∙ length-take-le (k - 1) rs (omega arith) in (
+    runs_length A M (take (k - 1) rs) before first ∙ length-take-le (k - 1) rs (omega arith) in (
       before,
       omega (arith, size),
       subst (λ (xs : List Request). Runs A xs (before ++ ps) last) (take-append-drop (k - 1) rs)

@@ -1,6 +1,6 @@
 -- How what is answered in a dialogue goes on, and how it ends.
-use Rattle.std.proofs.Common.{◌≡◌, ◌≢◌, ◌≤◌, ◌∙◌, ◌+◌, Bool, true, false, true≢false, ℕ, List, [], ◌∷◌, ◌++◌, Option,
-    ap, append-nil, append_assoc, arith, inl, inr, length, refl, subst, sym}
+use Rattle.std.proofs.Common.{◌≡◌, ◌≢◌, ◌≤◌, ◌∙◌, ◌+◌, Bool, true, false, true≢false, ℕ, List, [], ◌∷◌, ◌++◌, Option}
+use Rattle.std.proofs.Common.{ap, append-nil, append_assoc, arith, inl, inr, length, refl, subst, sym}
 use Rattle.std.specs.Io.KnownBytes.{Appends, Consumes, IsAtEnd, Keeps}
 use Rattle.std.proofs.KnownBytes.{Appends-nil, Appends-trans, Consumes-kept, Consumes-nil, Consumes-trans}
 use Rattle.std.proofs.lemmas.List.{length-append}
@@ -8,9 +8,9 @@ use Rattle.ledger.specs.Answers.{IsAccepted}
 use Rattle.ledger.specs.Ledger.{Ledger}
 use Rattle.ledger.specs.Next.{accept}
 use Rattle.desk.specs.Desk.{DeskState, LeavesEither, Snapshot, snapshot}
-use Rattle.desk.specs.Dialogue.{AlmostWritten, AnswerKind, Answered, AnswersOne, AreAnswers, Begins, BeginsTranscript,
-    EndsCut, EndsUntaken, EndsWhole, FailsOne, IsCut, IsNoStop, IsStoppedBy, Language, StopsDesk, is_end, longest_piece,
-    most, no_memory, ordinary, stopping, text_of}
+use Rattle.desk.specs.Dialogue.{AlmostWritten, AnswerKind, Answered, AnswersOne, AreAnswers, Begins, BeginsTranscript}
+use Rattle.desk.specs.Dialogue.{EndsCut, EndsUntaken, EndsWhole, FailsOne, IsCut, IsNoStop, IsStoppedBy, Language}
+use Rattle.desk.specs.Dialogue.{StopsDesk, is_end, longest_piece, most, no_memory, ordinary, stopping, text_of}
 use Rattle.desk.specs.Script.{Writes}
 use Rattle.desk.specs.Streams.{Streams, streams}
 use Rattle.desk.specs.declared.fault.CallFault.{CallFault}
@@ -80,7 +80,7 @@ module _ {Q A : Type 0} (L : Language Q A) where
           left = left;
           split = refl;
           cut = sym one.text_is ∙ split;
-          written_are = refl
+          written_are = refl;
         });
     told = λ other. absurd (other is);
     same = refl;
@@ -114,7 +114,7 @@ module _ {Q A : Type 0} (L : Language Q A) where
       → IsCut L told old (question ∷ []) [] new
   cut_failed CallFault.Memory told old new question (same, still, asked) memory stopped =
       subst (λ (f : ScriptFault). IsCut L f old (question ∷ []) [] new) (sym (memory refl))
-          (cut_unanswered ScriptFault.Memory old new (question ∷ []) memory_stops_nothing same still)
+      (cut_unanswered ScriptFault.Memory old new (question ∷ []) memory_stops_nothing same still)
   cut_failed CallFault.Stopped told old new question (request, calls, same, halted, call) memory stopped = record {
     answered = [];
     left = question ∷ [];
@@ -148,7 +148,7 @@ module _ {Q A : Type 0} (L : Language Q A) where
     went : new.is_stopped ≡ false → mid.is_stopped ≡ false
     went going =
         is_going mid.is_stopped
-            (λ halted. true≢false (sym (ap (λ (d : DeskState). d.is_stopped) (untouched halted) ∙ halted) ∙ going))
+        (λ halted. true≢false (sym (ap (λ (d : DeskState). d.is_stopped) (untouched halted) ∙ halted) ∙ going))
 
     -- it was stopped then, or only behind it
     stopped_by : (others : List Q) (more : List AnswerKind)
@@ -160,15 +160,15 @@ module _ {Q A : Type 0} (L : Language Q A) where
         by true then =
             let same = untouched then in
             let s =
-                subst (λ (d : DeskState). StopsDesk L d before done.kinds) (sym same)
-                    (done.stops began then (subst (λ (d : DeskState). d.is_honest) same honest)) in
+            subst (λ (d : DeskState). StopsDesk L d before done.kinds) (sym same)
+            (done.stops began then (subst (λ (d : DeskState). d.is_honest) same honest)) in
             record {
               request = s.request;
               first =
                   first_on L before others done.kinds more done.answers (snapshot old) (snapshot mid) s.request
-                      done.are_answers s.first;
+                  done.are_answers s.first;
               accepted = s.accepted;
-              either = s.either
+              either = s.either;
             }
         by false then =
             let s = stops then halted honest in
@@ -176,9 +176,9 @@ module _ {Q A : Type 0} (L : Language Q A) where
               request = s.request;
               first =
                   first_behind L before others done.kinds more done.answers (snapshot old) (snapshot mid) s.request
-                      done.are_answers (done.none_stopped then) s.first;
+                  done.are_answers (done.none_stopped then) s.first;
               accepted = s.accepted;
-              either = s.either
+              either = s.either;
             }
 
     pub answered_on : (others : List Q) (w : Option (List ℕ)) → Answered L mid others new v w
@@ -188,10 +188,10 @@ module _ {Q A : Type 0} (L : Language Q A) where
       answers = done.answers ++ more.answers;
       are_answers =
           answers_on L before others done.kinds more.kinds done.answers more.answers (snapshot old) (snapshot mid)
-              (snapshot new) done.are_answers more.are_answers;
+          (snapshot new) done.are_answers more.are_answers;
       writes =
           subst (λ (t : List ℕ). Appends W w t) (sym (text_on L done.answers more.answers))
-              (Appends-trans _ _ _ _ _ done.writes more.writes);
+          (Appends-trans _ _ _ _ _ done.writes more.writes);
       none_stopped = λ going. each_both L done.kinds more.kinds (done.none_stopped (went going)) (more.none_stopped going);
       stops = stopped_by others more.kinds more.stops;
     }
@@ -207,7 +207,7 @@ module _ {Q A : Type 0} (L : Language Q A) where
       split = ap (λ (xs : List Q). before ++ xs) cut.split ∙ sym (append_assoc before cut.answered cut.left);
       are_answers =
           answers_on L before cut.answered done.kinds cut.kinds done.answers cut.answers (snapshot old) (snapshot mid)
-              cut.behind done.are_answers cut.are_answers;
+          cut.behind done.are_answers cut.are_answers;
       almost = almost cut.almost;
       told = λ other.
           ap (λ (t : List ℕ). text_of L done.answers ++ t) (cut.told other) ∙ sym (text_on L done.answers cut.answers);
@@ -290,7 +290,7 @@ module _ {Q A : Type 0} (L : Language Q A) where
           request = s.request;
           first = first_wider L questions others cut.kinds s.request s.first;
           accepted = s.accepted;
-          either = s.either
+          either = s.either;
         };
   }
 
@@ -318,7 +318,7 @@ module _ {Q A : Type 0} (L : Language Q A) where
     reads = Consumes-nil R;
     done = answered_none desk W;
     come = come;
-    settled = settled
+    settled = settled;
   }
 
   pub first_counted : (desk : DeskState) (R W : Option (List ℕ)) (Stands : List ℕ → List Q → Type 0) → L.have_come [] []
@@ -360,7 +360,7 @@ module _ {Q A : Type 0} (L : Language Q A) where
                   request = s.request;
                   first = first_wider L at.questions others at.done.kinds s.request s.first;
                   accepted = s.accepted;
-                  either = s.either
+                  either = s.either;
                 };
           };
           settled = λ behind ended. subst (λ (input : List ℕ). Begins L input at.questions)
@@ -410,7 +410,7 @@ module _ {Q A : Type 0} (L : Language Q A) where
         → length piece ≤ longest_piece → Consumes r s piece → EndsCut L fault old mid (streams R s W w)
     ends_untaken fault piece s is short more =
         ends_still fault piece s (λ e. memory_stops_nothing (sym is ∙ e)) short more
-            (λ e. absurd (memory_reads_nothing (sym is ∙ e)))
+        (λ e. absurd (memory_reads_nothing (sym is ∙ e)))
       where
         memory_reads_nothing : ScriptFault.Memory ≢ ScriptFault.Read
         memory_reads_nothing e = cc e
@@ -420,7 +420,7 @@ module _ {Q A : Type 0} (L : Language Q A) where
       -- the answers behind a piece are cut
       pub ends_within : (fault : ScriptFault) → fault ≢ ScriptFault.Read → length piece ≤ longest_piece
           → ((behind : List ℕ) → (IsAtEnd s → behind ≡ [])
-              → Begins L ((at.read ++ piece) ++ behind) (at.questions ++ others))
+          → Begins L ((at.read ++ piece) ++ behind) (at.questions ++ others))
           → Writes w v (λ written. IsCut L fault mid others written new) → EndsCut L fault old new (streams R s W v)
       unfolding cut_wider cut_on
       ends_within fault other short settled (written, writes, cut) =
@@ -435,7 +435,7 @@ module _ {Q A : Type 0} (L : Language Q A) where
             are_questions = subst (λ (input : List ℕ). L.are_questions input ((at.questions ++ others) ++ unasked)) same are;
             cut =
                 cut_wider fault old new (at.questions ++ others) unasked (text_of L at.done.answers ++ written)
-                    (cut_on old mid new at.questions W w at.done untouched fault others written cut);
+                (cut_on old mid new at.questions W w at.done untouched fault others written cut);
             settled = λ behind ended.
                 let (last, begins) = settled behind ended in
                 let split : (at.questions ++ others) ++ last ≡ (at.questions ++ cut.answered) ++ (cut.left ++ last) =
@@ -478,7 +478,7 @@ module _ {Q A : Type 0} (L : Language Q A) where
         pub ends_whole : (has_ended : Bool) → (has_ended ≡ true → IsAtEnd s)
             → L.are_questions (at.read ++ piece) (at.questions ++ others) → L.ends has_ended (at.questions ++ others)
             → ((behind : List ℕ) → (has_ended ≡ true → behind ≡ [])
-                → Begins L ((at.read ++ piece) ++ behind) (at.questions ++ others))
+            → Begins L ((at.read ++ piece) ++ behind) (at.questions ++ others))
             → EndsWhole L old new (streams R s W v)
         ends_whole has_ended at_end are ends settled =
             let all = answered_on old mid new at.questions W w at.done untouched others v done in
@@ -503,15 +503,17 @@ module _ {Q A : Type 0} (L : Language Q A) where
             → (has_ended ≡ true → IsAtEnd s) → L.are_questions (at.read ++ piece) (at.questions ++ others)
             → L.ends has_ended (at.questions ++ others)
             → ((behind : List ℕ) → (has_ended ≡ true → behind ≡ [])
-                → Begins L ((at.read ++ piece) ++ behind) (at.questions ++ others))
+            → Begins L ((at.read ++ piece) ++ behind) (at.questions ++ others))
             → Stands (at.read ++ piece) has_ended (at.questions ++ others)
             → before ≡ most (length at.done.answers) → ((n : ℕ) → before ≡ most n → count ≡ most (n + length done.answers))
             → (whole : EndsWhole L old new (streams R s W v)) × (count ≡ most (length whole.answers))
-                × Stands whole.read whole.has_ended whole.questions
+            × Stands whole.read whole.has_ended whole.questions
         unfolding ends_whole answered_on
-        ends_counted Stands before count has_ended at_end are ends settled stands was counts =
-            (ends_whole has_ended at_end are ends settled,
-                counts _ was ∙ ap most (sym (length-append at.done.answers done.answers)), stands)
+        ends_counted Stands before count has_ended at_end are ends settled stands was counts = (
+          ends_whole has_ended at_end are ends settled,
+          counts _ was ∙ ap most (sym (length-append at.done.answers done.answers)),
+          stands,
+        )
 
         pub counted_behind : (Stands : List ℕ → Bool → List Q → Type 0) (before count : ℕ) (ended : Bool)
             → ended ≡ false → L.have_come (at.read ++ piece) (at.questions ++ others)
@@ -520,10 +522,11 @@ module _ {Q A : Type 0} (L : Language Q A) where
             → ((n : ℕ) → before ≡ most n → count ≡ most (n + length done.answers))
             → InDialogue old (streams R s W v) new (λ read questions. Stands read false questions) count
         unfolding conversed_on answered_on
-        counted_behind Stands before count ended still come settled stands was counts =
-            (conversed_on come settled,
-                subst (λ (b : Bool). Stands (at.read ++ piece) b (at.questions ++ others)) still stands,
-                counts _ was ∙ ap most (sym (length-append at.done.answers done.answers)))
+        counted_behind Stands before count ended still come settled stands was counts = (
+          conversed_on come settled,
+          subst (λ (b : Bool). Stands (at.read ++ piece) b (at.questions ++ others)) still stands,
+          counts _ was ∙ ap most (sym (length-append at.done.answers done.answers)),
+        )
 
 module _ {Q A : Type 0} (L : Language Q A) where
   -- what was written goes on, where what is left has answers
@@ -552,7 +555,7 @@ module _ {Q A : Type 0} (L : Language Q A) where
                   AreAnswers L (snapshot old) qs (ends.cut.kinds ++ kinds) (ends.cut.answers ++ ys) last)
                   (sym ends.cut.split)
                   (answers_on L ends.cut.answered ends.cut.left ends.cut.kinds kinds ends.cut.answers ys (snapshot old)
-                      ends.cut.behind last ends.cut.are_answers more);
+                  ends.cut.behind last ends.cut.are_answers more);
               out_is =
                   sym (append_assoc ends.written rest (text_of L ys))
                   ∙ ap (λ (t : List ℕ). t ++ text_of L ys) (sym whole) ∙ sym (text_on L ends.cut.answers ys);
@@ -565,7 +568,7 @@ module _ {Q A : Type 0} (L : Language Q A) where
           goes (inr l) = (
             l.left,
             ap (text_of L) l.split ∙ text_on L l.before (l.last ∷ [])
-            ∙ ap (λ (t : List ℕ). text_of L l.before ++ t) (append-nil (L.text l.last) ∙ l.cut)
+                ∙ ap (λ (t : List ℕ). text_of L l.before ++ t) (append-nil (L.text l.last) ∙ l.cut)
                 ∙ sym (append_assoc (text_of L l.before) l.begun l.left) ∙ ap (λ (t : List ℕ). t ++ l.left) (sym l.written_are),
           )
 

@@ -1,6 +1,6 @@
 -- What an opening finds after a run, after a script, and after many cuts.
-use Rattle.std.proofs.Common.{◌≡◌, ◌∙◌, ◌⊎◌, ◌<◌, ◌≤◌, ◌+◌, ◌-◌, ◌++◌, ℕ, List, [], ◌∷◌, Option, None, Some, arith,
-    drop, inl, inr, length, refl, subst, sym, take}
+use Rattle.std.proofs.Common.{◌≡◌, ◌∙◌, ◌⊎◌, ◌<◌, ◌≤◌, ◌+◌, ◌-◌, ◌++◌, ℕ, List, [], ◌∷◌, Option, None, Some, arith}
+use Rattle.std.proofs.Common.{drop, inl, inr, length, refl, subst, sym, take}
 use native.Mathlib.Decide.{dec_lt}
 use Rattle.std.specs.Prelude.{◌≢◌, ◌↔◌, IfErr, IfOk, IfSome, Result, Ok, Err}
 use Rattle.std.proofs.lemmas.List.{length-take-le, take-append-drop, take_at}
@@ -87,8 +87,8 @@ pub opened_rows : {K : Type 0} (g : Ghosts K) (keep : K) (r : Result (DeskView K
     → g.is_honest (keeper_after r) → IfOk r (λ desk. ∥ ((x : Content) × IsAmong these x × IsRowsOf desk.ledger x) ∥₁)
 opened_rows g keep (Ok desk) these found opened honest =
     ∥∥₁_map found (λ f.
-        let r : ((x : Content) × IsAmong these x × IsRowsOf desk.ledger x) = (f.0, f.2, opened.rows honest f.0 f.1) in
-        r)
+    let r : ((x : Content) × IsAmong these x × IsRowsOf desk.ledger x) = (f.0, f.2, opened.rows honest f.0 f.1) in
+    r)
 opened_rows g keep (Err e) these found opened honest = tt
 
 -- with good ledgers left, a refusal is for memory or by the store
@@ -136,15 +136,15 @@ module _ {K : Type 0} (Honest : K → Type 0) (leaves : List Content → Type 0)
   pub found_of : (o : Option (Result (DeskView K) (OpenFault × K))) → IfSome o (λ r. Honest (keeper_after r) → Before)
       → (Before → LeavesRowsOf leaves Is)
       → IfSome o (λ r.
-          Honest (keeper_after r) → (these : List Content) → leaves these
-          → IfOk r (λ desk. ∥ ((x : Content) × IsAmong these x × IsRowsOf desk.ledger x) ∥₁))
+      Honest (keeper_after r) → (these : List Content) → leaves these
+      → IfOk r (λ desk. ∥ ((x : Content) × IsAmong these x × IsRowsOf desk.ledger x) ∥₁))
       → IfSome o (λ r. IfOk r (λ desk. Good desk.ledger × Honours desk.ledger × HonoursAlways desk.ledger))
       → IfSome o (λ r. Honest (keeper_after r) → IfOk r (λ desk. ∥ Is desk.ledger ∥₁))
   found_of None before left found good = tt
   found_of (Some r) before left found good =
       λ honest.
-          let those = left (before honest) in
-          opened_one r leaves Is those good (found honest those.these those.leaves_these)
+      let those = left (before honest) in
+      opened_one r leaves Is those good (found honest those.these those.leaves_these)
 
   pub refused_of : (o : Option (Result (DeskView K) (OpenFault × K))) → IfSome o (λ r. Honest (keeper_after r) → Before)
       → (Before → LeavesRowsOf leaves Is)
@@ -156,14 +156,14 @@ module _ {K : Type 0} (Honest : K → Type 0) (leaves : List Content → Type 0)
   pub left_of : (after : K → List Content → Type 0) (o : Option (Result (DeskView K) (OpenFault × K)))
       → IfSome o (λ r. Honest (keeper_after r) → Before) → (Before → LeavesRowsOf leaves Is)
       → IfSome o (λ r.
-          Honest (keeper_after r) → (these : List Content) → leaves these
-          → ∥ ((x : Content) × IsAmong these x × after (keeper_after r) (x ∷ [])) ∥₁)
+      Honest (keeper_after r) → (these : List Content) → leaves these
+      → ∥ ((x : Content) × IsAmong these x × after (keeper_after r) (x ∷ [])) ∥₁)
       → IfSome o (λ r. Honest (keeper_after r) → ∥ LeavesRowsOf (after (keeper_after r)) Is ∥₁)
   left_of after None before left found = tt
   left_of after (Some r) before left found =
       λ honest.
-          let those = left (before honest) in
-          left_still leaves (after (keeper_after r)) Is those (found honest those.these those.leaves_these)
+      let those = left (before honest) in
+      left_still leaves (after (keeper_after r)) Is those (found honest those.these those.leaves_these)
 
 -- what is opened was left by the keeper that is cut off
 pub opens_of : {K : Type 0} (g : Ghosts K) (o : Option (Result (DeskView K) (OpenFault × K))) (last cut : K)
@@ -171,9 +171,10 @@ pub opens_of : {K : Type 0} (g : Ghosts K) (o : Option (Result (DeskView K) (Ope
     → IfSome o (λ r. g.is_honest (keeper_after r) → LeavesOneOf (g.leaves cut) (g.leaves (keeper_after r)))
     → IfSome o (λ r. g.is_honest (keeper_after r) → g.is_honest last × LeavesOneOf (g.leaves last) (g.leaves (keeper_after r)))
 opens_of g None last cut same before left = tt
-opens_of g (Some r) last cut same before left = λ honest.
-    (subst g.is_honest (sym same) (before honest),
-        subst (λ k. LeavesOneOf (g.leaves k) (g.leaves (keeper_after r))) (sym same) (left honest))
+opens_of g (Some r) last cut same before left = λ honest. (
+  subst g.is_honest (sym same) (before honest),
+  subst (λ k. LeavesOneOf (g.leaves k) (g.leaves (keeper_after r))) (sym same) (left honest),
+)
 
 -- ---- after a run
 
@@ -241,12 +242,12 @@ whole_run : (A M B : Ledger) (rs : List Request) (ps before rest : List Reply) �
 whole_run A M B rs ps before rest first size run =
     let n : ℕ = length ps in
     let parts =
-        runs_split A B (take n rs) (drop n rs) (before ++ rest)
-            (subst (λ (xs : List Request). Runs A xs (before ++ rest) B) (sym (take-append-drop n rs)) run) in
+    runs_split A B (take n rs) (drop n rs) (before ++ rest)
+    (subst (λ (xs : List Request). Runs A xs (before ++ rest) B) (sym (take-append-drop n rs)) run) in
     let front : length (take n rs) ≡ n = length-take-le n rs (few A M rs ps first) in
     let same : before ≡ ps =
-        sym (take_at before rest (length (take n rs)) (size ∙ sym front))
-        ∙ (runs_once A (take n rs) _ ps parts.0 M parts.1 first).0 in
+    sym (take_at before rest (length (take n rs)) (size ∙ sym front))
+    ∙ (runs_once A (take n rs) _ ps parts.0 M parts.1 first).0 in
     subst (λ (xs : List Reply). Runs A rs (xs ++ rest) B) same run
 
 -- ---- gone on with
@@ -260,27 +261,27 @@ module _ {K : Type 0} (Honest : K → Type 0) (A : Ledger) (rs : List Request) (
   pub resumed_of : (r : Result (DeskView K × Run) (OpenFault × K)) (k : ℕ) → k ≡ answered run + 1
       → (Honest (keeper_after opened) → IfOk opened (λ desk. ∥ IsFoundAfter A rs run desk.ledger ∥₁))
       → IfOk r (λ after.
-          Honest after.0.keep
-          → (again : DeskView K) × (opened ≡ Ok again) × Honest again.keep
-              × ((B : Ledger) → ResumableAt B rs k again.ledger → Resumes B rs k after.1.replies.items after.0.ledger))
+      Honest after.0.keep
+      → (again : DeskView K) × (opened ≡ Ok again) × Honest again.keep
+      × ((B : Ledger) → ResumableAt B rs k again.ledger → Resumes B rs k after.1.replies.items after.0.ledger))
       → IfOk r (λ after. Honest after.0.keep → ∥ Resumes A rs (answered run + 1) after.1.replies.items after.0.ledger ∥₁)
   resumed_of (Ok after) k is found resumed = λ honest. let (again, same, honest_again, goes_on) = resumed honest in
       let there =
-          subst (λ (o : Result (DeskView K) (OpenFault × K)).
-              Honest (keeper_after o) → IfOk o (λ desk. ∥ IsFoundAfter A rs run desk.ledger ∥₁)) same found
-              honest_again in
+      subst (λ (o : Result (DeskView K) (OpenFault × K)).
+      Honest (keeper_after o) → IfOk o (λ desk. ∥ IsFoundAfter A rs run desk.ledger ∥₁)) same found
+      honest_again in
       ∥∥₁_map there (λ f. subst (λ i. Resumes A rs i after.1.replies.items after.0.ledger) is
-          (goes_on A (subst (λ i. ResumableAt A rs i again.ledger) (sym is) (stands_found A again.ledger rs run f))))
+      (goes_on A (subst (λ i. ResumableAt A rs i again.ledger) (sym is) (stands_found A again.ledger rs run f))))
   resumed_of (Err e) k is found resumed = tt
 
   pub whole_of : (r : Result (DeskView K × Run) (OpenFault × K)) (M : Ledger)
       → Runs A (take (answered run) rs) run.replies.items M
       → IfOk r
-          (λ after. Honest after.0.keep → ∥ Resumes A rs (answered run + 1) after.1.replies.items after.0.ledger ∥₁)
+      (λ after. Honest after.0.keep → ∥ Resumes A rs (answered run + 1) after.1.replies.items after.0.ledger ∥₁)
       → IfOk r (λ after. after.1.ending ≡ All ↔ answered run + answered after.1 ≡ length rs)
       → IfOk r (λ after.
-          Honest after.0.keep → after.1.ending ≡ All
-          → ∥ Runs A rs (run.replies.items ++ after.1.replies.items) after.0.ledger ∥₁)
+      Honest after.0.keep → after.1.ending ≡ All
+      → ∥ Runs A rs (run.replies.items ++ after.1.replies.items) after.0.ledger ∥₁)
   whole_of (Ok after) M first resumed rest = λ honest all. ∥∥₁_map (resumed honest) (λ f.
       let count = rest.0 all in
       let (before, size, runs) = is_whole A after.0.ledger rs (answered run + 1) after.1.replies.items f (omega (arith, count)) in
@@ -291,24 +292,24 @@ module _ {K : Type 0} (Honest : K → Type 0) (A : Ledger) (rs : List Request) (
   pub behind_of : (g : Ghosts K) (r : Result (DeskView K × Run) (OpenFault × K)) (k : ℕ) → k ≡ answered run + 1
       → (Honest (keeper_after opened) → IfOk opened (λ desk. ∥ IsFoundAfter A rs run desk.ledger ∥₁))
       → IfOk r (λ after.
-          (next : GoesOnWith g (drop (k - 1) rs) after.1 after.0)
-          × (Honest after.0.keep
-              → (again : DeskView K) × (opened ≡ Ok again) × Honest again.keep × (next.found ≡ again.ledger)))
+      (next : GoesOnWith g (drop (k - 1) rs) after.1 after.0)
+      × (Honest after.0.keep
+      → (again : DeskView K) × (opened ≡ Ok again) × Honest again.keep × (next.found ≡ again.ledger)))
       → IfOk r (λ after.
-          (next : GoesOnWith g (drop (answered run) rs) after.1 after.0)
-          × (Honest after.0.keep → ∥ IsFoundAfter A rs run next.found ∥₁))
+      (next : GoesOnWith g (drop (answered run) rs) after.1 after.0)
+      × (Honest after.0.keep → ∥ IsFoundAfter A rs run next.found ∥₁))
   behind_of g (Ok after) k is found (next, same) =
       subst (λ i.
-          (next : GoesOnWith g (drop i rs) after.1 after.0)
-          × (Honest after.0.keep → ∥ IsFoundAfter A rs run next.found ∥₁)) (omega (arith, is)) (
-    next,
-    λ honest. let (again, ok, honest_again, at) = same honest in
-        let there =
+      (next : GoesOnWith g (drop i rs) after.1 after.0)
+      × (Honest after.0.keep → ∥ IsFoundAfter A rs run next.found ∥₁)) (omega (arith, is)) (
+        next,
+        λ honest. let (again, ok, honest_again, at) = same honest in
+            let there =
             subst (λ (o : Result (DeskView K) (OpenFault × K)).
-                Honest (keeper_after o) → IfOk o (λ desk. ∥ IsFoundAfter A rs run desk.ledger ∥₁)) ok found
-                honest_again in
-        subst (λ M. ∥ IsFoundAfter A rs run M ∥₁) (sym at) there,
-  )
+            Honest (keeper_after o) → IfOk o (λ desk. ∥ IsFoundAfter A rs run desk.ledger ∥₁)) ok found
+            honest_again in
+            subst (λ M. ∥ IsFoundAfter A rs run M ∥₁) (sym at) there,
+      )
   behind_of g (Err e) k is found behind = tt
 
   -- or was refused, and a stop leaves rows of such ledgers alone

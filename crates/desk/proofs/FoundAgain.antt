@@ -1,6 +1,6 @@
 -- What is found after many cuts.
-use Rattle.std.proofs.Common.{◌≡◌, ◌∙◌, ◌≤◌, ◌+◌, ◌-◌, ◌++◌, ℕ, List, [], ◌∷◌, ap, append_assoc, arith, drop, drop-drop,
-    flat_map, inl, length, map, refl, subst, sym, take}
+use Rattle.std.proofs.Common.{◌≡◌, ◌∙◌, ◌≤◌, ◌+◌, ◌-◌, ◌++◌, ℕ, List, [], ◌∷◌, ap, append_assoc, arith, drop, drop-drop}
+use Rattle.std.proofs.Common.{flat_map, inl, length, map, refl, subst, sym, take}
 use native.Mathlib.Decide.{dec_lt}
 use Rattle.std.proofs.Math.Seq.{take-add}
 use Rattle.std.proofs.lemmas.List.{length-append, length-drop, length-take-le}
@@ -26,7 +26,7 @@ found_resumes A B M rs k run one le stands is_run found = record {
   last = base.last;
   counted = base.counted;
   run = base.run;
-  resumable = there
+  resumable = there;
 }
   where
     base : Resumes A rs k run.replies.items is_run.last
@@ -41,15 +41,15 @@ found_resumes A B M rs k run one le stands is_run found = record {
         elim (dec_lt (answered run) found.done) [
           | yes more ↦
               one_more_stands A B M rs k run.replies.items one (omega arith) stands
-                  (subst (λ i. After B (drop (k - 1) rs) i M) (omega arith) found.after)
+              (subst (λ i. After B (drop (k - 1) rs) i M) (omega arith) found.after)
           | no same ↦ same_there (subst (λ i. After B (drop (k - 1) rs) i M) (omega arith) found.after)
         ]
       where
         same_there : After B (drop (k - 1) rs) (answered run) M → ResumableAt A rs (k + answered run) M
         same_there (qs, other) =
             subst (λ (L : Ledger). ResumableAt A rs (k + answered run) L)
-                (runs_once B (take (answered run) (drop (k - 1) rs)) run.replies.items qs is_run.last M is_run.replies
-                    other).1 base.resumable
+            (runs_once B (take (answered run) (drop (k - 1) rs)) run.replies.items qs is_run.last M is_run.replies
+            other).1 base.resumable
 
 abbrev given_by : List Run → List (List Reply)
 given_by runs = map (λ run. run.replies.items) runs
@@ -66,7 +66,7 @@ few_in_all B D rs (run ∷ runs) (M, is_run, found, more) =
     let first = few B is_run.last rs run.replies.items is_run.replies in
     let rest = few_in_all M D (drop (answered run) rs) runs more in
     let size : length (all_replies (run ∷ runs)) ≡ answered run + length (all_replies runs) =
-        length-append run.replies.items (all_replies runs) in
+    length-append run.replies.items (all_replies runs) in
     let dropped : length (drop (answered run) rs) ≡ length rs - answered run = length-drop (answered run) rs in
     omega arith
 
@@ -79,10 +79,12 @@ found_again A B D rs k (run ∷ runs) one le stands (M, is_run, found, more) =
     let step = found_resumes A B M rs k run one le stands is_run found in
     let behind : drop (answered run) (drop (k - 1) rs) ≡ drop (k + answered run - 1) rs =
     drop-drop (answered run) (k - 1) rs
-    ∙ ap (λ n. drop n rs) {x = k - 1 + answered run} {y = k + answered run - 1} (omega arith) in
-    (M, step,
-        found_again A M D rs (k + answered run) runs (omega arith) (omega arith) step.resumable
-            (subst (λ (xs : List Request). IsFoundAfterCuts M xs runs D) behind more))
+    ∙ ap (λ n. drop n rs) {x = k - 1 + answered run} {y = k + answered run - 1} (omega arith) in (
+      M,
+      step,
+      found_again A M D rs (k + answered run) runs (omega arith) (omega arith) step.resumable
+          (subst (λ (xs : List Request). IsFoundAfterCuts M xs runs D) behind more),
+    )
 
 from_start : (A D : Ledger) (rs : List Request) (runs : List Run) → IsFoundAfterCuts A rs runs D
     → ResumesAgain A rs 1 (given_by runs) D
@@ -93,7 +95,7 @@ pub stands_after_all : (A D : Ledger) (rs : List Request) (runs : List Run) → 
 stands_after_all A D rs runs h =
     let few_given = few_in_all A D rs runs h in
     let size : length (flat_map (λ some. some) (given_by runs)) ≡ length (all_replies runs) =
-        ap (λ (xs : List Reply). length xs) (all_given runs) in
+    ap (λ (xs : List Reply). length xs) (all_given runs) in
     subst (λ i. ResumableAt A rs i D) {x = 1 + length (flat_map (λ some. some) (given_by runs))}
     {y = length (all_replies runs) + 1} (omega arith)
     (resumed_again A D rs 1 (given_by runs) (omega arith) (omega arith) (from_start A D rs runs h)).resumable
@@ -103,7 +105,7 @@ pub same_after_all : (A D last : Ledger) (rs : List Request) (runs : List Run) (
     → (all_replies runs ≡ replies) × (D ≡ last)
 same_after_all A D last rs runs replies h all run =
     let size : length (flat_map (λ some. some) (given_by runs)) ≡ length (all_replies runs) =
-        ap (λ (xs : List Reply). length xs) (all_given runs) in
+    ap (λ (xs : List Reply). length xs) (all_given runs) in
     let same = resumed_same A rs 1 (given_by runs) replies D last (omega arith) (from_start A D rs runs h) (omega arith) run in
     (sym (all_given runs) ∙ same.0, same.1)
 
@@ -145,7 +147,7 @@ lines_after_all B D rs (run ∷ runs) (M, is_run, found, more) =
     let there = lines_there B is_run.last (take n rs) ps is_run.replies in
     let first : run.lines.items ≡ lines_of (take n rs) ps =
     (replies_one (items_of (take n rs)) B run.lines.items (lines_of (take n rs) ps) is_run.last is_run.last is_run.lines
-        there).0 in
+    there).0 in
     let front : length (take n rs) ≡ n = length-take-le n rs (few B is_run.last rs ps is_run.replies) in
     ap (λ (xs : List ℕ). xs ++ all_lines runs) first
     ∙ ap (λ (xs : List ℕ). lines_of (take n rs) ps ++ xs) (lines_after_all M D (drop n rs) runs more)
@@ -164,7 +166,7 @@ told_after_all A D rs runs h =
     let first = take (length (all_replies runs)) rs in
     let told : Runs A first (all_replies runs) whole.last =
     subst (λ (ps : List Reply). Runs A (take (length ps) rs) ps whole.last) (all_given runs)
-        (from_first A whole.last rs whole.before given whole.counted whole.run) in (
+    (from_first A whole.last rs whole.before given whole.counted whole.run) in (
       whole.last,
       told,
       subst (λ (out : List ℕ). RepliesAll A (items_of first) out whole.last) (sym (lines_after_all A D rs runs h))

@@ -1,6 +1,6 @@
 -- What an opening finds after a script.
-use Rattle.std.proofs.Common.{◌≡◌, false, ◌∙◌, ◌≤◌, ◌+◌, ◌++◌, ℕ, List, [], ◌∷◌, Option, append-nil, append_assoc,
-    arith, ap, inl, inr, length, refl, subst, sym, take}
+use Rattle.std.proofs.Common.{◌≡◌, false, ◌∙◌, ◌≤◌, ◌+◌, ◌++◌, ℕ, List, [], ◌∷◌, Option, append-nil, append_assoc}
+use Rattle.std.proofs.Common.{arith, ap, inl, inr, length, refl, subst, sym, take}
 use Rattle.std.specs.Prelude.{Err, IfErr, IfOk, IfSome, Ok, OnOk, Result}
 use Rattle.std.specs.declared.num.NonZeroUsize.{NonZeroUsize}
 use Rattle.std.proofs.lemmas.List.{length-append, length-map, take_at}
@@ -71,7 +71,7 @@ module _ (most : ℕ) (A : Ledger) (items : List Item) where
   found_done M B written lines begun left before last behind split few replies is more =
       let size : length (before ++ last) ≡ length before + length last = length-append before last in
       let whole : written ++ left ≡ lines ++ (begun ++ left) =
-          ap (λ (out : List ℕ). out ++ left) is ∙ append_assoc lines begun left in
+      ap (λ (out : List ℕ). out ++ left) is ∙ append_assoc lines begun left in
       let there = fits items (before ++ last) behind split in
       record {
         told = length before;
@@ -80,7 +80,7 @@ module _ (most : ℕ) (A : Ledger) (items : List Item) where
         begun = begun;
         replies =
             subst (λ (xs : List Item). RepliesAll A xs lines M)
-                (sym (first_of items before (last ++ behind) (split ∙ append_assoc before last behind))) replies;
+            (sym (first_of items before (last ++ behind) (split ∙ append_assoc before last behind))) replies;
         written_are = is;
         done = length (before ++ last);
         none_lost = omega arith;
@@ -122,8 +122,8 @@ module _ (old new : DeskState) (holds : Content → Type 0) (good : Good new.led
         found_done 1 old.ledger items told.mid new.ledger written told.lines told.begun told.left told.before told.last
         cut.left split told.one told.replies told.written_are
         (subst (λ (t : List ℕ). RepliesAll old.ledger (told.before ++ told.last) t new.ledger) out
-            (subst (λ (xs : List Item). RepliesAll old.ledger xs (written ++ told.left) new.ledger) told.split
-                told.all))
+        (subst (λ (xs : List Item). RepliesAll old.ledger xs (written ++ told.left) new.ledger) told.split
+        told.all))
 
     -- and what is left where the request that comes next stops the desk
     stop_left : fault ≡ ScriptFault.Stopped → LeavesRowsOf new.leaves (IsFoundAfterItems 1 old.ledger items written)
@@ -135,15 +135,15 @@ module _ (old new : DeskState) (holds : Content → Type 0) (good : Good new.led
         let (behind, left) = stopped_next fault old new items written cut request stops.first in
         let told = cut_told fault old new items written cut (λ e. write_stops_nothing (sym e ∙ is)) in
         let split : items ≡ (cut.answered ++ next ∷ []) ++ behind =
-            cut.split ∙ ap (λ (xs : List Item). cut.answered ++ xs) left
-            ∙ sym (append_assoc cut.answered (next ∷ []) behind) in
+        cut.split ∙ ap (λ (xs : List Item). cut.answered ++ xs) left
+        ∙ sym (append_assoc cut.answered (next ∷ []) behind) in
         let line = request_line request.key (Done (places M + 1)) in
         let more : RepliesAll old.ledger (cut.answered ++ next ∷ []) (written ++ line) (accept M request) =
         replies_more cut.answered next old.ledger M (accept M request) written line told
-            (Done (places M + 1), accepted_answered M request stops.accepted, refl) in
+        (Done (places M + 1), accepted_answered M request stops.accepted, refl) in
         either_left M (accept M request) (IsFoundAfterItems 1 old.ledger items written) new.leaves found_so_far
         (found_done 1 old.ledger items M (accept M request) written written [] line cut.answered (next ∷ []) behind
-            split (omega arith) told (sym (append-nil written)) more) stops.either
+        split (omega arith) told (sym (append-nil written)) more) stops.either
 
     -- what a stop leaves where the answers are cut
     pub cut_left : LeavesRowsOf new.leaves (IsFoundAfterItems 1 old.ledger items written)
@@ -151,7 +151,7 @@ module _ (old new : DeskState) (holds : Content → Type 0) (good : Good new.led
       | inl is ↦ stop_left is
       | inr other ↦
           stored_left new.ledger (IsFoundAfterItems 1 old.ledger items written) holds new.leaves good found_so_far
-              (stored (cut_goes_on fault old new items written cut other ∙ went))
+          (stored (cut_goes_on fault old new items written cut other ∙ went))
     ]
 
   -- by lists
@@ -173,13 +173,13 @@ module _ (old new : DeskState) (holds : Content → Type 0) (good : Good new.led
         (cut.lines ++ cut.begun) cut.lines cut.begun cut.unwritten (items_of cut.answered) (items_of cut.last)
         (items_of cut.left) split_items few_items
         cut.replies refl (replies_joined (items_of cut.answered) (items_of cut.last) old.ledger cut.before cut.behind
-            cut.lines (cut.begun ++ cut.unwritten) cut.replies cut.rest)
+        cut.lines (cut.begun ++ cut.unwritten) cut.replies cut.rest)
 
     lists_before : cut.begun ≡ [] → InLists cut.before
     lists_before none =
         let same = ap (λ (text : List ℕ). cut.lines ++ text) none ∙ append-nil cut.lines in
         subst (λ (text : List ℕ).
-            IsFoundAfterItems (most_together together) old.ledger (items_of requests) text cut.before) (sym same)
+        IsFoundAfterItems (most_together together) old.ledger (items_of requests) text cut.before) (sym same)
         (found_told (most_together together) old.ledger (items_of requests) cut.before cut.lines (items_of cut.answered)
         (items_of cut.last ++ items_of cut.left)
         (split_items ∙ append_assoc (items_of cut.answered) (items_of cut.last) (items_of cut.left)) cut.replies)
@@ -188,11 +188,11 @@ module _ (old new : DeskState) (holds : Content → Type 0) (good : Good new.led
     lists_left = elim (is_stop fault) [
       | inl is ↦
           either_left cut.before cut.behind InLists new.leaves
-              (lists_before (cut.told (λ e. write_stops_nothing (sym e ∙ is)))) lists_behind
-              ((cut.stopped is went).2 honest)
+          (lists_before (cut.told (λ e. write_stops_nothing (sym e ∙ is)))) lists_behind
+          ((cut.stopped is went).2 honest)
       | inr other ↦
           stored_left new.ledger InLists holds new.leaves good (subst InLists (sym (cut.shown other)) lists_behind)
-              (stored (cut.stop.going other ∙ went))
+          (stored (cut.stop.going other ∙ went))
     ]
 
   -- and a script
@@ -206,9 +206,13 @@ module _ (old new : DeskState) (holds : Content → Type 0) (good : Good new.led
 
 -- all is read and answered
 pub found_whole : (A M : Ledger) (s : Streams) → WritesText A M s → IsFoundAfterLines A s M
-found_whole A M s ends =
-    (ends.read, ends.text.items, ends.reads, ends.text.are_items,
-        found_all 1 A ends.text.items M s.writer_old s.writer_new (ends.out, ends.text.replies, ends.writes))
+found_whole A M s ends = (
+  ends.read,
+  ends.text.items,
+  ends.reads,
+  ends.text.are_items,
+  found_all 1 A ends.text.items M s.writer_old s.writer_new (ends.out, ends.text.replies, ends.writes),
+)
 
 module _ {T : Type 0} (ended : Result T ScriptFault) (old new : DeskState) (s : Streams) (holds : Content → Type 0)
     (good : Good new.ledger) (went : old.is_stopped ≡ false)
@@ -222,23 +226,23 @@ module _ {T : Type 0} (ended : Result T ScriptFault) (old new : DeskState) (s : 
           → IfErr r (λ fault. EndsCut lines fault old new s) → LeavesRowsOf new.leaves (IsFoundAfterLines old.ledger s)
       by (Ok done) whole cut =
           stored_left new.ledger (IsFoundAfterLines old.ledger s) holds new.leaves good
-              (found_whole old.ledger new.ledger s (text_written old new s whole))
-              (stored (whole_goes_on old new s whole ∙ went) honest)
+          (found_whole old.ledger new.ledger s (text_written old new s whole))
+          (stored (whole_goes_on old new s whole ∙ went) honest)
       by (Err fault) whole cut = ends_cut_left old new holds good went honest (λ going. stored going honest) fault s cut
 
   -- and behind one that ended whole
   pub whole_left : OnOk ended (EndsWhole lines old new s) → OnOk ended (LeavesRowsOf new.leaves (λ B. WritesText old.ledger B s))
   whole_left =
       on_ok_weaker ended (λ whole. stored_left new.ledger (λ B. WritesText old.ledger B s) holds new.leaves good
-          (text_written old new s whole) (stored (whole_goes_on old new s whole ∙ went) honest))
+      (text_written old new s whole) (stored (whole_goes_on old new s whole ∙ went) honest))
 
 -- what is opened then is the ledger of the whole
 pub whole_opened : {T K : Type 0} (Honest : K → Type 0) (leaves : List Content → Type 0) (Before : Type 0)
     (Is : Ledger → Type 0) (ended : Result T ScriptFault) (o : Option (Result (DeskView K) (OpenFault × K)))
     → IfSome o (λ r. Honest (keeper_after r) → Before) → (Before → OnOk ended (LeavesRowsOf leaves Is))
     → IfSome o (λ r.
-        Honest (keeper_after r) → (these : List Content) → leaves these
-        → IfOk r (λ desk. ∥ ((x : Content) × IsAmong these x × IsRowsOf desk.ledger x) ∥₁))
+    Honest (keeper_after r) → (these : List Content) → leaves these
+    → IfOk r (λ desk. ∥ ((x : Content) × IsAmong these x × IsRowsOf desk.ledger x) ∥₁))
     → IfSome o (λ r. IfOk r (λ desk. Good desk.ledger × Honours desk.ledger × HonoursAlways desk.ledger))
     → OnOk ended (IfSome o (λ r. Honest (keeper_after r) → IfOk r (λ desk. ∥ Is desk.ledger ∥₁)))
 whole_opened Honest leaves Before Is (Ok done) o before left found good =

@@ -1,6 +1,6 @@
 -- What the dialogue in lines comes to: the text of replies.
-use Rattle.std.proofs.Common.{◌≡◌, ◌≢◌, ◌⊎◌, ◌≤◌, ◌∙◌, Bool, false, true≢false, ℕ, List, [], ◌∷◌, ◌++◌, Option, Some,
-    ap, append-nil, append_assoc, arith, inl, inr, length, refl, subst, sym}
+use Rattle.std.proofs.Common.{◌≡◌, ◌≢◌, ◌⊎◌, ◌≤◌, ◌∙◌, Bool, false, true≢false, ℕ, List, [], ◌∷◌, ◌++◌, Option, Some}
+use Rattle.std.proofs.Common.{ap, append-nil, append_assoc, arith, inl, inr, length, refl, subst, sym}
 use Rattle.std.specs.Bool.{◌==◌}
 use Rattle.words.specs.declared.command.Request.{Request}
 use Rattle.words.specs.declared.item.Item.TheVariants as item
@@ -15,8 +15,8 @@ use Rattle.words.proofs.OneFeed.{feeds_one}
 use Rattle.words.proofs.TwoPieces.{feeds_joined}
 use Rattle.words.specs.Stream.{Feeds}
 use Rattle.words.specs.declared.item.Item.{Item}
-use Rattle.desk.specs.Dialogue.{AnswerKind, AreAnswers, EndsCut, EndsWhole, IsCut, IsStoppedBy, LacksRest, is_end,
-    no_memory, ordinary, stopping, text_of}
+use Rattle.desk.specs.Dialogue.{AnswerKind, AreAnswers, EndsCut, EndsWhole, IsCut, IsStoppedBy, LacksRest, is_end}
+use Rattle.desk.specs.Dialogue.{no_memory, ordinary, stopping, text_of}
 use Rattle.desk.specs.Script.{HasFed, HaveEnded, WritesText, lines}
 use Rattle.desk.specs.Text.{RepliesAll, unended}
 
@@ -28,8 +28,10 @@ fed_next held next waiting left read ended found is h = record {
   all = h.all;
   rest = h.rest;
   feeds = h.feeds;
-  going = λ e. ((h.going e).0,
-      (h.going e).1 ∙ ap (λ (xs : List Item). found ++ xs) is ∙ sym (append_assoc found (next ∷ []) left));
+  going = λ e. (
+    (h.going e).0,
+    (h.going e).1 ∙ ap (λ (xs : List Item). found ++ xs) is ∙ sym (append_assoc found (next ∷ []) left),
+  );
   split =
       h.split ∙ ap (λ (xs : List Item). found ++ (xs ++ unended held)) is
       ∙ sym (append_assoc found (next ∷ []) (left ++ unended held));
@@ -43,14 +45,14 @@ fed_on held new waiting items read piece found ended fed (rest, feeds) more =
     let (same, all) = fed.going refl in
     let (is_all, is_rest) = feeds_one (Some []) rest fed.rest read found fed.all feeds fed.feeds in
     let joined =
-        feeds_joined (Some []) held new read piece found items
-            (subst (λ (r : Option (List ℕ)). Feeds (Some []) read found r) (is_rest ∙ sym same) feeds) more in
+    feeds_joined (Some []) held new read piece found items
+    (subst (λ (r : Option (List ℕ)). Feeds (Some []) read found r) (is_rest ∙ sym same) feeds) more in
     record {
       all = found ++ items;
       rest = new;
       feeds = joined;
       going = λ e. (refl, refl);
-      split = append_assoc found items (unended new)
+      split = append_assoc found items (unended new);
     }
 
 -- a piece with bytes is not the end
@@ -96,7 +98,7 @@ module _ (old new : DeskState) (s : Streams) (ends : EndsWhole lines old new s) 
     text = record {
       items = ends.questions;
       are_items = ends.are_questions;
-      replies = replies_of ends.questions ends.kinds ends.answers (snapshot old) (snapshot new) ends.are_answers
+      replies = replies_of ends.questions ends.kinds ends.answers (snapshot old) (snapshot new) ends.are_answers;
     };
     writes = ends.writes;
   }
@@ -126,7 +128,7 @@ module _ (fault : ScriptFault) (old new : DeskState) (items : List Item) (writte
   all_replies : RepliesAll old.ledger cut.answered (text_of lines cut.answers) new.ledger
   all_replies =
       subst (λ (B : Ledger). RepliesAll old.ledger cut.answered (text_of lines cut.answers) B) (sym cut.same)
-          (replies_of cut.answered cut.kinds cut.answers (snapshot old) cut.behind cut.are_answers)
+      (replies_of cut.answered cut.kinds cut.answers (snapshot old) cut.behind cut.are_answers)
 
   -- but for a failing write all that is answered is told
   pub cut_told : fault ≢ ScriptFault.Write → RepliesAll old.ledger cut.answered written new.ledger
@@ -160,7 +162,7 @@ module _ (fault : ScriptFault) (old new : DeskState) (items : List Item) (writte
           let (before, last, kinds, kind, mid, split, first, reply) = last_answer lines cut.answered cut.kinds l.before
           l.last (snapshot old) cut.behind
           (subst (λ (out : List (List ℕ)). AreAnswers lines (snapshot old) cut.answered cut.kinds out cut.behind)
-              l.split cut.are_answers) in
+          l.split cut.are_answers) in
           let whole : text_of lines cut.answers ≡ written ++ l.left =
           ap (text_of lines) l.split ∙ text_on lines l.before (l.last ∷ [])
           ∙ ap (λ (t : List ℕ). text_of lines l.before ++ t) (append-nil l.last ∙ l.cut)
@@ -183,7 +185,7 @@ module _ (fault : ScriptFault) (old new : DeskState) (items : List Item) (writte
   pub stopped_next : (r : Request) → IsStoppedBy lines items cut.kinds r → (more : List Item) × (cut.left ≡ item.Request r ∷ more)
   stopped_next r by =
       at_left cut.answered cut.kinds cut.answers (snapshot old) cut.are_answers
-          (subst (λ (xs : List Item). IsStoppedBy lines xs cut.kinds r) cut.split by)
+      (subst (λ (xs : List Item). IsStoppedBy lines xs cut.kinds r) cut.split by)
     where
       at_head : (left : List Item) → IsStoppedBy lines left [] r → (more : List Item) × (left ≡ item.Request r ∷ more)
       at_head [] by = absurd by

@@ -1,7 +1,7 @@
 -- Requests that are answered by lists: their lines, and how far they have come at a fault.
-use Rattle.std.proofs.Common.{◌≡◌, ◌∙◌, ◌≢◌, ◌↔◌, ◌+◌, ◌≤◌, IsTrue, false, true≢false, ℕ, List, [], ◌∷◌, ◌++◌,
-    MatchOption, None, Option, Some, ap, if◌then◌else◌, append-nil, append_assoc, arith, drop, inl, inr, length, refl,
-    subst, suc, sym, take, take-add, zero}
+use Rattle.std.proofs.Common.{◌≡◌, ◌∙◌, ◌≢◌, ◌↔◌, ◌+◌, ◌≤◌, IsTrue, false, true≢false, ℕ, List, [], ◌∷◌, ◌++◌}
+use Rattle.std.proofs.Common.{MatchOption, None, Option, Some, ap, if◌then◌else◌, append-nil, append_assoc, arith, drop}
+use Rattle.std.proofs.Common.{inl, inr, length, refl, subst, suc, sym, take, take-add, zero}
 use Rattle.std.proofs.lemmas.List.{length-take-le, map-append, take-append-drop, take-take}
 use Rattle.std.specs.Io.KnownBytes.{Appends}
 use Rattle.std.specs.List.{AllByRecursion as Each}
@@ -52,7 +52,7 @@ no_batch A = record {
   replies_are = refl;
   done = refl;
   all_done = tt;
-  rest = refl
+  rest = refl;
 }
 
 pub items_joined : (xs ys : List Request) → items_of (xs ++ ys) ≡ items_of xs ++ items_of ys
@@ -69,9 +69,9 @@ refused_stays A B r why line answer = by (kept_under A r.key) answer
   where
     by : (k : Option Kept)
         → MatchOption k (AnswersNew A r (Refused why line) B)
-            (λ k.
-                (Refused why line ≡ (if same_command k.command r.command then Done k.place else Refused KeyReused 0))
-                × (B ≡ A)) → B ≡ A
+        (λ k.
+        (Refused why line ≡ (if same_command k.command r.command then Done k.place else Refused KeyReused 0))
+        × (B ≡ A)) → B ≡ A
     by (Some k) (is, same) = same
     by None (Some f, failed, left) = left.1
     by None (None, passed, left) = let is = left.0 in absurd cc
@@ -196,7 +196,7 @@ module _ (together : Option NonZeroUsize) (old new : DeskState) (rs : List Reque
       replies = (refl, refl);
       rest =
           subst (λ (out : List ℕ). RepliesAll old.ledger (items_of told) out new.ledger)
-              (sym (take-append-drop count run.lines.items)) (list.lines going);
+          (sym (take-append-drop count run.lines.items)) (list.lines going);
       batch = list.batch going;
       shown = λ _. refl;
       unread = λ is. absurd cc;
@@ -215,8 +215,8 @@ module _ (together : Option NonZeroUsize) (old new : DeskState) (rs : List Reque
       let stops = list.stopped is in
       let n = stops.count in
       let (out, lines) =
-          runs_told old.ledger stops.behind (take n rs) stops.untold
-              (batch_runs old.ledger stops.behind (take n rs) stops.untold stops.batch) in
+      runs_told old.ledger stops.behind (take n rs) stops.untold
+      (batch_runs old.ledger stops.behind (take n rs) stops.untold stops.batch) in
       let size : length (take n rs) ≡ n = length-take-le n rs stops.none_unasked in (
         record {
           answered = [];
@@ -282,7 +282,7 @@ alone_stops old new r good same accepted either =
       either = λ honest.
           let (next, ran, leaves) = either honest in
           let there : next ≡ after =
-              (runs_once old.ledger (r ∷ []) ran.0 (reply ∷ []) next after ran.1 (after, answer, refl)).1 in
+          (runs_once old.ledger (r ∷ []) ran.0 (reply ∷ []) next after ran.1 (after, answer, refl)).1 in
           subst (λ L. LeavesEither new.leaves old.ledger L) there (subst (λ L. LeavesEither new.leaves L next) same leaves);
     }
 
@@ -293,15 +293,17 @@ pub list_alone : (old new : DeskState) (r : Request) (run : Run) (ps : List Repl
     → (run.ending ≡ All ↔ length ps ≡ 1) → TellsStop (run.ending ≡ Stopped) old new
     → (run.ending ≡ Stopped → HasAccepted new.ledger (take 1 (drop (length ps) (r ∷ []))))
     → (run.ending ≡ Stopped → new.is_honest
-        → (next : Ledger) × After old.ledger (r ∷ []) (length ps + 1) next × LeavesEither new.leaves new.ledger next)
+    → (next : Ledger) × After old.ledger (r ∷ []) (length ps + 1) next × LeavesEither new.leaves new.ledger next)
     → RunsList None old (r ∷ []) run new
 list_alone old new r run ps are good runs lines all stop accepted either =
     let size : answered run ≡ length ps = ap (λ (qs : List Reply). length qs) are in record {
       none_unasked = let short = at_most ps runs in omega (arith, size, short);
       some = λ is. let one = all.0 is in omega (arith, size, one);
-      batch = λ _. (ps,
-          subst (λ n. IsBatch old.ledger (take n (r ∷ [])) ps new.ledger) (sym size)
-              (alone_batch old.ledger new.ledger r ps runs));
+      batch = λ _. (
+        ps,
+        subst (λ n. IsBatch old.ledger (take n (r ∷ [])) ps new.ledger) (sym size)
+            (alone_batch old.ledger new.ledger r ps runs),
+      );
       lines = λ _. subst (λ n. RepliesAll old.ledger (items_of (take n (r ∷ []))) run.lines.items new.ledger) (sym size) lines;
       stopped = stops ps runs all accepted either;
       stop = stop;
@@ -316,8 +318,8 @@ list_alone old new r run ps are good runs lines all stop accepted either =
         → (run.ending ≡ All ↔ length ps ≡ 1)
         → (run.ending ≡ Stopped → HasAccepted new.ledger (take 1 (drop (length ps) (r ∷ []))))
         → (run.ending ≡ Stopped → new.is_honest
-            → (next : Ledger) × After old.ledger (r ∷ []) (length ps + 1) next
-                × LeavesEither new.leaves new.ledger next) → run.ending ≡ Stopped → StopsIn None old (r ∷ []) new
+        → (next : Ledger) × After old.ledger (r ∷ []) (length ps + 1) next
+        × LeavesEither new.leaves new.ledger next) → run.ending ≡ Stopped → StopsIn None old (r ∷ []) new
     stops [] same all accepted either is = alone_stops old new r (subst Good same good) same (by (accepted is)) (either is)
       where
         by : HasAccepted new.ledger (r ∷ []) → IsAccepted old.ledger r
@@ -332,7 +334,7 @@ pub list_of_one : (old new : DeskState) (rs : List Request) (run : Run) → 1 �
     → (run.ending ≡ All ↔ answered run ≡ length rs) → TellsStop (run.ending ≡ Stopped) old new
     → (run.ending ≡ Stopped → HasAccepted new.ledger (take 1 (drop (answered run) rs)))
     → (run.ending ≡ Stopped → new.is_honest
-        → (next : Ledger) × After old.ledger rs (answered run + 1) next × LeavesEither new.leaves new.ledger next)
+    → (next : Ledger) × After old.ledger rs (answered run + 1) next × LeavesEither new.leaves new.ledger next)
     → RunsList None old rs run new
 list_of_one old new [] run some few good runs lines all stop accepted either = absurd (omega arith)
 list_of_one old new (r ∷ []) run some few good runs lines all stop accepted either =
@@ -362,7 +364,7 @@ module _ (fault : ScriptFault) (together : Option NonZeroUsize) (old mid new : D
       replies = subst (λ (xs : List Item). RepliesAll old.ledger xs (lines ++ cut.lines) cut.before)
           (sym (items_joined (take n rs) cut.answered))
           (replies_joined (items_of (take n rs)) (items_of cut.answered) old.ledger mid.ledger cut.before lines
-              cut.lines replies cut.replies);
+          cut.lines replies cut.replies);
       rest = cut.rest;
       batch = cut.batch;
       shown = cut.shown;
@@ -383,10 +385,10 @@ module _ (fault : ScriptFault) (together : Option NonZeroUsize) (old mid new : D
       whole =
           sym (take-append-drop n rs)
           ∙ ap (λ (xs : List Request). take n rs ++ xs)
-              (inner ∙ append_assoc (cut.answered ++ cut.last) cut.left (drop k (drop n rs)))
+          (inner ∙ append_assoc (cut.answered ++ cut.last) cut.left (drop k (drop n rs)))
           ∙ sym (append_assoc (take n rs) (cut.answered ++ cut.last) (cut.left ++ drop k (drop n rs)))
           ∙ ap (λ (xs : List Request). xs ++ (cut.left ++ drop k (drop n rs)))
-              (sym (append_assoc (take n rs) cut.answered cut.last))
+          (sym (append_assoc (take n rs) cut.answered cut.last))
 
 -- nothing but requests was answered, by a desk that goes on
 pub may_requests : (desk : DeskState) (rs : List Request) → desk.is_stopped ≡ false
@@ -403,8 +405,8 @@ answered_further A M B rs some n k count W X w are few (lines, replies, writes) 
     let same : take (n + count) rs ≡ take n rs ++ take count some =
     take-add n count rs
     ∙ ap (λ (xs : List Request). take n rs ++ xs)
-        (sym (take-take count k (drop n rs) (omega (arith, short, few)))
-            ∙ ap (λ (xs : List Request). take count xs) (sym are)) in (
+    (sym (take-take count k (drop n rs) (omega (arith, short, few)))
+    ∙ ap (λ (xs : List Request). take count xs) (sym are)) in (
       lines ++ more,
       subst (λ (xs : List Request). RepliesAll A (items_of xs) (lines ++ more) B) (sym same)
           (subst (λ (xs : List Item). RepliesAll A xs (lines ++ more) B) (sym (items_joined (take n rs) (take count some)))

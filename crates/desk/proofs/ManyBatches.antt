@@ -1,7 +1,7 @@
 -- A run that is carried out in batches and cut any number of times is the run.
-use Rattle.std.proofs.Common.{◌≡◌, ◌∙◌, ◌⊎◌, ◌+◌, ◌-◌, ◌≤◌, ◌++◌, ℕ, List, [], ◌∷◌, Option, Some, None, MatchOption, ap,
-    append-nil, append_assoc, arith, drop, flat_map, if◌then◌else◌, inl, inr, length, refl, suc, subst, sym, take,
-    take-append-drop, zero}
+use Rattle.std.proofs.Common.{◌≡◌, ◌∙◌, ◌⊎◌, ◌+◌, ◌-◌, ◌≤◌, ◌++◌, ℕ, List, [], ◌∷◌, Option, Some, None, MatchOption, ap}
+use Rattle.std.proofs.Common.{append-nil, append_assoc, arith, drop, flat_map, if◌then◌else◌, inl, inr, length, refl}
+use Rattle.std.proofs.Common.{suc, subst, sym, take, take-append-drop, zero}
 use Rattle.std.proofs.lemmas.List.{drop-drop, length-append, length-take-le, take_at}
 use Rattle.std.proofs.Math.Seq.{drop-length, take-add}
 use native.Mathlib.Decide.{dec_lt}
@@ -40,7 +40,7 @@ to_done M B rs (inr (count, untold, h)) =
     front : take (length h.first) rs ≡ h.first
     front = subst (λ (xs : List Request). take (length h.first) xs ≡ h.first)
         (sym (append_assoc h.first h.behind (drop count rs))
-            ∙ ap (λ (xs : List Request). xs ++ drop count rs) (sym h.requests_are) ∙ take-append-drop count rs)
+        ∙ ap (λ (xs : List Request). xs ++ drop count rs) (sym h.requests_are) ∙ take-append-drop count rs)
         (take_at h.first (h.behind ++ drop count rs) (length h.first) refl)
 
 from_done : (M B : Ledger) (rs : List Request) → IsDoneTo M rs B → IsWithin M rs B
@@ -87,8 +87,8 @@ done_within : (A B C : Ledger) (rs ss : List Request) (told ps : List Reply) →
 done_within A B C rs ss told ps run done again =
     let (L, front, more) = runs_split A B rs ss told run in
     let back : Runs B rs (take (length rs) told) B =
-        done_again A L B rs (take (length rs) told) front (each_take (length rs) told done)
-            (λ k e there. runs_keep L B ss (drop (length rs) told) k e more there) in
+    done_again A L B rs (take (length rs) told) front (each_take (length rs) told done)
+    (λ k e there. runs_keep L B ss (drop (length rs) told) k e more there) in
     let same = runs_once B rs ps (take (length rs) told) C B again back in
     (L, subst (λ (qs : List Reply). Runs A rs qs L) (sym same.0) front, more, same.1)
 
@@ -107,14 +107,14 @@ done_twice L B C rs (few, told, run, done) (many, others, again, all) = by (diff
           others,
           subst (λ (xs : List Request). Runs L xs others C) (sym parts)
               (done_past L B C (take few rs) (take more (drop few rs)) told others run done
-                  (subst (λ (xs : List Request). Runs B xs others C) parts again)),
+              (subst (λ (xs : List Request). Runs B xs others C) parts again)),
           all,
         )
     by (inr (more, is)) =
         let parts : take few rs ≡ take many rs ++ take more (drop many rs) = ap (λ i. take i rs) is ∙ take-add many more rs in
         let (K, front, rest, same) =
-            done_within L B C (take many rs) (take more (drop many rs)) told others
-                (subst (λ (xs : List Request). Runs L xs told B) parts run) done again in
+        done_within L B C (take many rs) (take more (drop many rs)) told others
+        (subst (λ (xs : List Request). Runs L xs told B) parts run) done again in
         (few, told, subst (λ N. Runs L (take few rs) told N) (sym same) run, done)
 
 -- a run that begins within and is cut within is one that begins before and is cut within
@@ -130,16 +130,16 @@ done_on M B mid C rs n ps (count, told, first, done) run further = by (differ co
           mid,
           subst (λ (xs : List Request). Runs M xs ps mid) (sym parts)
               (done_past M B mid (take count rs) (take more (drop count rs)) told ps first done
-                  (subst (λ (xs : List Request). Runs B xs ps mid) parts run)),
+              (subst (λ (xs : List Request). Runs B xs ps mid) parts run)),
           further,
         )
     by (inr (more, is)) =
         let parts : take count rs ≡ take n rs ++ take more (drop n rs) = ap (λ i. take i rs) is ∙ take-add n more rs in
         let (L, front, rest, same) =
-            done_within M B mid (take n rs) (take more (drop n rs)) told ps
-                (subst (λ (xs : List Request). Runs M xs told B) parts first) done run in
+        done_within M B mid (take n rs) (take more (drop n rs)) told ps
+        (subst (λ (xs : List Request). Runs M xs told B) parts first) done run in
         let left : IsDoneTo L (drop n rs) B =
-            (more, drop (length (take n rs)) told, rest, each_drop (length (take n rs)) told done) in
+        (more, drop (length (take n rs)) told, rest, each_drop (length (take n rs)) told done) in
         (L, front, done_twice L B C (drop n rs) left (subst (λ N. IsDoneTo N (drop n rs) C) same further))
 
 -- ---- one request more is a batch
@@ -149,7 +149,7 @@ done_or_same A B r reply h = by_key (kept_under A r.key) h
   where
     by_key : (o : Option Kept)
         → MatchOption o (AnswersNew A r reply B)
-            (λ k. (reply ≡ (if same_command k.command r.command then Done k.place else Refused KeyReused 0)) × (B ≡ A))
+        (λ k. (reply ≡ (if same_command k.command r.command then Done k.place else Refused KeyReused 0)) × (B ≡ A))
         → IsDone reply ⊎ (B ≡ A)
     by_key (Some k) (is, same) = inr same
     by_key None (Some f, failed, left) = inr left.1
@@ -172,8 +172,8 @@ stands_wider A B rs k one (inr (le, (done, run))) =
     let n : ℕ = k - 1 in
     let parts : take k rs ≡ take n rs ++ take 1 (drop n rs) = ap (λ i. take i rs) (omega arith) ∙ take-add n 1 rs in
     let (M, first, more) =
-        runs_split A B (take n rs) (take 1 (drop n rs)) done
-            (subst (λ (xs : List Request). Runs A xs done B) parts run) in
+    runs_split A B (take n rs) (take 1 (drop n rs)) done
+    (subst (λ (xs : List Request). Runs A xs done B) parts run) in
     (M, (take (length (take n rs)) done, first), one_more M B (drop n rs) (drop (length (take n rs)) done) more)
 
 -- ---- one resuming
@@ -189,14 +189,14 @@ resumes_within A B mid C rs k ps one le (M, (before, first), stands) run (N, (qs
     let m : ℕ = length ps in
     let size : length before ≡ n = runs_length A M (take n rs) before first ∙ length-take-le n rs (omega arith) in
     let reached : N ≡ mid =
-        (runs_once B (take m (drop n rs)) qs ps N mid (subst (λ i. Runs B (take i (drop n rs)) qs N) (one_less m) other)
-            run).1 in
+    (runs_once B (take m (drop n rs)) qs ps N mid (subst (λ i. Runs B (take i (drop n rs)) qs N) (one_less m) other)
+    run).1 in
     let cut : IsWithin mid (drop m (drop n rs)) C =
-        subst (λ L. IsWithin L (drop m (drop n rs)) C) reached
-            (subst (λ i. IsWithin N (drop i (drop n rs)) C) (one_less m) further) in
+    subst (λ L. IsWithin L (drop m (drop n rs)) C) reached
+    (subst (λ i. IsWithin N (drop i (drop n rs)) C) (one_less m) further) in
     let (L, more, left) =
-        done_on M B mid C (drop n rs) m ps (to_done M B (drop n rs) stands) run
-            (to_done mid C (drop m (drop n rs)) cut) in
+    done_on M B mid C (drop n rs) m ps (to_done M B (drop n rs) stands) run
+    (to_done mid C (drop m (drop n rs)) cut) in
     let whole : Runs A (take (n + m) rs) (before ++ ps) L = runs_on A M L rs n before ps first more in
     let next : n + m ≡ k + m - 1 = omega arith in
     let behind : drop m (drop n rs) ≡ drop (k + m - 1) rs = drop-drop m n rs ∙ ap (λ i. drop i rs) next in
@@ -233,7 +233,7 @@ as_resumed_again A B rs k [] (M, before, stands) = (M, inl before, subst (λ i. 
 as_resumed_again A B rs k (ps ∷ more) (N, first, rest) =
     let (M, again, stands) = as_resumed_again A B rs (k + length ps) more rest in
     let size : length (ps ++ flat_map (λ some. some) more) ≡ length ps + length (flat_map (λ some. some) more) =
-        length-append ps (flat_map (λ some. some) more) in
+    length-append ps (flat_map (λ some. some) more) in
     (M, (first.last, as_resumed A N rs k ps first, again), subst (λ i. IsWithin M (drop i rs) B) (omega arith) stands)
 
 -- behind the last request nothing is done
@@ -251,7 +251,7 @@ same_within A rs k given replies B last one within all run =
     let (M, again, stands) = as_resumed_again A B rs k given within in
     let same = resumed_same A rs k given replies M last one again all run in
     let behind : drop (k + length (flat_map (λ some. some) given) - 1) rs ≡ [] =
-        ap (λ i. drop i rs) (omega arith) ∙ drop-length rs in
+    ap (λ i. drop i rs) (omega arith) ∙ drop-length rs in
     (same.0, none_left M B (to_done M B [] (subst (λ (xs : List Request). IsWithin M xs B) behind stands)) ∙ same.1)
 
 -- ---- lists
@@ -263,7 +263,7 @@ in_lists A B [] (ps ∷ given) h = absurd h
 in_lists A B (rs ∷ lists) [] h = absurd h
 in_lists A B (rs ∷ lists) (ps ∷ given) (M, first, more) =
     runs_joined A M B rs (flat_map (λ requests. requests) lists) ps (flat_map (λ replies. replies) given) first
-        (in_lists M B lists given more)
+    (in_lists M B lists given more)
 
 pub one_by_one : (A B C : Ledger) (rs : List Request) (ps qs : List Reply) → Runs A rs ps B → Runs A rs qs C
     → (ps ≡ qs) × (B ≡ C) × ((x y : Content) → IsRowsOf B x → IsRowsOf C y → x ≡ y)

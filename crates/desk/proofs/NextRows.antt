@@ -27,7 +27,7 @@ pub next_rows : (A : Ledger) (plan : PlanView) (C : Content) → Good A → IsKe
     → IsRowsOf (accept A plan.request) (put_content plan.changes C)
 next_rows A plan C g key range fits x =
     let D : (D : Content) × IsRowsOf (accept A plan.request) D =
-        a_content (accept A plan.request) (good_next A plan g key range fits) in
+    a_content (accept A plan.request) (good_next A plan g key range fits) in
     subst (IsRowsOf (accept A plan.request)) (sym (fits.changes.suffice C D.0 x D.1)) D.1
 
 -- a commit that fails leaves the rows of the ledger or of the next one
@@ -44,7 +44,7 @@ leaves_either A plan changes g key range fits same holds old new stored either =
   are_before = stored.are_rows;
   are_after =
       subst (λ rows. IsRowsOf (accept A plan.request) (put_content rows stored.rows)) (sym same)
-          (next_rows A plan stored.rows g key range fits stored.are_rows);
+      (next_rows A plan stored.rows g key range fits stored.are_rows);
   either = either stored.rows stored.held stored.alone;
 }
 
@@ -59,7 +59,7 @@ stored_next A B plan changes g key range fits same is_next holds holds_new old n
   rows = with_changes changes stored.rows;
   are_rows = subst (λ L. IsRowsOf L (with_changes changes stored.rows)) (sym is_next)
       (subst (λ rows. IsRowsOf (accept A plan.request) (put_content rows stored.rows)) (sym same)
-          (next_rows A plan stored.rows g key range fits stored.are_rows));
+      (next_rows A plan stored.rows g key range fits stored.are_rows));
   held = put stored.rows stored.held;
   alone = alone (with_changes changes stored.rows) (put stored.rows stored.held);
 }

@@ -48,8 +48,8 @@ replies_one [] old x y B C h k = (h.0 ∙ sym k.0, h.1 ∙ sym k.1)
 replies_one (item ∷ items) old x y B C (line, mid, rest, replies, more, e) (line', mid', rest', replies', more', e') =
     let same = reply_one old item line line' mid mid' replies replies' in
     let f =
-        replies_one items mid rest rest' B C more
-            (subst (λ (ledger : Ledger). RepliesAll ledger items rest' C) (sym same.1) more') in
+    replies_one items mid rest rest' B C more
+    (subst (λ (ledger : Ledger). RepliesAll ledger items rest' C) (sym same.1) more') in
     (e ∙ ap (λ (l : List ℕ). l ++ rest) same.0 ∙ ap (λ (r : List ℕ). line' ++ r) f.0 ∙ sym e', f.1)
 
 -- an input has not two lists of items

@@ -22,4 +22,4 @@ lines_more old before new lines i line lt is p q =
     ∙ ap (λ (l : List ℕ). old ++ l)
     (sym (after_space-append (held_words first) last) ∙ ap after_space (sym (held_words-append first (line ∷ []))))
     ∙ ap (λ (ls : List Line). old ++ after_space (held_words ls))
-        (sym (take_more lines i line lt ∙ ap (λ (l : Line). first ++ l ∷ []) (sym is)))
+    (sym (take_more lines i line lt ∙ ap (λ (l : Line). first ++ l ∷ []) (sym is)))

@@ -50,8 +50,8 @@ pub rows_joined : (xs ys zs all : List Change) → all ≡ xs ++ zs → rows_amo
 rows_joined xs ys zs all is same h k =
     subst (λ (cs : List Change). All IsTheRow (rows_among cs).desk) (sym is)
     (subst (λ (rows : List DeskCells). All IsTheRow rows) (sym (desk_joined xs zs))
-        (All-append IsTheRow (rows_among xs).desk (rows_among zs).desk h
-            (subst (λ (c : Content). All IsTheRow c.desk) (sym same) k)))
+    (All-append IsTheRow (rows_among xs).desk (rows_among zs).desk h
+    (subst (λ (c : Content). All IsTheRow c.desk) (sym same) k)))
 
 -- copies are put in behind others as what they are copies of
 pub put_joined : (xs ys zs all : List Change) (x : Content) → all ≡ xs ++ zs → rows_among zs ≡ rows_among ys
@@ -76,8 +76,8 @@ pub one_base : (leaves : List Content → Type 0) (may_leave : Content → Type 
     → leaves (b ∷ []) → leaves (c ∷ []) → b ≡ c
 one_base leaves may_leave some among b c hb hc =
     ∥∥₁_elim (some (b ∷ []) hb) (content_set b c)
-        (λ (x : (x : Content) × may_leave x).
-            sym (one_of x.0 b (among (b ∷ []) x.0 hb x.1)) ∙ one_of x.0 c (among (c ∷ []) x.0 hc x.1))
+    (λ (x : (x : Content) × may_leave x).
+    sym (one_of x.0 b (among (b ∷ []) x.0 hb x.1)) ∙ one_of x.0 c (among (c ∷ []) x.0 hc x.1))
 
 module _ {K : Type 0} (g : Ghosts K) (keep : K) where
   -- what is put off more
@@ -88,7 +88,7 @@ module _ {K : Type 0} (g : Ghosts K) (keep : K) where
     base = h.base;
     held = h.held;
     alone = h.alone;
-    with_them = ap (λ (c : Content). with_changes more c) h.with_them ∙ sym (is h.base)
+    with_them = ap (λ (c : Content). with_changes more c) h.with_them ∙ sym (is h.base);
   }
 
   pub off_either : (changes more all : List Change)
@@ -102,7 +102,7 @@ module _ {K : Type 0} (g : Ghosts K) (keep : K) where
           base = k.base;
           held = k.held;
           alone = k.alone;
-          with_them = refl
+          with_them = refl;
         } in
         let same : with_changes changes k.base ≡ x = one_of _ x (only.among (with_changes changes k.base) was) in
         inr (inl (k.with_them ∙ is k.base ∙ ap (λ (c : Content). with_changes more c) same));
@@ -120,7 +120,7 @@ module _ {K : Type 0} (g : Ghosts K) (keep : K) where
     put_off = h;
     among = λ y k. inl (k.with_them
         ∙ ap (λ (b : Content). with_changes changes b)
-            (one_base (g.leaves keep) (g.may_leave keep) some among k.base h.base k.alone h.alone) ∙ sym h.with_them);
+        (one_base (g.leaves keep) (g.may_leave keep) some among k.base h.base k.alone h.alone) ∙ sym h.with_them);
   }
 
   -- what is stored behind it is what it holds
@@ -133,7 +133,7 @@ module _ {K : Type 0} (g : Ghosts K) (keep : K) where
         base = was.rows;
         held = was.held;
         alone = was.alone;
-        with_them = ap (λ (cs : List Change). with_changes cs was.rows) (sym none)
+        with_them = ap (λ (cs : List Change). with_changes cs was.rows) (sym none);
       } in
       record { rows = was.rows; are_rows = was.are_rows; held = here; alone = off_alone some among changes was.rows here }
 
@@ -163,9 +163,9 @@ module _ {K : Type 0} (g : Ghosts K) (keep : K) where
     are_before = was.are_rows;
     are_after =
         subst (IsRowsOf B) (is.held.with_them
-            ∙ ap (λ (b : Content). with_changes changes b)
-                (one_base (g.leaves keep) (g.may_leave keep) some among is.held.base was.rows is.held.alone was.alone))
-            is.are_rows;
+        ∙ ap (λ (b : Content). with_changes changes b)
+        (one_base (g.leaves keep) (g.may_leave keep) some among is.held.base was.rows is.held.alone was.alone))
+        is.are_rows;
     either = either was.rows was.held was.alone;
   }
 

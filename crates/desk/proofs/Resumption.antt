@@ -1,6 +1,6 @@
 -- A run that is cut and resumed is the run.
-use Rattle.std.proofs.Common.{◌≡◌, ◌∙◌, ◌⊎◌, ◌+◌, ◌-◌, ◌≤◌, ◌++◌, ℕ, List, [], ◌∷◌, ap, append-nil, append_assoc, arith,
-    drop, flat_map, inl, inr, length, refl, suc, subst, sym, take, zero}
+use Rattle.std.proofs.Common.{◌≡◌, ◌∙◌, ◌⊎◌, ◌+◌, ◌-◌, ◌≤◌, ◌++◌, ℕ, List, [], ◌∷◌, ap, append-nil, append_assoc, arith}
+use Rattle.std.proofs.Common.{drop, flat_map, inl, inr, length, refl, suc, subst, sym, take, zero}
 use Rattle.std.proofs.lemmas.List.{drop_at, length-append, length-drop, length-take, length-take-le, take_at}
 use native.Mathlib.Decide.{dec_lt}
 use Rattle.std.proofs.Math.Seq.{take-add, take-length}
@@ -47,7 +47,7 @@ pub runs_on : (A M B : Ledger) (rs : List Request) (n : ℕ) (ps qs : List Reply
     → Runs M (take (length qs) (drop n rs)) qs B → Runs A (take (n + length qs) rs) (ps ++ qs) B
 runs_on A M B rs n ps qs first more =
     subst (λ (xs : List Request). Runs A xs (ps ++ qs) B) (sym (take-add n (length qs) rs))
-        (runs_joined A M B (take n rs) (take (length qs) (drop n rs)) ps qs first more)
+    (runs_joined A M B (take n rs) (take (length qs) (drop n rs)) ps qs first more)
 
 -- ---- what was answered already
 
@@ -66,14 +66,19 @@ again M B C (x ∷ xs) (q ∷ []) (p ∷ ps) (L, answer, same) (N, next, rest) s
 -- where one stands at number n + 1, the n before it are answered
 cut_at : (A B : Ledger) (rs : List Request) (n : ℕ) → n + 1 ≤ length rs → After A rs (n + 1) B
     → (M : Ledger) × (before : List Reply) × (q : List Reply) × (length before ≡ n) × Runs A (take n rs) before M
-        × Runs M (take 1 (drop n rs)) q B
+    × Runs M (take 1 (drop n rs)) q B
 cut_at A B rs n le (done, run) =
     let parts =
-        runs_split A B (take n rs) (take 1 (drop n rs)) done
-            (subst (λ (xs : List Request). Runs A xs done B) (take-add n 1 rs) run) in
-    let size : length (take n rs) ≡ n = length-take-le n rs (omega arith) in
-    (parts.0, take (length (take n rs)) done, drop (length (take n rs)) done,
-        runs_length A parts.0 (take n rs) _ parts.1 ∙ size, parts.1, parts.2)
+    runs_split A B (take n rs) (take 1 (drop n rs)) done
+    (subst (λ (xs : List Request). Runs A xs done B) (take-add n 1 rs) run) in
+    let size : length (take n rs) ≡ n = length-take-le n rs (omega arith) in (
+      parts.0,
+      take (length (take n rs)) done,
+      drop (length (take n rs)) done,
+      runs_length A parts.0 (take n rs) _ parts.1 ∙ size,
+      parts.1,
+      parts.2,
+    )
 
 -- ---- one resuming
 
@@ -106,11 +111,13 @@ resumes_at A B C rs n [] le (inl (done, first)) more =
       counted = ap (λ i. i + 1) size;
       run =
           subst (λ i. Runs A (take i rs) (done ++ []) B) (omega arith)
-              (subst (λ (ps : List Reply). Runs A (take n rs) ps B) (sym (append-nil done)) run);
+          (subst (λ (ps : List Reply). Runs A (take n rs) ps B) (sym (append-nil done)) run);
       resumable =
-          inl (done,
-              subst (λ i. Runs A (take i rs) done C) (omega arith)
-                  (subst (λ L. Runs A (take n rs) done L) (sym more) run));
+          inl (
+            done,
+            subst (λ i. Runs A (take i rs) done C) (omega arith)
+                (subst (λ L. Runs A (take n rs) done L) (sym more) run),
+          );
     }
 resumes_at A B C rs n [] le (inr (there, after)) more =
     let (M, before, q, size, first, one) = cut_at A B rs n there after in
@@ -120,10 +127,12 @@ resumes_at A B C rs n [] le (inr (there, after)) more =
       counted = ap (λ i. i + 1) size;
       run =
           subst (λ i. Runs A (take i rs) (before ++ []) M) (omega arith)
-              (subst (λ (ps : List Reply). Runs A (take n rs) ps M) (sym (append-nil before)) first);
+          (subst (λ (ps : List Reply). Runs A (take n rs) ps M) (sym (append-nil before)) first);
       resumable =
-          inr (omega arith,
-              subst (λ i. After A rs i C) (omega arith) (subst (λ L. After A rs (n + 1) L) (sym more) after));
+          inr (
+            omega arith,
+            subst (λ i. After A rs i C) (omega arith) (subst (λ L. After A rs (n + 1) L) (sym more) after),
+          );
     }
 resumes_at A B C rs n (p ∷ ps) le stands more =
     let (before, size, run) = from_before A B C rs n (p ∷ ps) le stands more (omega arith) in
@@ -133,8 +142,10 @@ resumes_at A B C rs n (p ∷ ps) le stands more =
       counted = ap (λ i. i + 1) size;
       run = subst (λ i. Runs A (take (i + length (p ∷ ps)) rs) (before ++ p ∷ ps) C) (sym size) run;
       resumable =
-          inl (before ++ p ∷ ps,
-              subst (λ i. Runs A (take i rs) (before ++ p ∷ ps) C) (sym (next_is n (length (p ∷ ps)))) run);
+          inl (
+            before ++ p ∷ ps,
+            subst (λ i. Runs A (take i rs) (before ++ p ∷ ps) C) (sym (next_is n (length (p ∷ ps)))) run,
+          );
     }
 
 before_is : (k : ℕ) → 1 ≤ k → (k - 1) + 1 ≡ k
@@ -157,13 +168,13 @@ is_whole A B rs k ps h all = (h.before, h.counted, by h.resumable)
     run : Runs A rs (h.before ++ ps) h.last
     run =
         subst (λ (xs : List Request). Runs A xs (h.before ++ ps) h.last) (take-length rs)
-            (subst (λ i. Runs A (take i rs) (h.before ++ ps) h.last) size h.run)
+        (subst (λ i. Runs A (take i rs) (h.before ++ ps) h.last) size h.run)
 
     by : ResumableAt A rs (k + length ps) B → Runs A rs (h.before ++ ps) B
     by (inl (done, other)) =
         let there : Runs A rs done B =
-            subst (λ (xs : List Request). Runs A xs done B) (take-length rs)
-                (subst (λ i. Runs A (take i rs) done B) (omega arith) other) in
+        subst (λ (xs : List Request). Runs A xs done B) (take-length rs)
+        (subst (λ i. Runs A (take i rs) done B) (omega arith) other) in
         subst (λ L. Runs A rs (h.before ++ ps) L) (runs_once A rs (h.before ++ ps) done h.last B run there).1 run
     by (inr (le, after)) = absurd (omega arith)
 
@@ -181,7 +192,7 @@ pub not_all : (B C : Ledger) (rs : List Request) (k : ℕ) (ps : List Reply) →
 not_all B C rs k ps one le run apart =
     let dropped : length (drop (k - 1) rs) ≡ length rs - (k - 1) = length-drop (k - 1) rs in
     let more : length ps + 1 ≤ length (drop (k - 1) rs) =
-        fewer (length ps) (length (drop (k - 1) rs)) (few B C (drop (k - 1) rs) ps run) apart in
+    fewer (length ps) (length (drop (k - 1) rs)) (few B C (drop (k - 1) rs) ps run) apart in
     omega arith
 
 -- all are answered
@@ -196,7 +207,7 @@ pub one_more_stands : (A B next : Ledger) (rs : List Request) (k : ℕ) (ps : Li
 one_more_stands A B next rs k ps one le stands (qs, run) =
     let dropped : length (drop (k - 1) rs) ≡ length rs - (k - 1) = length-drop (k - 1) rs in
     let size : length qs ≡ length ps + 1 =
-        runs_length B next _ qs run ∙ length-take-le (length ps + 1) (drop (k - 1) rs) (omega arith) in
+    runs_length B next _ qs run ∙ length-take-le (length ps + 1) (drop (k - 1) rs) (omega arith) in
     let after = from_before A B next rs (k - 1) qs (omega arith)
     (subst (λ i. ResumableAt A rs i B) (sym (before_is k one)) stands)
     (subst (λ i. Runs B (take i (drop (k - 1) rs)) qs next) (sym size) run) (omega arith) in
@@ -226,24 +237,24 @@ resumes_joined A M C rs k ps qs le first second =
     let counted2 = second.counted in
     let size : length second.before ≡ n = omega arith in
     let run : Runs A (take (n + length qs) rs) (second.before ++ qs) second.last =
-        subst (λ i. Runs A (take (i + length qs) rs) (second.before ++ qs) second.last) size second.run in
+    subst (λ i. Runs A (take (i + length qs) rs) (second.before ++ qs) second.last) size second.run in
     let parts =
-        runs_split A second.last (take n rs) (take (length qs) (drop n rs)) (second.before ++ qs)
-            (subst (λ (xs : List Request). Runs A xs (second.before ++ qs) second.last) (take-add n (length qs) rs)
-                run) in
+    runs_split A second.last (take n rs) (take (length qs) (drop n rs)) (second.before ++ qs)
+    (subst (λ (xs : List Request). Runs A xs (second.before ++ qs) second.last) (take-add n (length qs) rs)
+    run) in
     let front : length (take n rs) ≡ n = length-take-le n rs (omega arith) in
     let same : second.before ≡ first.before ++ ps =
     sym (take_at second.before qs (length (take n rs)) (size ∙ sym front))
     ∙ (runs_once A (take n rs) _ (first.before ++ ps) parts.0 first.last parts.1 first.run).0 in
     let both : second.before ++ qs ≡ first.before ++ (ps ++ qs) =
-        ap (λ (xs : List Reply). xs ++ qs) same ∙ append_assoc first.before ps qs in
+    ap (λ (xs : List Reply). xs ++ qs) same ∙ append_assoc first.before ps qs in
     record {
       before = first.before;
       last = second.last;
       counted = first.counted;
       run =
           subst (λ i. Runs A (take i rs) (first.before ++ (ps ++ qs)) second.last) (omega (arith, length-append ps qs))
-              (subst (λ (xs : List Reply). Runs A (take (n + length qs) rs) xs second.last) both run);
+          (subst (λ (xs : List Reply). Runs A (take (n + length qs) rs) xs second.last) both run);
       resumable = subst (λ i. ResumableAt A rs i C) (omega (arith, length-append ps qs)) second.resumable;
     }
 
@@ -253,9 +264,9 @@ pub resumed_again : (A B : Ledger) (rs : List Request) (k : ℕ) (given : List (
 resumed_again A B rs k [] one le stands = resumes A B B rs k [] one (omega arith) stands refl
 resumed_again A B rs k (ps ∷ more) one le (M, first, rest) =
     let size : length (ps ++ flat_map (λ some. some) more) ≡ length ps + length (flat_map (λ some. some) more) =
-        length-append ps (flat_map (λ some. some) more) in
+    length-append ps (flat_map (λ some. some) more) in
     resumes_joined A M B rs k ps (flat_map (λ some. some) more) (omega arith) first
-        (resumed_again A B rs (k + length ps) more (omega arith) (omega arith) rest)
+    (resumed_again A B rs (k + length ps) more (omega arith) (omega arith) rest)
 
 pub resumed_same : (A : Ledger) (rs : List Request) (k : ℕ) (given : List (List Reply)) (replies : List Reply)
     (B last : Ledger) → 1 ≤ k → ResumesAgain A rs k given B
@@ -264,9 +275,11 @@ pub resumed_same : (A : Ledger) (rs : List Request) (k : ℕ) (given : List (Lis
 resumed_same A rs k given replies B last one again all run =
     let whole = is_whole A B rs k (flat_map (λ some. some) given) (resumed_again A B rs k given one (omega arith) again) all in
     let same = runs_once A rs (whole.0 ++ flat_map (λ some. some) given) replies B last whole.2 run in
-    let size : length whole.0 ≡ k - 1 = let e = whole.1 in omega arith in
-    (sym (drop_at whole.0 (flat_map (λ some. some) given) (k - 1) size)
-        ∙ ap (λ (xs : List Reply). drop (k - 1) xs) same.0, same.1)
+    let size : length whole.0 ≡ k - 1 = let e = whole.1 in omega arith in (
+      sym (drop_at whole.0 (flat_map (λ some. some) given) (k - 1) size)
+          ∙ ap (λ (xs : List Reply). drop (k - 1) xs) same.0,
+      same.1,
+    )
 
 -- ---- after a stop
 
@@ -288,9 +301,9 @@ pub found_standing : (A B C D : Ledger) (rs : List Request) (k : ℕ) (x y z : C
     → ResumableAt A rs k D
 found_standing A B C D rs k x y z good range found b c these those (inl is) rows =
     subst (λ L. ResumableAt A rs k L)
-        (told_by_rows B D y (stands_good A B rs k good range b) found these
-            (subst (λ (w : Content). IsRowsOf D w) is rows)) b
+    (told_by_rows B D y (stands_good A B rs k good range b) found these
+    (subst (λ (w : Content). IsRowsOf D w) is rows)) b
 found_standing A B C D rs k x y z good range found b c these those (inr is) rows =
     subst (λ L. ResumableAt A rs k L)
-        (told_by_rows C D z (stands_good A C rs k good range c) found those
-            (subst (λ (w : Content). IsRowsOf D w) is rows)) c
+    (told_by_rows C D z (stands_good A C rs k good range c) found those
+    (subst (λ (w : Content). IsRowsOf D w) is rows)) c

@@ -4,9 +4,10 @@ use Rattle.std.proofs.lemmas.Fmt.{length-decimal-le}
 use Rattle.std.proofs.lemmas.List.{length-append}
 use Rattle.words.specs.Replies.{refusal_code, refusal_name, reply_text}
 use Rattle.words.specs.declared.reply.Refusal.{Refusal}
-use Rattle.words.specs.declared.reply.Refusal.TheVariants.{KeyReused, Full, FieldThere, NoField, BadBounds, OrderThere,
-    NoOrder, Ended, Past, SameField, OtherWay, TooManyLines, TooLittle, TooMuch, NotHeld, OverUse, TransferFixed,
-    ClockBack, Firm, BadCommand}
+use Rattle.words.specs.declared.reply.Refusal.TheVariants.{KeyReused, Full, FieldThere, NoField, BadBounds, OrderThere}
+use Rattle.words.specs.declared.reply.Refusal.TheVariants.{NoOrder, Ended, Past, SameField, OtherWay, TooManyLines}
+use Rattle.words.specs.declared.reply.Refusal.TheVariants.{TooLittle, TooMuch, NotHeld, OverUse, TransferFixed}
+use Rattle.words.specs.declared.reply.Refusal.TheVariants.{ClockBack, Firm, BadCommand}
 use Rattle.words.specs.declared.reply.Reply.{Reply}
 use Rattle.words.specs.declared.reply.Reply.TheVariants.{Done, Refused}
 use Rattle.desk.specs.Replies.{number_of}
@@ -57,7 +58,7 @@ pub line_is_short : (key first second third line : List ℕ) (reply : Reply) →
 line_is_short key first second third line reply few small is_key is_second is_third is_line =
     let text = text_is_short reply small in
     let size : (xs ys zs : List ℕ) → xs ≡ ys ++ zs → length xs ≡ length ys + length zs =
-        λ xs ys zs is. ap (λ (ws : List ℕ). length ws) is ∙ length-append ys zs in
+    λ xs ys zs is. ap (λ (ws : List ℕ). length ws) is ∙ length-append ys zs in
     let one = ap (λ (ws : List ℕ). length ws) is_key in
     let two = size second first (codes " ") is_second in
     let three = size third second (reply_text reply) is_third in

@@ -1,6 +1,6 @@
 -- For each input there is a text.
-use Rattle.std.proofs.Common.{◌≡◌, ℕ, ℤ, pos, negsuc, ◌≤ℤ◌, ◌+ℤ◌, ◌-ℤ◌, List, [], ◌∷◌, ◌++◌, Option, None, Some,
-    MatchOption, append_assoc, arith, refl, sym, subst}
+use Rattle.std.proofs.Common.{◌≡◌, ℕ, ℤ, pos, negsuc, ◌≤ℤ◌, ◌+ℤ◌, ◌-ℤ◌, List, [], ◌∷◌, ◌++◌, Option, None, Some}
+use Rattle.std.proofs.Common.{MatchOption, append_assoc, arith, refl, sym, subst}
 use Rattle.std.specs.List.{AllByRecursion as Each}
 use Rattle.std.proofs.lemmas.Int.{ints}
 use Rattle.escrow.specs.Codes.{IsKey}
@@ -88,7 +88,7 @@ field_shown A b a f g there =
       hi = f.hi;
       value = value.0;
       inf = inf.0;
-      sup = sup.0
+      sup = sup.0;
     } in
     let shows : ShowsField A f view = record {
       name = refl;
@@ -179,8 +179,8 @@ pub text_on : (old mid : Ledger) (input lines : List ℕ) (items answered left :
     → (more : List ℕ) × (new : Ledger) × IsText old input (lines ++ more) new
 text_on old mid input lines items answered left good are split replies =
     let range =
-        behind_in_range answered left
-            (subst (λ (xs : List Item). Each IsItemInRange xs) split (items_in_range input items are)) in
+    behind_in_range answered left
+    (subst (λ (xs : List Item). Each IsItemInRange xs) split (items_in_range input items are)) in
     let more = some_replies left mid good range in (
       more.0,
       more.1,
@@ -189,7 +189,7 @@ text_on old mid input lines items answered left good are split replies =
         are_items = are;
         replies =
             subst (λ (xs : List Item). RepliesAll old xs (lines ++ more.0) more.1) (sym split)
-                (replies_joined answered left old mid more.1 lines more.0 replies more.2);
+            (replies_joined answered left old mid more.1 lines more.0 replies more.2);
       },
     )
 
@@ -201,21 +201,23 @@ pub text_from : (fault : ScriptFault) (before behind : DeskState) (input written
 text_from fault before behind input written items good are cut =
     let told = are_told fault before behind items written cut in
     let range =
-        front_in_range cut.answered cut.left
-            (subst (λ (xs : List Item). Each IsItemInRange xs) cut.split (items_in_range input items are)) in
+    front_in_range cut.answered cut.left
+    (subst (λ (xs : List Item). Each IsItemInRange xs) cut.split (items_in_range input items are)) in
     let (more, last, text) =
-        text_on before.ledger behind.ledger input (written ++ told.left) items cut.answered cut.left
-            (good_after_all cut.answered before.ledger (written ++ told.left) behind.ledger good range told.all) are
-            cut.split told.all in
-    (told.left ++ more, last,
-        subst (λ (out : List ℕ). IsText before.ledger input out last) (append_assoc written told.left more) text)
+    text_on before.ledger behind.ledger input (written ++ told.left) items cut.answered cut.left
+    (good_after_all cut.answered before.ledger (written ++ told.left) behind.ledger good range told.all) are
+    cut.split told.all in (
+      told.left ++ more,
+      last,
+      subst (λ (out : List ℕ). IsText before.ledger input out last) (append_assoc written told.left more) text,
+    )
 
 -- a script that is cut has written a beginning of its text
 pub script_begins : (fault : ScriptFault) (old new : DeskState) (s : Streams) → Good old.ledger
     → EndsCut lines fault old new s → WritesBeginning old.ledger s
 script_begins fault old new s good ends =
     let (unwritten, last, text) =
-        text_from fault old new ends.read ends.written ends.questions good ends.are_questions ends.cut in
+    text_from fault old new ends.read ends.written ends.questions good ends.are_questions ends.cut in
     record {
       read = ends.read;
       written = ends.written;
@@ -223,5 +225,5 @@ script_begins fault old new s good ends =
       last = last;
       reads = ends.reads;
       writes = ends.writes;
-      text = text
+      text = text;
     }

@@ -10,9 +10,14 @@ pub replies_joined : (xs ys : List Item) (old mid new : Ledger) (out more : List
 replies_joined [] ys old mid new out more first second =
     subst (λ (text : List ℕ). RepliesAll old ys (text ++ more) new) (sym first.0)
     (subst (λ (ledger : Ledger). RepliesAll ledger ys more new) first.1 second)
-replies_joined (x ∷ xs) ys old mid new out more (line, after, rest, reply, others, e) second =
-    (line, after, rest ++ more, reply, replies_joined xs ys after mid new rest more others second,
-        ap (λ (text : List ℕ). text ++ more) e ∙ append_assoc line rest more)
+replies_joined (x ∷ xs) ys old mid new out more (line, after, rest, reply, others, e) second = (
+  line,
+  after,
+  rest ++ more,
+  reply,
+  replies_joined xs ys after mid new rest more others second,
+  ap (λ (text : List ℕ). text ++ more) e ∙ append_assoc line rest more,
+)
 
 -- a reply more
 pub replies_more : (xs : List Item) (x : Item) (old mid new : Ledger) (out line : List ℕ) → RepliesAll old xs out mid

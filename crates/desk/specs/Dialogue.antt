@@ -1,7 +1,7 @@
 -- A dialogue with a desk: bytes come in, the questions in them are answered in their order, and each answer is written
 -- before the next question is answered.
-use Rattle.std.specs.Prelude.{◌≡◌, ◌≢◌, ◌⊎◌, ◌≤◌, ◌-◌, ◌^◌, Bool, IsTrue, false, true, ℕ, List, [], ◌∷◌, ◌++◌, Option,
-    flat_map, length, min}
+use Rattle.std.specs.Prelude.{◌≡◌, ◌≢◌, ◌⊎◌, ◌≤◌, ◌-◌, ◌^◌, Bool, IsTrue, false, true, ℕ, List, [], ◌∷◌, ◌++◌, Option}
+use Rattle.std.specs.Prelude.{flat_map, length, min}
 use Rattle.std.specs.Io.KnownBytes.{Appends, Consumes, IsAtEnd}
 use Rattle.std.specs.List.{AllByRecursion as Each}
 use Rattle.words.specs.declared.command.Request.{Request}

@@ -1,6 +1,6 @@
 -- What an opening finds after a stop: the headline.
-use Rattle.std.specs.Prelude.{◌≡◌, ◌≢◌, ◌↔◌, ◌≤◌, ◌+◌, ◌++◌, IfSome, IsTrue, false, ℕ, List, [], ◌∷◌, Option, Result,
-    drop, flat_map, length, take}
+use Rattle.std.specs.Prelude.{◌≡◌, ◌≢◌, ◌↔◌, ◌≤◌, ◌+◌, ◌++◌, IfSome, IsTrue, false, ℕ, List, [], ◌∷◌, Option, Result}
+use Rattle.std.specs.Prelude.{drop, flat_map, length, take}
 use Rattle.std.specs.Io.KnownBytes.{Consumes}
 use Rattle.words.specs.declared.command.Request.{Request}
 use Rattle.words.specs.declared.item.Item.{Item}

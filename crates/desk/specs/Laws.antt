@@ -1,6 +1,6 @@
 -- What the dialogue in lines is promised to keep (private).
-use Rattle.std.proofs.Common.{◌≡◌, ◌∙◌, Bool, true, false, ℕ, List, [], ◌++◌, Option, Some, ap, append-nil,
-    append_assoc, refl, subst, sym}
+use Rattle.std.proofs.Common.{◌≡◌, ◌∙◌, Bool, true, false, ℕ, List, [], ◌++◌, Option, Some, ap, append-nil}
+use Rattle.std.proofs.Common.{append_assoc, refl, subst, sym}
 use Rattle.words.proofs.OneFeed.{feeds_some_items}
 use Rattle.words.proofs.TwoPieces.{feeds_joined}
 use Rattle.words.specs.Stream.{Feeds}
@@ -20,20 +20,22 @@ fed_settles held waiting read false found fed more last =
     let split : found ++ behind ≡ (fed.all ++ items) ++ unended rest =
     sym (append_assoc found waiting (items ++ unended rest))
     ∙ ap (λ (xs : List Item). xs ++ (items ++ unended rest)) (sym all)
-    ∙ sym (append_assoc fed.all items (unended rest)) in
-    (behind,
-        record {
-          ended = fed.all ++ items;
-          rest = rest;
-          feeds = feeds_joined (Some []) fed.rest rest read more fed.all items fed.feeds feeds;
-          all = split
-        })
+    ∙ sym (append_assoc fed.all items (unended rest)) in (
+      behind,
+      record {
+        ended = fed.all ++ items;
+        rest = rest;
+        feeds = feeds_joined (Some []) fed.rest rest read more fed.all items fed.feeds feeds;
+        all = split;
+      },
+    )
 fed_settles held waiting read true found fed more last =
-    let whole : read ++ more ≡ read = ap (λ (xs : List ℕ). read ++ xs) (last refl) ∙ append-nil read in
-    (waiting ++ unended held,
-        record {
-          ended = fed.all;
-          rest = fed.rest;
-          feeds = subst (λ (input : List ℕ). Feeds (Some []) input fed.all fed.rest) (sym whole) fed.feeds;
-          all = sym fed.split
-        })
+    let whole : read ++ more ≡ read = ap (λ (xs : List ℕ). read ++ xs) (last refl) ∙ append-nil read in (
+      waiting ++ unended held,
+      record {
+        ended = fed.all;
+        rest = fed.rest;
+        feeds = subst (λ (input : List ℕ). Feeds (Some []) input fed.all fed.rest) (sym whole) fed.feeds;
+        all = sym fed.split;
+      },
+    )

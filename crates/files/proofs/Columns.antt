@@ -1,7 +1,7 @@
 -- The numbers of a good ledger fit into the columns of a sheet.
-use Rattle.std.proofs.Common.{◌≡◌, ◌+◌, ◌-◌, ◌*◌, ◌≤◌, ◌-ℤ◌, ◌+ℤ◌, All, Bool, true, false, Contains, ℕ, pos, List, [],
-    ◌∷◌, ◌++◌, ap, arith, codes, cond, decimal, filter, flat_map, length, length-append, refl, replicate, subst, sum_by,
-    sym}
+use Rattle.std.proofs.Common.{◌≡◌, ◌+◌, ◌-◌, ◌*◌, ◌≤◌, ◌-ℤ◌, ◌+ℤ◌, All, Bool, true, false, Contains, ℕ, pos, List, []}
+use Rattle.std.proofs.Common.{◌∷◌, ◌++◌, ap, arith, codes, cond, decimal, filter, flat_map, length, length-append, refl}
+use Rattle.std.proofs.Common.{replicate, subst, sum_by, sym}
 use Rattle.std.specs.List.{AllByRecursion as Each, AllZip}
 use Rattle.std.proofs.lemmas.Fmt.{length-decimal-le}
 use Rattle.std.proofs.lemmas.Int.{ints}
@@ -27,8 +27,11 @@ left_len w t h = omega (arith, length-append t (replicate (w - length t) 32), le
 
 right_len : (w n : ℕ) → length (decimal n) ≤ w → length (right w n) ≡ w
 right_len w n h =
-    omega (arith, length-append (replicate (w - length (decimal n)) 32) (decimal n),
-        length-replicate {A = ℕ} (w - length (decimal n)) 32)
+    omega (
+      arith,
+      length-append (replicate (w - length (decimal n)) 32) (decimal n),
+      length-replicate {A = ℕ} (w - length (decimal n)) 32,
+    )
 
 level_len : (n : ℕ) → IsLevel n → length (level_column n) ≡ 11
 level_len n h =
@@ -39,8 +42,15 @@ level_len n h =
 seven_len : (a b c d e f g : List ℕ) → length a ≡ 16 → length b ≡ 11 → length c ≡ 11 → length d ≡ 11 → length e ≡ 11
     → length f ≡ 11 → length g ≡ 1 → length (a ++ b ++ c ++ d ++ e ++ f ++ g) ≡ 72
 seven_len a b c d e f g h i j k l m n =
-    omega (arith, length-append (a ++ b ++ c ++ d ++ e ++ f) g, length-append (a ++ b ++ c ++ d ++ e) f,
-        length-append (a ++ b ++ c ++ d) e, length-append (a ++ b ++ c) d, length-append (a ++ b) c, length-append a b)
+    omega (
+      arith,
+      length-append (a ++ b ++ c ++ d ++ e ++ f) g,
+      length-append (a ++ b ++ c ++ d ++ e) f,
+      length-append (a ++ b ++ c ++ d) e,
+      length-append (a ++ b ++ c) d,
+      length-append (a ++ b) c,
+      length-append a b,
+    )
 
 four_len : (a b c d : List ℕ) → length a ≡ 16 → length b ≡ 1 → length c ≡ 14 → length d ≡ 1 → length (a ++ b ++ c ++ d) ≡ 32
 four_len a b c d h i j k = omega (arith, length-append (a ++ b ++ c) d, length-append (a ++ b) c, length-append a b)
@@ -98,9 +108,9 @@ view_fits A title f v g short there s =
     let least = levels.least in let low = levels.inf in let high = levels.sup in let greatest = levels.greatest in
     let value : pos v.value ≡ settled A f = s.value in
     let inf : pos v.inf ≡ (settled A f -ℤ held_to_take A f.name) =
-        inf_unique A f (pos v.inf) (settled A f -ℤ held_to_take A f.name) s.inf (inf_is A sound f) in
+    inf_unique A f (pos v.inf) (settled A f -ℤ held_to_take A f.name) s.inf (inf_is A sound f) in
     let sup : pos v.sup ≡ (settled A f +ℤ held_to_add A f.name) =
-        sup_unique A f (pos v.sup) (settled A f +ℤ held_to_add A f.name) s.sup (sup_is A sound f) in
+    sup_unique A f (pos v.sup) (settled A f +ℤ held_to_add A f.name) s.sup (sup_is A sound f) in
     record {
       short = short f v good s;
       lo = subst IsLevel (sym s.lo) good.lo;
@@ -134,19 +144,21 @@ pub sheet_len : (is_shown : Name → Bool) (title : FieldView → List ℕ) (A :
 sheet_len is_shown title A text g short sheet =
     let fields : List Field = filter (λ f. is_shown f.name) A.fields in
     let there : All (Contains A.fields) (filter (λ f. is_shown f.name) A.fields) =
-        All-filter (λ f. is_shown f.name) (Contains A.fields) A.fields (All-contains_itself A.fields) in
+    All-filter (λ f. is_shown f.name) (Contains A.fields) A.fields (All-contains_itself A.fields) in
     let (fit, long) =
-        views_fit A title (filter (λ f. is_shown f.name) A.fields) sheet.views g short
-            (recursion_from_All (Contains A.fields) (filter (λ f. is_shown f.name) A.fields) there) sheet.show in
+    views_fit A title (filter (λ f. is_shown f.name) A.fields) sheet.views g short
+    (recursion_from_All (Contains A.fields) (filter (λ f. is_shown f.name) A.fields) there) sheet.show in
     let few = filter_le (λ (f : Field). is_shown f.name) A.fields in
     let most = g.few_fields in
     let sum = sum_le title sheet.views fit in
     let total = total_len (sum_by (λ v. v.value) sheet.views) (omega arith) in
     let lines = lines_len title sheet.views fit in
     let whole : length text ≡ length (sheet_text title sheet.views) = ap length sheet.text_is in
-    omega (arith,
-        length-append (flat_map (λ v. field_line (title v) v) sheet.views)
-            (total_line (sum_by (λ v. v.value) sheet.views)))
+    omega (
+      arith,
+      length-append (flat_map (λ v. field_line (title v) v) sheet.views)
+          (total_line (sum_by (λ v. v.value) sheet.views)),
+    )
 
 -- ---- titles
 

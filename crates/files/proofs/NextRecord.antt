@@ -1,6 +1,6 @@
 -- A record more of a file that has begun: the header, or a row behind it.
-use Rattle.std.proofs.Common.{◌≡◌, ◌≢◌, ◌⊎◌, ◌∙◌, ◌≤◌, ℕ, List, [], ◌∷◌, ◌++◌, length, Option, None, Some, IfSome, ap,
-    append_assoc, arith, inl, inr, refl, subst, sym}
+use Rattle.std.proofs.Common.{◌≡◌, ◌≢◌, ◌⊎◌, ◌∙◌, ◌≤◌, ℕ, List, [], ◌∷◌, ◌++◌, length, Option, None, Some, IfSome, ap}
+use Rattle.std.proofs.Common.{append_assoc, arith, inl, inr, refl, subst, sym}
 use Rattle.words.specs.declared.command.Request.{Request}
 use Rattle.files.specs.Files.{AreRecordsOf, BeginsFile, Breaks, FaultsAt, IsFile, NamesFirst, Record}
 use Rattle.files.specs.declared.fault.FileFault.{FileFault}
@@ -72,8 +72,8 @@ names_none header says (Some bytes) fault (inr e) =
 -- a fault among the records that were given names the first of the text
 pub names_given : (header : Record) (says : List Record → List Request → Type 0) (known : Option (List ℕ)) (fault : FileFault)
     → IfSome known (λ bytes.
-        (records : List Record) × (after : List Record) × AreRecordsOf bytes (records ++ after)
-        × ((1 ≤ length records) × FaultsAt header says records fault))
+    (records : List Record) × (after : List Record) × AreRecordsOf bytes (records ++ after)
+    × ((1 ≤ length records) × FaultsAt header says records fault))
     → IfSome known (λ bytes. NamesFirst header says bytes fault)
 names_given header says None fault h = tt
 names_given header says (Some bytes) fault (records, after, all, (some, faults)) =
@@ -83,8 +83,8 @@ names_given header says (Some bytes) fault (records, after, all, (some, faults))
 pub names_header : (header : Record) (holds : List Record → Type 0) (says : List Record → List Request → Type 0)
     (known : Option (List ℕ)) (number : ℕ) → number ≡ 0
     → IfSome known (λ bytes.
-        (records : List Record) × AreRecordsOf bytes records
-        × ((length records ≡ number) × BeginsFile header holds records))
+    (records : List Record) × AreRecordsOf bytes records
+    × ((length records ≡ number) × BeginsFile header holds records))
     → IfSome known (λ bytes. NamesFirst header says bytes (BadRecord 0))
 names_header header holds says None number z h = tt
 names_header header holds says (Some bytes) number z ([], all, (n, begins)) = ([], all, refl)
@@ -93,8 +93,8 @@ names_header header holds says (Some bytes) number z (r ∷ rs, all, (n, begins)
 -- a whole file
 pub whole_file : (header : Record) (holds : List Record → Type 0) (known : Option (List ℕ)) (number : ℕ) → 1 ≤ number
     → IfSome known (λ bytes.
-        (records : List Record) × AreRecordsOf bytes records
-        × ((length records ≡ number) × BeginsFile header holds records))
+    (records : List Record) × AreRecordsOf bytes records
+    × ((length records ≡ number) × BeginsFile header holds records))
     → IfSome known (λ bytes. (rows : List Record) × AreRecordsOf bytes (header ∷ rows) × holds rows)
 whole_file header holds None number some h = tt
 whole_file header holds (Some bytes) number some ([], all, (n, begins)) = absurd (omega arith)
@@ -110,5 +110,5 @@ file_of header says holds requests None step h = tt
 file_of header says holds requests (Some bytes) step (rows, all, held) = record {
   rows = rows;
   records = all;
-  said = step rows held
+  said = step rows held;
 }

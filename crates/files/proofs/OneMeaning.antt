@@ -1,6 +1,6 @@
 -- What files say is one list, and their records in front of others say something.
-use Rattle.std.proofs.Common.{◌≡◌, ◌⊎◌, ◌∙◌, ◌≤◌, ℕ, List, [], ◌∷◌, ◌++◌, length, map, ap, arith, decimal, inl, inr,
-    refl, subst, sym}
+use Rattle.std.proofs.Common.{◌≡◌, ◌⊎◌, ◌∙◌, ◌≤◌, ℕ, List, [], ◌∷◌, ◌++◌, length, map, ap, arith, decimal, inl, inr}
+use Rattle.std.proofs.Common.{refl, subst, sym}
 use Rattle.std.specs.List.{AllZip, AllByRecursion as Each}
 use Rattle.std.proofs.lemmas.Fmt.{decimal_injective}
 use Rattle.std.proofs.lemmas.List.Elements.{All-from_recursion, recursion_from_All}
@@ -33,7 +33,7 @@ request_same x y e f = made_same x.key y.key x.command y.command e f
 delivery_one : (row : Record) (x y : Request) → IsDelivery row x → IsDelivery row y → x ≡ y
 delivery_one row x y h k =
     let e : x.key ∷ h.branch ∷ h.article ∷ decimal h.qty ∷ [] ≡ y.key ∷ k.branch ∷ k.article ∷ decimal k.qty ∷ [] =
-        sym h.fields ∙ k.fields in
+    sym h.fields ∙ k.fields in
     let key : x.key ≡ y.key = cc in
     let branch : h.branch ≡ k.branch = cc in
     let article : h.article ≡ k.article = cc in
@@ -70,8 +70,8 @@ deliveries_say_one = singles_say_one IsDelivery delivery_one
 rebound_one : (row : Record) (x y : Request) → IsRebound row x → IsRebound row y → x ≡ y
 rebound_one row x y h k =
     let e : x.key ∷ h.branch ∷ h.article ∷ decimal h.lo ∷ decimal h.hi ∷ []
-        ≡ y.key ∷ k.branch ∷ k.article ∷ decimal k.lo ∷ decimal k.hi ∷ [] =
-        sym h.fields ∙ k.fields in
+    ≡ y.key ∷ k.branch ∷ k.article ∷ decimal k.lo ∷ decimal k.hi ∷ [] =
+    sym h.fields ∙ k.fields in
     let key : x.key ≡ y.key = cc in
     let branch : h.branch ≡ k.branch = cc in
     let article : h.article ≡ k.article = cc in
@@ -106,7 +106,7 @@ orders_one rows (x ∷ xs) [] (first, rest, split, order, other, say) k = absurd
 orders_one rows (x ∷ xs) (y ∷ ys) (first, rest, split, order, other, say) (first2, rest2, split2, order2, other2, say2) =
     let a = agree first first2 x y order order2 rest rest2 ys other2 say2 (sym split ∙ split2) in
     by a.more a.lines a.rest a.key a.number a.until
-        (λ same. orders_one rest xs ys say (subst (λ l. SayOrders l ys) (sym same) say2))
+    (λ same. orders_one rest xs ys say (subst (λ l. SayOrders l ys) (sym same) say2))
   where
     by : (more : List OpenLine) → order2.lines ≡ order.lines ++ more
         → rest ≡ map (order_row x.key order.number order.until) more ++ rest2 → x.key ≡ y.key
@@ -115,8 +115,8 @@ orders_one rows (x ∷ xs) (y ∷ ys) (first, rest, split, order, other, say) (f
     by [] lines same key number until tails =
         let equal : order.lines ≡ order2.lines = sym (lines ∙ append_end order.lines) in
         let command : ◌≡◌ {A = Command} (Open order.number order.until order.lines)
-            (Open order2.number order2.until order2.lines) =
-            cc in
+        (Open order2.number order2.until order2.lines) =
+        cc in
         let head = request_same x y key (order.command ∙ command ∙ sym order2.command) in
         ap (λ z. z ∷ xs) head ∙ ap (λ l. y ∷ l) (tails same)
     by (z ∷ zs) lines same key number until tails =
@@ -137,14 +137,14 @@ halves (x ∷ xs) ys (z ∷ zs) ws e = by (halves xs ys zs ws tails)
 
     by : ((m : List Record) × (zs ≡ xs ++ m)) ⊎ ((m : List Record) × (xs ≡ zs ++ m) × (ws ≡ m ++ ys))
         → ((m : List Record) × (z ∷ zs ≡ (x ∷ xs) ++ m))
-            ⊎ ((m : List Record) × (x ∷ xs ≡ (z ∷ zs) ++ m) × (ws ≡ m ++ ys))
+        ⊎ ((m : List Record) × (x ∷ xs ≡ (z ∷ zs) ++ m) × (ws ≡ m ++ ys))
     by (inl (m, longer)) = inl (m, ap (λ a. a ∷ zs) (sym head) ∙ ap (λ l. x ∷ l) longer)
     by (inr (m, longer, rest)) = inr (m, ap (λ a. a ∷ xs) head ∙ ap (λ l. z ∷ l) longer, rest)
 
 -- the lines of the first records of an order
 front_lines : (f : OpenLine → Record) (lines : List OpenLine) (xs m : List Record) → map f lines ≡ xs ++ m
     → (front : List OpenLine) × (xs ≡ map f front) × (length front ≤ length lines)
-        × (Each IsOpenLine lines → Each IsOpenLine front)
+    × (Each IsOpenLine lines → Each IsOpenLine front)
 front_lines f lines [] m e = ([], refl, omega arith, λ h. tt)
 front_lines f [] (x ∷ xs) m e = absurd (cc)
 front_lines f (l ∷ ls) (x ∷ xs) m e =
@@ -158,7 +158,7 @@ front_order : (x : Record) (xs m first : List Record) (r : Request) → IsOrder 
     → (s : Request) × IsOrder (x ∷ xs) s × (s.key ≡ r.key)
 front_order x xs m first r order e =
     let (front, same, fits, each) =
-        front_lines (order_row r.key order.number order.until) order.lines (x ∷ xs) m (sym order.records ∙ e) in
+    front_lines (order_row r.key order.number order.until) order.lines (x ∷ xs) m (sym order.records ∙ e) in
     by front same fits each
   where
     by : (front : List OpenLine) → x ∷ xs ≡ map (order_row r.key order.number order.until) front
@@ -181,7 +181,7 @@ front_order x xs m first r order e =
               fits = omega arith;
               each =
                   All-from_recursion IsOpenLine (l ∷ ls)
-                      (each (recursion_from_All IsOpenLine order.lines order.lines_form.each))
+                  (each (recursion_from_All IsOpenLine order.lines order.lines_form.each));
             };
             records = same;
           },

@@ -1,6 +1,6 @@
 -- A file has one reading: its records are one list, and what these say is one list of requests.
-use Rattle.std.proofs.Common.{◌≡◌, ◌∙◌, ◌<◌, ℕ, List, [], ◌∷◌, ◌++◌, Option, None, Some, length, ap, append_assoc,
-    arith, inl, inr, refl, subst, sym}
+use Rattle.std.proofs.Common.{◌≡◌, ◌∙◌, ◌<◌, ℕ, List, [], ◌∷◌, ◌++◌, Option, None, Some, length, ap, append_assoc}
+use Rattle.std.proofs.Common.{arith, inl, inr, refl, subst, sym}
 use Rattle.csv.specs.Machine.{Read, next_record}
 use Rattle.csv.specs.Reading.{AreRecords, Reached, default_config, strip_bom}
 use Rattle.csv.specs.declared.parser.Config.{Config}
@@ -26,8 +26,8 @@ one_list_from cfg s xs (r ∷ rs) [] (s2, ys, (p, e, first, more), done) (t2, zs
 one_list_from cfg s xs (r ∷ rs) (q ∷ qs) (s2, ys, (p, e, first, more), done) (t2, zs, (p2, e2, first2, more2), done2) =
     let same : p2 ≡ p = cc in
     let tail =
-        one_list_from cfg p.1 p.2 rs qs (s2, ys, more, done)
-            (t2, zs, subst (λ (x : Read). Reached cfg x.1 x.2 qs t2 zs) same more2, done2) in
+    one_list_from cfg p.1 p.2 rs qs (s2, ys, more, done)
+    (t2, zs, subst (λ (x : Read). Reached cfg x.1 x.2 qs t2 zs) same more2, done2) in
     let head : r ≡ q = first ∙ ap (λ (x : Read). x.0) (sym same) ∙ sym first2 in
     ap (λ x. x ∷ rs) head ∙ ap (λ l. q ∷ l) tail
 
@@ -76,8 +76,8 @@ ordered : (says : List Record → List Request → Type 0) → SaysOne says → 
 ordered says kind rows m n h k less =
     let e : h.before ++ h.row ∷ h.after ≡ k.before ++ k.row ∷ k.after = sym h.split ∙ k.split in
     let (more, longer) =
-        split_at h.before k.before (h.row) (h.after) (k.row ∷ k.after) e
-            (let a = h.place in let b = k.place in omega arith) in
+    split_at h.before k.before (h.row) (h.after) (k.row ∷ k.after) e
+    (let a = h.place in let b = k.place in omega arith) in
     broken says kind h.before more h.row k.breaks.requests h.breaks (subst (λ l. says l k.breaks.requests) longer k.breaks.so_far)
   where
     split_at : (xs ys : List Record) (x : Record) (zs ws : List Record) → xs ++ x ∷ zs ≡ ys ++ ws
@@ -110,5 +110,5 @@ pub says_one_thing : (header : Record) (says : List Record → List Request → 
 says_one_thing header says one = record {
   requests = one_file header says one;
   number = one_number header says one;
-  apart = not_both_of_file header says one
+  apart = not_both_of_file header says one;
 }

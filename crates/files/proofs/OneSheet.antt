@@ -1,6 +1,6 @@
 -- A good ledger has one sheet of each kind: each field has one settled value, one infimum and one supremum.
-use Rattle.std.proofs.Common.{◌≡◌, ◌∙◌, ◌-ℤ◌, ◌+ℤ◌, ◌≤ℤ◌, All, Bool, Contains, ℕ, ℤ, pos, negsuc, List, [], ◌∷◌, ap,
-    arith, filter, refl, sym}
+use Rattle.std.proofs.Common.{◌≡◌, ◌∙◌, ◌-ℤ◌, ◌+ℤ◌, ◌≤ℤ◌, All, Bool, Contains, ℕ, ℤ, pos, negsuc, List, [], ◌∷◌, ap}
+use Rattle.std.proofs.Common.{arith, filter, refl, sym}
 use Rattle.std.specs.List.{AllByRecursion as Each, AllZip}
 use Rattle.std.proofs.lemmas.Int.{ints}
 use Rattle.std.proofs.lemmas.List.Elements.{All-contains_itself, All-filter, recursion_from_All}
@@ -36,7 +36,7 @@ view_of A f g there =
         hi = f.hi;
         value = value.0;
         inf = inf.0;
-        sup = sup.0
+        sup = sup.0;
       },
       record {
         name = refl;
@@ -44,7 +44,7 @@ view_of A f g there =
         hi = refl;
         value = value.1;
         inf = rw (inf.1) (inf_is A sound f);
-        sup = rw (sup.1) (sup_is A sound f)
+        sup = rw (sup.1) (sup_is A sound f);
       },
     )
 
@@ -60,10 +60,10 @@ pub some_sheet : (is_shown : Name → Bool) (title : FieldView → List ℕ) (A 
     → (text : List ℕ) × IsSheet is_shown title A text
 some_sheet is_shown title A g =
     let there : All (Contains A.fields) (filter (λ f. is_shown f.name) A.fields) =
-        All-filter (λ f. is_shown f.name) (Contains A.fields) A.fields (All-contains_itself A.fields) in
+    All-filter (λ f. is_shown f.name) (Contains A.fields) A.fields (All-contains_itself A.fields) in
     let (views, show) =
-        views_of A (filter (λ f. is_shown f.name) A.fields) g
-            (recursion_from_All (Contains A.fields) (filter (λ f. is_shown f.name) A.fields) there) in
+    views_of A (filter (λ f. is_shown f.name) A.fields) g
+    (recursion_from_All (Contains A.fields) (filter (λ f. is_shown f.name) A.fields) there) in
     (sheet_text title views, record { views = views; show = show; text_is = refl })
 
 -- ---- there is no other

@@ -1,6 +1,6 @@
 -- The orders of an order file, row by row: how a row more goes on, and where none can.
-use Rattle.std.proofs.Common.{◌≡◌, ◌≢◌, ◌⊎◌, ◌∙◌, ◌+◌, ◌≤◌, ℕ, List, [], ◌∷◌, ◌++◌, length, map, All, ap, append_assoc,
-    arith, bytes_eq, codes, decimal, if◌then◌else◌, inl, inr, length-append, refl, subst, sym}
+use Rattle.std.proofs.Common.{◌≡◌, ◌≢◌, ◌⊎◌, ◌∙◌, ◌+◌, ◌≤◌, ℕ, List, [], ◌∷◌, ◌++◌, length, map, All, ap, append_assoc}
+use Rattle.std.proofs.Common.{arith, bytes_eq, codes, decimal, if◌then◌else◌, inl, inr, length-append, refl, subst, sym}
 use Rattle.std.specs.Prelude.{⊤}
 use Rattle.std.specs.List.{AllByRecursion as Each}
 use Rattle.std.proofs.lemmas.Fmt.{decimal_injective}
@@ -42,21 +42,24 @@ lines_of rows r o = recursion_from_All IsOpenLine o.lines o.lines_form.each
 rows_of_lines : (key : List ℕ) (n u : ℕ) (lines : List OpenLine) → IsKey key → IsOrderNo n → IsMoment u
     → Each IsOpenLine lines → Each IsSomeRow (map (order_row key n u) lines)
 rows_of_lines key n u [] k o m h = tt
-rows_of_lines key n u (l ∷ ls) k o m h =
-    ((record { key = key; number = n; until = u; line = l },
-        record { key_form = k; number_range = o; until_range = m; line_form = h.0; fields_are = refl }),
-        rows_of_lines key n u ls k o m h.1)
+rows_of_lines key n u (l ∷ ls) k o m h = (
+  (
+    record { key = key; number = n; until = u; line = l },
+    record { key_form = k; number_range = o; until_range = m; line_form = h.0; fields_are = refl },
+  ),
+  rows_of_lines key n u ls k o m h.1,
+)
 
 rows_of_order : (rows : List Record) (r : Request) → IsOrder rows r → Each IsSomeRow rows
 rows_of_order rows r o =
     subst (Each IsSomeRow) (sym o.records)
-        (rows_of_lines r.key o.number o.until o.lines o.key_form o.number_range o.until_range (lines_of rows r o))
+    (rows_of_lines r.key o.number o.until o.lines o.key_form o.number_range o.until_range (lines_of rows r o))
 
 each_is_row : (rows : List Record) (requests : List Request) → SayOrders rows requests → Each IsSomeRow rows
 each_is_row rows [] e = subst (Each IsSomeRow) (sym e) tt
 each_is_row rows (r ∷ rs) (first, rest, split, order, other, more) =
     subst (Each IsSomeRow) (sym split)
-        (each_of_append IsSomeRow first rest (rows_of_order first r order) (each_is_row rest rs more))
+    (each_of_append IsSomeRow first rest (rows_of_order first r order) (each_is_row rest rs more))
 
 -- the last record is a row
 pub last_is_row : (rows : List Record) (fields : Record) (requests : List Request)
@@ -93,7 +96,7 @@ line_one l m h k e =
     let a : l.article ≡ m.article = cc in
     let q : decimal l.qty ≡ decimal m.qty = cc in
     line_same l m (way_one l.way m.way w) b a
-        (decimal_injective l.qty m.qty (let x = h.qty in omega arith) (let x = k.qty in omega arith) q)
+    (decimal_injective l.qty m.qty (let x = h.qty in omega arith) (let x = k.qty in omega arith) q)
 
 -- two orders at the front of the same records are the same but for their lines
 fronts_same : (k j : List ℕ) (n m u v : ℕ) (xs ys : List OpenLine) (a b : List Record) → 1 ≤ length xs → 1 ≤ length ys
@@ -176,13 +179,13 @@ agree first other r s o p a b ss apart say e =
     let e1 : map (order_row r.key o.number o.until) o.lines ++ a ≡ map (order_row s.key p.number p.until) p.lines ++ b =
     ap (λ xs. xs ++ a) (sym o.records) ∙ e ∙ ap (λ xs. xs ++ b) p.records in
     let (key, number, until) =
-        fronts_same r.key s.key o.number p.number o.until p.until o.lines p.lines a b o.lines_form.some
-            p.lines_form.some o.number_range p.number_range o.until_range p.until_range e1 in
+    fronts_same r.key s.key o.number p.number o.until p.until o.lines p.lines a b o.lines_form.some
+    p.lines_form.some o.number_range p.number_range o.until_range p.until_range e1 in
     let e2 : map (order_row r.key o.number o.until) o.lines ++ a ≡ map (order_row r.key o.number o.until) p.lines ++ b =
-        rw (← key, ← number, ← until) at e1 in
+    rw (← key, ← number, ← until) at e1 in
     let starts : StartsOther r.key b = subst (λ k. StartsOther k b) (sym key) (starts_other s.key b ss apart say) in
     let (more, lines, rest) =
-        ahead r.key o.number o.until o.lines p.lines a b (lines_of first r o) (lines_of other s p) starts e2 in
+    ahead r.key o.number o.until o.lines p.lines a b (lines_of first r o) (lines_of other s p) starts e2 in
     record { more = more; lines = lines; rest = rest; key = key; number = number; until = until }
 
 not_empty : {X : Type 0} (xs : List X) (x : X) → xs ++ x ∷ [] ≡ [] → ⊥
@@ -204,7 +207,7 @@ ending fields o first other rest s ss order order2 apart say [] lines e key =
     let said : SayOrders (fields ∷ []) ss = subst (λ xs. SayOrders xs ss) (sym e) say in
     let (row, is_row) = (each_is_row (fields ∷ []) ss said).0 in
     let starts : StartsOther s.key (order_row row.key row.number row.until row.line ∷ []) =
-        subst (λ f. StartsOther s.key (f ∷ [])) is_row.fields_are (starts_other s.key (fields ∷ []) ss apart said) in
+    subst (λ f. StartsOther s.key (f ∷ [])) is_row.fields_are (starts_other s.key (fields ∷ []) ss apart said) in
     (row, is_row, inl (λ same. starts (same ∙ key)))
 ending fields o first other rest s ss order order2 apart say (z ∷ []) lines e key =
     let same : ◌≡◌ (Open o.number o.until o.lines) (Open order.number order.until order.lines) = order.command in
@@ -222,7 +225,7 @@ ending fields o first other rest s ss order order2 apart say (z ∷ []) lines e 
         number_range = order.number_range;
         until_range = order.until_range;
         line_form = line;
-        fields_are = fields_are
+        fields_are = fields_are;
       },
       inr (refl, (sym number, sym until, omega arith)),
     )
@@ -233,14 +236,14 @@ pub next_row : (rows : List Record) (fields : Record) (done : List Request) (o :
 next_row rows fields [] o [] h k = absurd (not_empty rows fields k)
 next_row rows fields [] o (s ∷ ss) (first, rest, split, order, other, none) (first2, rest2, split2, order2, other2, say2) =
     let e : first ++ (fields ∷ []) ≡ first2 ++ rest2 =
-        ap (λ xs. first ++ (xs ++ fields ∷ [])) (sym none) ∙ sym (append_assoc first rest (fields ∷ []))
-        ∙ ap (λ xs. xs ++ fields ∷ []) (sym split) ∙ split2 in
+    ap (λ xs. first ++ (xs ++ fields ∷ [])) (sym none) ∙ sym (append_assoc first rest (fields ∷ []))
+    ∙ ap (λ xs. xs ++ fields ∷ []) (sym split) ∙ split2 in
     let a = agree first first2 (request_of o) s order order2 (fields ∷ []) rest2 ss other2 say2 e in
     ending fields o first first2 rest2 s ss order order2 other2 say2 a.more a.lines a.rest a.key
 next_row rows fields (d ∷ ds) o [] h k = absurd (not_empty rows fields k)
 next_row rows fields (d ∷ ds) o (s ∷ ss) (first, rest, split, order, other, say) (first2, rest2, split2, order2, other2, say2) =
     let e : first ++ (rest ++ fields ∷ []) ≡ first2 ++ rest2 =
-        sym (append_assoc first rest (fields ∷ [])) ∙ ap (λ xs. xs ++ fields ∷ []) (sym split) ∙ split2 in
+    sym (append_assoc first rest (fields ∷ [])) ∙ ap (λ xs. xs ++ fields ∷ []) (sym split) ∙ split2 in
     let a = agree first first2 d s order order2 (rest ++ fields ∷ []) rest2 ss other2 say2 e in
     by a.more a.rest (λ same. next_row rest fields ds o ss say (subst (λ xs. SayOrders xs ss) (sym same) say2))
   where
@@ -265,7 +268,7 @@ order_of_one fields row h = record {
   lines_form = record {
     some = omega arith;
     fits = omega arith;
-    each = All-from_recursion IsOpenLine (row.line ∷ []) (h.line_form, tt)
+    each = All-from_recursion IsOpenLine (row.line ∷ []) (h.line_form, tt);
   };
   records = ap (λ f. f ∷ []) h.fields_are;
 }
@@ -288,14 +291,23 @@ other_same key (d ∷ ds) q r e h = h
 pub begins : (rows : List Record) (fields : Record) (row : Row) (done : List Request) (o : OpenOrder)
     → SayOrders rows (done ++ request_of o ∷ []) → IsRow fields row → row.key ≢ o.key
     → SayOrders (rows ++ fields ∷ []) ((done ++ request_of o ∷ []) ++ request_of (order_of_row row) ∷ [])
-begins rows fields row [] o (first, rest, split, order, other, none) h apart =
-    (first, fields ∷ [],
-        ap (λ xs. xs ++ fields ∷ []) split ∙ append_assoc first rest (fields ∷ [])
-        ∙ ap (λ xs. first ++ (xs ++ fields ∷ [])) none, order, apart, first_row fields row h)
-begins rows fields row (d ∷ ds) o (first, rest, split, order, other, say) h apart =
-    (first, rest ++ fields ∷ [], ap (λ xs. xs ++ fields ∷ []) split ∙ append_assoc first rest (fields ∷ []), order,
-        other_more d.key ds (request_of o) (request_of (order_of_row row)) other,
-        begins rest fields row ds o say h apart)
+begins rows fields row [] o (first, rest, split, order, other, none) h apart = (
+  first,
+  fields ∷ [],
+  ap (λ xs. xs ++ fields ∷ []) split ∙ append_assoc first rest (fields ∷ [])
+      ∙ ap (λ xs. first ++ (xs ++ fields ∷ [])) none,
+  order,
+  apart,
+  first_row fields row h,
+)
+begins rows fields row (d ∷ ds) o (first, rest, split, order, other, say) h apart = (
+  first,
+  rest ++ fields ∷ [],
+  ap (λ xs. xs ++ fields ∷ []) split ∙ append_assoc first rest (fields ∷ []),
+  order,
+  other_more d.key ds (request_of o) (request_of (order_of_row row)) other,
+  begins rest fields row ds o say h apart,
+)
 
 map-push : (f : OpenLine → Record) (xs : List OpenLine) (x : OpenLine) → map f (xs ++ x ∷ []) ≡ map f xs ++ f x ∷ []
 map-push f [] x = refl
@@ -324,7 +336,7 @@ longer_order first fields row o order h key number until fits =
       lines_form = record {
         some = omega arith;
         fits = omega arith;
-        each = All-push IsOpenLine o.lines row.line each h.line_form
+        each = All-push IsOpenLine o.lines row.line each h.line_form;
       };
       records =
           ap (λ xs. xs ++ fields ∷ []) before ∙ ap (λ f. map (order_row o.key o.number o.until) o.lines ++ f ∷ []) last
@@ -340,7 +352,7 @@ goes_on rows fields row [] o (first, rest, split, order, other, none) h key numb
   first ++ fields ∷ [],
   [],
   ap (λ xs. xs ++ fields ∷ []) split ∙ append_assoc first rest (fields ∷ [])
-  ∙ ap (λ xs. first ++ (xs ++ fields ∷ [])) none ∙ sym (append_end (first ++ fields ∷ [])),
+      ∙ ap (λ xs. first ++ (xs ++ fields ∷ [])) none ∙ sym (append_end (first ++ fields ∷ [])),
   longer_order first fields row o order h key number until fits,
   tt,
   refl,

@@ -30,9 +30,9 @@ pub took_line : (done more : List Request) (last longer : Option OpenOrder) (o :
 took_line done more last longer o row fields there key (number, until, fits) same grown h rows took =
     let said : SayOrders rows (done ++ request_of o ∷ []) = subst (λ l. TookRows done l rows) there took in
     let next : TookRows done (Some (with_line o row.line)) (rows ++ fields ∷ []) =
-        goes_on rows fields row done o said h key number until (omega arith) in
+    goes_on rows fields row done o said h key number until (omega arith) in
     subst (λ d. TookRows d longer (rows ++ fields ∷ [])) (sym same)
-        (subst (λ l. TookRows done l (rows ++ fields ∷ [])) (sym grown) next)
+    (subst (λ l. TookRows done l (rows ++ fields ∷ [])) (sym grown) next)
 
 -- a row under another key
 pub took_next : (done pushed : List Request) (last : Option OpenOrder) (o order : OpenOrder) (request : Request)
@@ -52,9 +52,11 @@ same_row fields r s h k =
     let key : r.key ≡ s.key = cc in
     let number : decimal r.number ≡ decimal s.number = cc in
     let until : decimal r.until ≡ decimal s.until = cc in
-    let a = h.number_range in let b = k.number_range in let c = h.until_range in let d = k.until_range in
-    (key, decimal_injective r.number s.number (omega arith) (omega arith) number,
-        decimal_injective r.until s.until (omega arith) (omega arith) until)
+    let a = h.number_range in let b = k.number_range in let c = h.until_range in let d = k.until_range in (
+      key,
+      decimal_injective r.number s.number (omega arith) (omega arith) number,
+      decimal_injective r.until s.until (omega arith) (omega arith) until,
+    )
 
 -- a row that is no line more of the last order, whose key it has
 pub no_line_more : (done : List Request) (last : Option OpenOrder) (o : OpenOrder) (row : Row) (fields : Record)
@@ -65,7 +67,7 @@ no_line_more done last o row fields there key fits h rows took =
     record {
       requests = done ++ request_of o ∷ [];
       so_far = said;
-      fault = λ more whole. by (next_row rows fields done o more said whole)
+      fault = λ more whole. by (next_row rows fields done o more said whole);
     }
   where
     by : ((other : Row) × IsRow fields other × ((other.key ≢ o.key) ⊎ ((other.key ≡ o.key) × Continues o other))) → ⊥

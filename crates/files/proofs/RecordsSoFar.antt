@@ -1,6 +1,6 @@
 -- The records that a reader has given so far, where its bytes are known, and those that are still to come.
-use Rattle.std.proofs.Common.{◌≡◌, ◌≤◌, ◌-◌, ℕ, zero, suc, List, [], ◌∷◌, ◌++◌, length, Option, Some, None, refl, subst,
-    arith, IfSome, true, false, Bool, if◌then◌else◌}
+use Rattle.std.proofs.Common.{◌≡◌, ◌≤◌, ◌-◌, ℕ, zero, suc, List, [], ◌∷◌, ◌++◌, length, Option, Some, None, refl, subst}
+use Rattle.std.proofs.Common.{arith, IfSome, true, false, Bool, if◌then◌else◌}
 use Rattle.std.specs.Prelude.{option_map}
 use Rattle.csv.specs.Machine.{Read, ends_at_end, field_after, fields_after, is_end, next_record, step}
 use Rattle.csv.specs.Reading.{AreRecords, Reached, ReadRecord, default_config, source_of, strip_bom}
@@ -32,9 +32,9 @@ shorter cfg s fields field (c ∷ rest) p e =
     at_byte : (b : Bool)
         → (if b then Some (fields_after (step cfg s c).1 fields field, (step cfg s c).0, rest)
         else next_record cfg (step cfg s c).0 (fields_after (step cfg s c).1 fields field)
-            (field_after (step cfg s c).1 c field) rest) ≡ Some p
+        (field_after (step cfg s c).1 c field) rest) ≡ Some p
         → (next_record cfg (step cfg s c).0 (fields_after (step cfg s c).1 fields field)
-            (field_after (step cfg s c).1 c field) rest ≡ Some p → length p.2 ≤ length rest - 1)
+        (field_after (step cfg s c).1 c field) rest ≡ Some p → length p.2 ≤ length rest - 1)
         → length p.2 ≤ length (c ∷ rest) - 1
     at_byte true h more =
         let same : ◌≡◌ {A = Read} (fields_after (step cfg s c).1 fields field, (step cfg s c).0, rest) p = cc in
@@ -97,8 +97,8 @@ joined cfg s xs (r ∷ rs) after t ys (p, e, first, more) h =
 abbrev pub Gave : Option (List ℕ) → Option (List ℕ) → State → (List Record → Type 0) → Type 0
 Gave known source s P =
     IfSome known (λ bytes.
-        (records : List Record) × (y : List ℕ) × (source ≡ Some y)
-        × Reached default_config st.StartRecord (strip_bom bytes) records s y × P records)
+    (records : List Record) × (y : List ℕ) × (source ≡ Some y)
+    × Reached default_config st.StartRecord (strip_bom bytes) records s y × P records)
 
 pub gave_none : (known source : Option (List ℕ)) (s : State) (P : List Record → Type 0)
     → source ≡ option_map strip_bom known → st.StartRecord ≡ s → P [] → Gave known source s P

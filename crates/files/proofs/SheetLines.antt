@@ -1,6 +1,7 @@
 -- The lines of a sheet, one field after the other.
-use Rattle.std.proofs.Common.{◌≡◌, ◌∙◌, ◌+◌, ◌<◌, Bool, true, false, ℕ, List, [], ◌∷◌, ◌++◌, Some, None, Option,
-    IsSomeAnd, ap, append-nil, filter, flat_map, get_or, length, refl, slice_get, subst, sum_by, sym, take}
+use Rattle.std.proofs.Common.{◌≡◌, ◌∙◌, ◌+◌, ◌<◌, Bool, true, false, ℕ, List, [], ◌∷◌, ◌++◌, Some, None, Option}
+use Rattle.std.proofs.Common.{IsSomeAnd, ap, append-nil, filter, flat_map, get_or, length, refl, slice_get, subst}
+use Rattle.std.proofs.Common.{sum_by, sym, take}
 use Rattle.std.specs.List.{AllZip}
 use Rattle.std.proofs.lemmas.List.{take_all, take-replicate}
 use Rattle.std.proofs.Common.{◌≤◌, ◌-◌, OnOk, Result, Ok, Err, arith, replicate}
@@ -55,7 +56,7 @@ pub field_shown : (A : Ledger) (shown : Shown) (views : List FieldView) (i : ℕ
 field_shown A shown views i v h at on =
     shown_more (ShowsField A) (λ f. is_on shown f.name) A.fields views i v h
     (some_imp (slice_get A.fields i) (λ f. ShowsField A f v) (λ f. (is_on shown f.name ≡ true) × ShowsField A f v)
-        (λ f s. (ap (is_on shown) (sym s.name) ∙ on, s)) at)
+    (λ f s. (ap (is_on shown) (sym s.name) ∙ on, s)) at)
 
 pub field_hidden : (A : Ledger) (shown : Shown) (views : List FieldView) (i : ℕ) (v : FieldView)
     → AllZip (ShowsField A) (filter (λ f. is_on shown f.name) (take i A.fields)) views
@@ -64,7 +65,7 @@ pub field_hidden : (A : Ledger) (shown : Shown) (views : List FieldView) (i : �
 field_hidden A shown views i v h at on =
     passed_by (ShowsField A) (λ f. is_on shown f.name) A.fields views i h
     (some_imp (slice_get A.fields i) (λ f. ShowsField A f v) (λ f. is_on shown f.name ≡ false)
-        (λ f s. ap (is_on shown) (sym s.name) ∙ on) at)
+    (λ f s. ap (is_on shown) (sym s.name) ∙ on) at)
 
 pub text_more : (shown : Shown) (views : List FieldView) (v : FieldView) (title old new : List ℕ)
     → title ≡ title_of shown v → old ≡ flat_map (λ w. field_line (title_of shown w) w) views

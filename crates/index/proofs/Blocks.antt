@@ -1,7 +1,8 @@
 -- Items in blocks, each full but the last.
-use Rattle.index.proofs.Prelude.{Each, List, Some, [], add-one, append_assoc, ap, arith, get_or, insert, length,
-    length-append, length-set, map, map-append, none-some, option_map, refl, same_Some, set, slice_get, slice_get-map,
-    slice_get_read, subst, suc, sym, zero, zero-add, ℕ, ◌++◌, ◌+◌, ◌*◌, ◌-◌, ◌<◌, ◌^◌, ◌∙◌, ◌∷◌, ◌≡◌, ◌≤◌}
+use Rattle.index.proofs.Prelude.{Each, List, Some, [], add-one, append_assoc, ap, arith, get_or, insert, length}
+use Rattle.index.proofs.Prelude.{length-append, length-set, map, map-append, none-some, option_map, refl, same_Some}
+use Rattle.index.proofs.Prelude.{set, slice_get, slice_get-map, slice_get_read, subst, suc, sym, zero, zero-add, ℕ}
+use Rattle.index.proofs.Prelude.{◌++◌, ◌+◌, ◌*◌, ◌-◌, ◌<◌, ◌^◌, ◌∙◌, ◌∷◌, ◌≡◌, ◌≤◌}
 use Rattle.std.specs.Prelude.{min}
 use Rattle.std.proofs.Common.{drop, take}
 use Rattle.std.proofs.Math.Seq.{drop-append_seam, take-append_seam}
@@ -25,7 +26,7 @@ turned_back s l place n x within whole is =
     let behind = x ∷ drop place s in
     let len : n ≡ length behind = omega (arith, length-drop place s) in
     rw (is, len) (ap (λ r. r ++ take (length behind) (behind ++ take place s)) (drop-append_seam behind (take place s))
-        ∙ ap (λ r. take place s ++ r) (take-append_seam behind (take place s)))
+    ∙ ap (λ r. take place s ++ r) (take-append_seam behind (take place s)))
 
 -- ---- the k-th block
 
@@ -88,7 +89,7 @@ at_first n (b ∷ bs) (suc k) i x h within =
     let full : length b ≡ 1024 = omega (arith, h.0) in
     let place : 1024 * suc k + i - 1024 ≡ 1024 * k + i = omega arith in
     rw (insert-append_right b (joined bs) 1024 (1024 * suc k + i) x full (omega arith), place)
-        (ap (λ l. b ++ l) (at_first (n - 1024) bs k i x h.1 (omega arith)))
+    (ap (λ l. b ++ l) (at_first (n - 1024) bs k i x h.1 (omega arith)))
 
 -- through a full block, whose last item goes on to the next
 pub passed : {T : Type 0} (bs : List (List T)) (k i : ℕ) (x last : T) (b c : List T) → slice_get bs k ≡ Some b
@@ -122,9 +123,10 @@ one_more n (a ∷ bs) zero b c h there begun short more =
     let rest : n - 1024 ≡ n + 1 - 1024 = omega (arith, len, short) in
     (omega (arith, more, len, short), subst (λ m. IsFilled m bs) rest h.1)
 one_more n (a ∷ bs) (suc k) b c h there begun short more =
-    let rest : n - 1024 + 1 ≡ n + 1 - 1024 = omega (arith, begun) in
-    (omega (arith, h.0, begun),
-        subst (λ m. IsFilled m (set bs k c)) rest (one_more (n - 1024) bs k b c h.1 there (omega arith) short more))
+    let rest : n - 1024 + 1 ≡ n + 1 - 1024 = omega (arith, begun) in (
+      omega (arith, h.0, begun),
+      subst (λ m. IsFilled m (set bs k c)) rest (one_more (n - 1024) bs k b c h.1 there (omega arith) short more),
+    )
 
 -- an empty block more
 block_more : {T : Type 0} (n : ℕ) (bs : List (List T)) → IsFilled n bs → IsFilled n (bs ++ [] ∷ [])
@@ -174,7 +176,7 @@ module _ {X T : Type 0} (items : X → List T) (capacity : X → ℕ) (goal : Li
     pub roomy : 1024 ≤ capacity b
     roomy =
         each_at (λ c. 1024 ≤ c) (map capacity xs) k (capacity b) way.lie.roomy
-            (slice_get-map capacity xs k ∙ ap (option_map capacity) (slice_get_read xs _ k b refl is_block is))
+        (slice_get-map capacity xs k ∙ ap (option_map capacity) (slice_get_read xs _ k b refl is_block is))
 
     module _ (c : X) (same_size : capacity c ≡ capacity b) where
       few : length (set (map items xs) k (items c)) ≤ 2 ^ 22
@@ -190,14 +192,18 @@ module _ {X T : Type 0} (items : X → List T) (capacity : X → ℕ) (goal : Li
           → IsOnTheWay goal n (map items (set xs k c)) (map capacity (set xs k c)) (k + 1) 0 last
       through last full put =
           let same : length (items c) ≡ length (items b) =
-              omega (arith, ap length put, length-append (items c) (last ∷ []),
-                  length-insert (items b) place x fits_in) in
+          omega (
+            arith,
+            ap length put,
+            length-append (items c) (last ∷ []),
+            length-insert (items b) place x fits_in,
+          ) in
           rw (map-set items xs k c, map-set capacity xs k c, add-one) (record {
             becomes = passed (map items xs) k place x last (items b) (items c) here fits_in put ∙ way.becomes;
             lie = record {
               filled = filled_as_before n (map items xs) k (items b) (items c) way.lie.filled here same;
               roomy = roomy_still;
-              few = few
+              few = few;
             };
             room = rw (length-set (map items xs) k (items c)) way.room;
             begun = omega (arith, len, full);
@@ -230,15 +236,20 @@ joined-set n (a ∷ bs) (suc k) i b x h there short =
     let full : length a ≡ 1024 = omega (arith, h.0, short, length_at (n - 1024) bs k b h.1 there) in
     let place : 1024 * suc k + i - 1024 ≡ 1024 * k + i = omega arith in
     rw (set-append_right a (joined bs) 1024 (1024 * suc k + i) x full (omega arith), place)
-        (ap (λ l. a ++ l) (joined-set (n - 1024) bs k i b x h.1 there short))
+    (ap (λ l. a ++ l) (joined-set (n - 1024) bs k i b x h.1 there short))
 
 module _ {X T : Type 0} (items : X → List T) (capacity : X → ℕ) (n : ℕ) (xs : List X) (place : ℕ)
     (lie : IsInBlocks n (map items xs) (map capacity xs)) (short : place < length (joined (map items xs))) where
   -- its block
   pub is_index : place / 1024 < length xs
   is_index =
-      omega (arith, short, length-joined n (map items xs) lie.filled, fits n (map items xs) lie.filled,
-          length-map xs items)
+      omega (
+        arith,
+        short,
+        length-joined n (map items xs) lie.filled,
+        fits n (map items xs) lie.filled,
+        length-map xs items,
+      )
 
   module _ (b : X) (is : b ≡ get_or xs (place / 1024) b) where
     block : slice_get (map items xs) (place / 1024) ≡ Some (items b)
@@ -247,8 +258,12 @@ module _ {X T : Type 0} (items : X → List T) (capacity : X → ℕ) (n : ℕ) 
     -- and its place there
     pub is_within : place % 1024 < length (items b)
     is_within =
-        omega (arith, short, length-joined n (map items xs) lie.filled,
-            length_at n (map items xs) (place / 1024) (items b) lie.filled block)
+        omega (
+          arith,
+          short,
+          length-joined n (map items xs) lie.filled,
+          length_at n (map items xs) (place / 1024) (items b) lie.filled block,
+        )
 
     whole : 1024 * (place / 1024) + place % 1024 ≡ place
     whole = omega arith
@@ -257,7 +272,7 @@ module _ {X T : Type 0} (items : X → List T) (capacity : X → ℕ) (n : ℕ) 
     found x read_there =
         subst (λ p. slice_get (joined (map items xs)) p ≡ Some x) whole
         (read n (map items xs) _ _ (items b) lie.filled block is_within
-            ∙ slice_get_read (items b) _ _ x refl is_within read_there)
+        ∙ slice_get_read (items b) _ _ x refl is_within read_there)
 
     -- another item there
     module _ (c : X) (x : T) (put : items c ≡ set (items b) (place % 1024) x) where
@@ -265,19 +280,19 @@ module _ {X T : Type 0} (items : X → List T) (capacity : X → ℕ) (n : ℕ) 
       set_there =
           rw (map-set items xs (place / 1024) c, put)
           (joined-set n (map items xs) _ _ (items b) x lie.filled block is_within
-              ∙ ap (λ p. set (joined (map items xs)) p x) whole)
+          ∙ ap (λ p. set (joined (map items xs)) p x) whole)
 
       pub lie_as_before : capacity c ≡ capacity b
           → IsInBlocks n (map items (set xs (place / 1024) c)) (map capacity (set xs (place / 1024) c))
       lie_as_before same =
           let wide : 1024 ≤ capacity b =
-              each_at (λ c. 1024 ≤ c) (map capacity xs) (place / 1024) (capacity b) lie.roomy
-                  (slice_get-map capacity xs (place / 1024)
-                      ∙ ap (option_map capacity) (slice_get_read xs _ _ b refl is_index is)) in
+          each_at (λ c. 1024 ≤ c) (map capacity xs) (place / 1024) (capacity b) lie.roomy
+          (slice_get-map capacity xs (place / 1024)
+          ∙ ap (option_map capacity) (slice_get_read xs _ _ b refl is_index is)) in
           rw (map-set items xs (place / 1024) c, map-set capacity xs (place / 1024) c) (record {
             filled =
                 filled_as_before n (map items xs) (place / 1024) (items b) (items c) lie.filled block
-                    (ap length put ∙ length-set (items b) (place % 1024) x);
+                (ap length put ∙ length-set (items b) (place % 1024) x);
             roomy = each_set (λ c. 1024 ≤ c) (map capacity xs) (place / 1024) (capacity c) lie.roomy (omega (arith, wide, same));
             few = rw (length-set (map items xs) (place / 1024) (items c)) lie.few;
           })
@@ -291,7 +306,7 @@ each_more P (y ∷ l) x all p = (all.0, each_more P l x all.1 p)
 pub lie_in_more : {X T : Type 0} (items : X → List T) (capacity : X → ℕ) (n : ℕ) (xs : List X) (b : X)
     → IsInBlocks n (map items xs) (map capacity xs) → length xs < 2 ^ 22 → items b ≡ [] → 1024 ≤ capacity b
     → IsInBlocks n (map items (xs ++ b ∷ [])) (map capacity (xs ++ b ∷ []))
-        × (joined (map items (xs ++ b ∷ [])) ≡ joined (map items xs))
+    × (joined (map items (xs ++ b ∷ [])) ≡ joined (map items xs))
 lie_in_more items capacity n xs b lie few empty wide =
     rw (map-append items xs (b ∷ []), map-append capacity xs (b ∷ []), empty) (
       record {

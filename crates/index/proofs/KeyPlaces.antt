@@ -1,11 +1,12 @@
 -- Entries under keys: the indexes of an order, and keys in their order.
-use Rattle.index.proofs.Prelude.{Each, Equal, Greater, IsDistinct, IsGap, IsPermutation, IsPermutation-map,
-    IsPermutation-refl, IsStrictlySortedBy, IsTotalOrder, Less, List, None, Ordering, Some, [], add-zero, ap, arith,
-    at_indexes, cases_lt, common_steps, compare_at, eqb, false, get_or, get_or_from_slice_get, inl, inr, insert,
-    insert_entry, is_at, is_eq, keys_of, length, length-append, lookup, map, nat_tests, none-some, option_map,
-    ordering_reverse, range_with_len, recursion_from_All, refl, room_left, same_Some, set, set_value, slice_get,
-    slice_get-map, slice_get_read, slice_get_within, subst, suc, sym, zero, zero-add, ℕ, ◌++◌, ◌+◌, ◌-◌, ◌<◌, ◌^◌, ◌∙◌,
-    ◌∷◌, ◌≡◌, ◌≢◌, ◌≤◌}
+use Rattle.index.proofs.Prelude.{Each, Equal, Greater, IsDistinct, IsGap, IsPermutation, IsPermutation-map}
+use Rattle.index.proofs.Prelude.{IsPermutation-refl, IsStrictlySortedBy, IsTotalOrder, Less, List, None, Ordering, Some}
+use Rattle.index.proofs.Prelude.{[], add-zero, ap, arith, at_indexes, cases_lt, common_steps, compare_at, eqb, false}
+use Rattle.index.proofs.Prelude.{get_or, get_or_from_slice_get, inl, inr, insert, insert_entry, is_at, is_eq, keys_of}
+use Rattle.index.proofs.Prelude.{length, length-append, lookup, map, nat_tests, none-some, option_map, ordering_reverse}
+use Rattle.index.proofs.Prelude.{range_with_len, recursion_from_All, refl, room_left, same_Some, set, set_value}
+use Rattle.index.proofs.Prelude.{slice_get, slice_get-map, slice_get_read, slice_get_within, subst, suc, sym, zero}
+use Rattle.index.proofs.Prelude.{zero-add, ℕ, ◌++◌, ◌+◌, ◌-◌, ◌<◌, ◌^◌, ◌∙◌, ◌∷◌, ◌≡◌, ◌≢◌, ◌≤◌}
 use Rattle.std.proofs.Common.{Err, IfErr, IfOk, Ok, Result}
 use Rattle.std.specs.List.Sorted.{IsBinarySearchResult, IsNonDecreasingBy, IsSearchInRange}
 use Rattle.std.specs.Ordering.{ordering_index}
@@ -14,8 +15,8 @@ use Rattle.std.proofs.lemmas.List.FromFn.{fill_by_all, get_or-range_with_len, le
 use Rattle.std.proofs.lemmas.Bool.{eqb-false}
 use Rattle.std.proofs.lemmas.Map.Keys.{IsDistinct-IsPermutation, IsDistinct-from_apart, IsDistinct-from_sorted, Less-from_sorted}
 use Rattle.std.proofs.lemmas.Option.{slice_get-get_or}
-use Rattle.std.proofs.lemmas.List.Sorted.{All-permutation, IsPermutation-insert, IsPermutation-push_more,
-    IsPermutation-sym, length_permutation}
+use Rattle.std.proofs.lemmas.List.Sorted.{All-permutation, IsPermutation-insert, IsPermutation-push_more}
+use Rattle.std.proofs.lemmas.List.Sorted.{IsPermutation-sym, length_permutation}
 use Rattle.std.proofs.lemmas.Cmp.{alike_right, eq_by_cmp_equiv, tied_back}
 use Rattle.std.proofs.lemmas.List.Edits.{insert_end}
 use Rattle.std.proofs.lemmas.Map.Entries.{length-keys_of, lookup_at_gap, lookup_from_place}
@@ -30,9 +31,9 @@ Names n order = IsPermutation (range_with_len 0 n) order
 pub in_range : (n : ℕ) (order : List ℕ) → Names n order → Each (λ i. i < n) order
 in_range n order p =
     let below =
-        All-from_get_or (λ i. i < n) (range_with_len 0 n) 0
-            (λ i h. rw (get_or-range_with_len 0 n i 0 (omega (arith, length-range_with_len 0 n)))
-                (omega (arith, length-range_with_len 0 n))) in
+    All-from_get_or (λ i. i < n) (range_with_len 0 n) 0
+    (λ i h. rw (get_or-range_with_len 0 n i 0 (omega (arith, length-range_with_len 0 n)))
+    (omega (arith, length-range_with_len 0 n))) in
     recursion_from_All (λ i. i < n) order (All-permutation (λ i. i < n) (range_with_len 0 n) order p below)
 
 pub length_order : (n : ℕ) (order : List ℕ) → Names n order → length order ≡ n
@@ -48,8 +49,8 @@ range_more a (suc n) =
 pub names_more : (n : ℕ) (order : List ℕ) (place : ℕ) → Names n order → Names (suc n) (insert order place n)
 names_more n order place p =
     rw (range_more 0 n, zero-add)
-        (IsPermutation-push_more (range_with_len 0 n) order (insert order place n) n p
-            (IsPermutation-insert order place n))
+    (IsPermutation-push_more (range_with_len 0 n) order (insert order place n) n p
+    (IsPermutation-insert order place n))
 
 -- no index stands twice
 distinct : (n : ℕ) (order : List ℕ) → Names n order → IsDistinct eqb order
@@ -147,13 +148,18 @@ module _ {E : Type 0} where
   unfolding IsDistinct
   set-distinct es x [] place i apart h short read = absurd (omega arith)
   set-distinct es x (j ∷ order) zero i apart h short read =
-      grind (arith, (some_at es j h.0),
-          (subst (λ i. slice_get (set es i x) j ≡ Some x) (sym read) (get-set_same es j x h.0)),
-          (subst (λ i. Each (λ k. eqb i k ≡ false) order) (sym read) apart.0), get-set_same, at_indexes-set_none)
+      grind (
+        arith,
+        (some_at es j h.0),
+        (subst (λ i. slice_get (set es i x) j ≡ Some x) (sym read) (get-set_same es j x h.0)),
+        (subst (λ i. Each (λ k. eqb i k ≡ false) order) (sym read) apart.0),
+        get-set_same,
+        at_indexes-set_none,
+      )
   set-distinct es x (j ∷ order) (suc place) i apart h short read =
       let found = some_at es j h.0 in
       let differ : eqb j i ≡ false =
-          rw (← read) at (All-from_recursion (λ k. eqb j k ≡ false) order apart.0 place i (omega arith)) in
+      rw (← read) at (All-from_recursion (λ k. eqb j k ≡ false) order apart.0 place i (omega arith)) in
       let other = get-set_other es i j x (λ same. eqb-false j i differ (sym same)) in
       rw (other, found.1) (ap (λ l. found.0 ∷ l) (set-distinct es x order place i apart.1 h.1 (omega arith) read))
 
@@ -187,12 +193,12 @@ module _ {E : Type 0} where
   same_entries (e ∷ es) order p =
       let all = e ∷ es in
       let listed : at_indexes all order ≡ map (λ i. get_or all i e) order =
-          at_indexes-map all e order (in_range (length all) order p) in
+      at_indexes-map all e order (in_range (length all) order p) in
       let in_turn : map (λ i. get_or all i e) (range_with_len 0 (length all)) ≡ all =
-          sym (at_indexes-map all e (range_with_len 0 (length all)) (in_range (length all) _ (IsPermutation-refl _)))
-          ∙ at_indexes-all all in
+      sym (at_indexes-map all e (range_with_len 0 (length all)) (in_range (length all) _ (IsPermutation-refl _)))
+      ∙ at_indexes-all all in
       subst (λ l. IsPermutation (at_indexes all order) l) in_turn
-          (rw listed (IsPermutation-sym _ _ (IsPermutation-map (λ i. get_or all i e) _ order p)))
+      (rw listed (IsPermutation-sym _ _ (IsPermutation-map (λ i. get_or all i e) _ order p)))
 
 -- ---- how many entries more fit without memory
 
@@ -238,8 +244,14 @@ module _ {K V : Type 0} where
       → IsKeyOrder cmp es order → place < length (at_indexes es order) → slice_get order place ≡ Some i
       → e ≡ get_or es i e → IsKeyOrder cmp (set es i (e.0, w)) order
   kept_written cmp es order place i e w kept short read entry =
-      grind (arith, common_steps, (written es order place i e w kept.each_once short read entry), keys-set_value_at,
-          kept.each_once, kept.rising)
+      grind (
+        arith,
+        common_steps,
+        (written es order place i e w kept.each_once short read entry),
+        keys-set_value_at,
+        kept.each_once,
+        kept.rising,
+      )
 
 module _ {K : Type 0} {cmp : K → K → Ordering} (total : IsTotalOrder cmp) (key : K) where
   before : (x : K) → cmp x key ≡ Less → cmp key x ≡ Greater
@@ -277,7 +289,7 @@ module _ {K : Type 0} {cmp : K → K → Ordering} (total : IsTotalOrder cmp) (k
         let same : is_at (cmp at.entry.0) ≡ is_at (cmp key) = λ i z. is_eq (sym (total.congr key at.entry.0 z at.equal) i) in
         subst (λ test. lookup test l ≡ Some at.entry.1) same
         (lookup_from_place (eq_by_cmp_equiv total) l place at.entry.0 at.entry.1
-            (IsDistinct-from_sorted cmp (keys_of l) rising) at.there)
+        (IsDistinct-from_sorted cmp (keys_of l) rising) at.there)
 
     -- nothing where there is a gap for it
     pub lookup_gap : (l : List (K × V)) (place : ℕ) → IsStrictlySortedBy cmp (keys_of l) → IsGap cmp l key place
@@ -288,7 +300,7 @@ module _ {K : Type 0} {cmp : K → K → Ordering} (total : IsTotalOrder cmp) (k
     gap_tail e l place gap = record {
       within = omega (arith, gap.within);
       above = λ j x lt there. gap.above (suc j) x (omega arith) there;
-      below = gap.below
+      below = gap.below;
     }
 
     -- an entry put into the gap is put in by its key
@@ -314,24 +326,29 @@ module _ {K : Type 0} {cmp : K → K → Ordering} (total : IsTotalOrder cmp) (k
     rising-gap v [] zero rising gap = (tt, tt)
     rising-gap v [] (suc place) rising gap = (tt, tt)
     rising-gap v (e ∷ l) zero rising gap = let lt = gap.below e refl in ((lt, each_below e.0 lt (keys_of l) rising.0), rising)
-    rising-gap v (e ∷ l) (suc place) rising gap =
-        (each_insert (λ y. cmp e.0 y ≡ Less) v l place (back e.0 (gap.above 0 e (omega arith) refl)) rising.0,
-            rising-gap v l place rising.1 (gap_tail e l place gap))
+    rising-gap v (e ∷ l) (suc place) rising gap = (
+      each_insert (λ y. cmp e.0 y ≡ Less) v l place (back e.0 (gap.above 0 e (omega arith) refl)) rising.0,
+      rising-gap v l place rising.1 (gap_tail e l place gap),
+    )
 
     -- ---- a value written
 
     key_at : (l : List (K × V)) (place : ℕ) (e : K × V) (d : K) → slice_get l place ≡ Some e → get_or (keys_of l) place d ≡ e.0
     key_at l place e d h =
         get_or_from_slice_get (keys_of l) place e.0 d
-            (slice_get-map (λ (e : K × V). e.0) l place ∙ ap (option_map (λ (e : K × V). e.0)) h)
+        (slice_get-map (λ (e : K × V). e.0) l place ∙ ap (option_map (λ (e : K × V). e.0)) h)
 
     rise_along : (l : List (K × V)) → IsStrictlySortedBy cmp (keys_of l) → (i j : ℕ) (x y : K × V) → i < j
         → slice_get l i ≡ Some x → slice_get l j ≡ Some y → cmp x.0 y.0 ≡ Less
     rise_along l rising i j x y lt at_i at_j =
-        grind (arith,
-            (Less-from_sorted cmp (keys_of l) i j x.0 rising lt
-                (omega (arith, length-keys_of l, slice_get_within l j y at_j))), length-keys_of, slice_get_within,
-            key_at)
+        grind (
+          arith,
+          (Less-from_sorted cmp (keys_of l) i j x.0 rising lt
+              (omega (arith, length-keys_of l, slice_get_within l j y at_j))),
+          length-keys_of,
+          slice_get_within,
+          key_at,
+        )
 
     at_tail : (e : K × V) (l : List (K × V)) (place : ℕ) → IsAt cmp (e ∷ l) key (suc place) → IsAt cmp l key place
     at_tail e l place at = record { entry = at.entry; there = at.there; equal = at.equal }
@@ -382,12 +399,12 @@ module _ {K : Type 0} {cmp : K → K → Ordering} (total : IsTotalOrder cmp) (k
             let x = entry_at i (omega arith) in
             let y = entry_at j short in
             rw (answer i d x.0 x.1, answer j d y.0 y.1)
-                (index_rises x.0.0 y.0.0 (rise_along (at_indexes es order) rising i j x.0 y.0 lt x.1 y.1))
+            (index_rises x.0.0 y.0.0 (rise_along (at_indexes es order) rising i j x.0 y.0 lt x.1 y.1))
         | inr ge ↦
             let same : i ≡ j = omega arith in
             subst (λ j.
-                ordering_index (compare_at cmp es key (get_or order i d))
-                ≤ ordering_index (compare_at cmp es key (get_or order j d))) same (omega arith)
+            ordering_index (compare_at cmp es key (get_or order i d))
+            ≤ ordering_index (compare_at cmp es key (get_or order j d))) same (omega arith)
       ]
 
       -- where it ends
@@ -399,9 +416,9 @@ module _ {K : Type 0} {cmp : K → K → Ordering} (total : IsTotalOrder cmp) (k
             found = record {
               entry = e.0;
               there = e.1;
-              equal = tied_back total e.0.0 key (sym (answer place 0 e.0 e.1) ∙ is 0)
+              equal = tied_back total e.0.0 key (sym (answer place 0 e.0 e.1) ∙ is 0);
             };
-            gap = tt
+            gap = tt;
           }
       searched (Err place) within is =
           let parts = is rises in
@@ -413,8 +430,8 @@ module _ {K : Type 0} {cmp : K → K → Ordering} (total : IsTotalOrder cmp) (k
               above = λ j e lt there. before e.0 (sym (answer j 0 e there) ∙ parts.0 j 0 (omega arith) lt);
               below = λ e there. after e.0
                   (sym (answer place 0 e there)
-                      ∙ parts.1 place 0 (omega arith)
-                          (omega (arith, as_many, slice_get_within (at_indexes es order) place e there)));
+                  ∙ parts.1 place 0 (omega arith)
+                  (omega (arith, as_many, slice_get_within (at_indexes es order) place e there)));
             };
           }
 

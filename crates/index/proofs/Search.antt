@@ -1,6 +1,6 @@
 -- What the answers of a search by halving show.
-use Rattle.index.proofs.Prelude.{Equal, Greater, Less, List, Ordering, Some, [], arith, get_or_from_slice_get, length,
-    refl, slice_get, slice_get_within, ℕ, ◌+◌, ◌∷◌, ◌≡◌, ◌≤◌}
+use Rattle.index.proofs.Prelude.{Equal, Greater, Less, List, Ordering, Some, [], arith, get_or_from_slice_get, length}
+use Rattle.index.proofs.Prelude.{refl, slice_get, slice_get_within, ℕ, ◌+◌, ◌∷◌, ◌≡◌, ◌≤◌}
 use Rattle.std.specs.Borrow.{Bor}
 use Rattle.std.specs.Fn.{Called, ComputesKey, Mut}
 use Rattle.std.specs.List.{AllWithin, HoldsAt}
@@ -28,7 +28,7 @@ module _ {X : Type 0} (ord : X → Ordering) (xs : List X) where
     behind is = record {
       less = λ rises k d at below. bottom _
           (let up = rises k middle d (omega (arith, below)) (slice_get_within xs middle x there) in
-              rw (get_or_from_slice_get xs middle x d there, is) at up);
+          rw (get_or_from_slice_get xs middle x d there, is) at up);
       greater = narrowed.greater;
     }
 

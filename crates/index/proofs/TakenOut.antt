@@ -1,7 +1,8 @@
 -- An item taken out of blocks: its block is one short, and takes the first item of the next, which is then one short.
-use Rattle.index.proofs.Prelude.{Each, List, Some, [], add-one, append_assoc, ap, arith, get_or, insert, length,
-    length-append, length-set, map, none-some, option_map, refl, same_Some, set, slice_get, slice_get-map,
-    slice_get_read, subst, suc, sym, zero, ℕ, ◌++◌, ◌+◌, ◌*◌, ◌-◌, ◌<◌, ◌^◌, ◌∙◌, ◌∷◌, ◌≡◌, ◌≤◌}
+use Rattle.index.proofs.Prelude.{Each, List, Some, [], add-one, append_assoc, ap, arith, get_or, insert, length}
+use Rattle.index.proofs.Prelude.{length-append, length-set, map, none-some, option_map, refl, same_Some, set, slice_get}
+use Rattle.index.proofs.Prelude.{slice_get-map, slice_get_read, subst, suc, sym, zero, ℕ, ◌++◌, ◌+◌, ◌*◌, ◌-◌, ◌<◌, ◌^◌}
+use Rattle.index.proofs.Prelude.{◌∙◌, ◌∷◌, ◌≡◌, ◌≤◌}
 use Rattle.std.specs.Prelude.{min}
 use Rattle.std.proofs.Common.{◌/◌, ◌%◌}
 use Rattle.std.specs.List.{remove}
@@ -25,10 +26,11 @@ module _ {T : Type 0} where
       let rest : n - 1024 ≡ n - 1 - 1023 = omega arith in
       (omega (arith, fewer, ap length (same_Some _ _ there), h.0), subst (λ m. IsFilled m bs) rest h.1)
   opened n (a ∷ bs) (suc k) b c h there fewer begun =
-      let rest : n - 1024 - 1 ≡ n - 1 - 1024 = omega arith in
-      (omega (arith, h.0, begun),
-          subst (λ m. IsOneShort m (set bs k c) k) rest
-              (opened (n - 1024) bs k b c h.1 there fewer (omega (arith, begun))))
+      let rest : n - 1024 - 1 ≡ n - 1 - 1024 = omega arith in (
+        omega (arith, h.0, begun),
+        subst (λ m. IsOneShort m (set bs k c) k) rest
+            (opened (n - 1024) bs k b c h.1 there fewer (omega (arith, begun))),
+      )
 
   joined-remove : (n : ℕ) (bs : List (List T)) (k i : ℕ) (b : List T)
       → IsFilled n bs → slice_get bs k ≡ Some b → i < length b
@@ -67,7 +69,7 @@ module _ {T : Type 0} where
       → IsOneShort n bs k → slice_get bs (suc k) ≡ Some c → c ≡ x ∷ rest → slice_get (set bs (suc k) rest) k ≡ Some b
       → 1024 * suc k ≤ n
       → IsOneShort n (set (set bs (suc k) rest) k (b ++ x ∷ [])) (suc k)
-          × (joined (set (set bs (suc k) rest) k (b ++ x ∷ [])) ≡ joined bs)
+      × (joined (set (set bs (suc k) rest) k (b ++ x ∷ [])) ≡ joined bs)
   moved_up n [] k b c rest x h next is here more = absurd (none-some _ next)
   moved_up n (a ∷ []) zero b c rest x h next is here more = absurd (none-some _ next)
   moved_up n (a ∷ d ∷ bs) zero b c rest x h next is here more =
@@ -138,7 +140,7 @@ module _
         → IsClosingUp (remove (joined (map items xs)) place) (n - 1) (map items left) (map capacity left) (place / 1024)
     begins out =
         let fewer : length (items c) + 1 ≡ length (items b) =
-            ap (λ l. length l + 1) out ∙ length-remove (items b) (place % 1024) within in
+        ap (λ l. length l + 1) out ∙ length-remove (items b) (place % 1024) within in
         let begun : 1024 * (place / 1024) < n = omega (arith, short, length-joined n (map items xs) lie.filled) in
         let as_many = length-set (map items xs) (place / 1024) (items c) in
         let removed = joined-remove n (map items xs) _ _ (items b) lie.filled block within in
@@ -212,10 +214,10 @@ module _
             goes_on x first out put =
                 let whole : items c ≡ x ∷ items rest = rw out (first_and_rest (items c) x first) in
                 let last : items full ≡ items b ++ x ∷ [] =
-                    put ∙ ap (λ i. insert (items b) i x) (sym one_short) ∙ insert_end (items b) x in
+                put ∙ ap (λ i. insert (items b) i x) (sym one_short) ∙ insert_end (items b) x in
                 let up =
-                    moved_up n (map items xs) k (items b) (items c) (items rest) x way.filled next whole here
-                        (omega (arith, more)) in
+                moved_up n (map items xs) k (items b) (items c) (items rest) x way.filled next whole here
+                (omega (arith, more)) in
                 let as_many = length-set (set (map items xs) (suc k) (items rest)) k (items b ++ x ∷ []) in
                 rw (sizes_as_before, map-set items shorter k full, shorter_items, add-one, last) (record {
                   are = up.1 ∙ way.are;

@@ -6,10 +6,10 @@ use Rattle.std.specs.List.Sorted.{IsStrictlySortedBy}
 use Rattle.ledger.specs.declared.rows.Change.{Change}
 use Rattle.ledger.specs.declared.rows.Change.TheVariants as change
 use Rattle.ledger.specs.Changes.{put_content, put_row}
-use Rattle.ledger.specs.Rows.{Content, DeskCells, IsInKeyOrder, desk_cmp, field_cmp, firm_cmp, kept_cmp, line_cmp,
-    move_cmp, order_cmp}
-use Rattle.ledger.specs.Tables.{desk_cells, field_cells, firm_cells, kept_cells, line_cells, move_cells, order_cells,
-    rows_among, with_change}
+use Rattle.ledger.specs.Rows.{Content, DeskCells, IsInKeyOrder, desk_cmp, field_cmp, firm_cmp, kept_cmp, line_cmp}
+use Rattle.ledger.specs.Rows.{move_cmp, order_cmp}
+use Rattle.ledger.specs.Tables.{desk_cells, field_cells, firm_cells, kept_cells, line_cells, move_cells, order_cells}
+use Rattle.ledger.specs.Tables.{rows_among, with_change}
 use Rattle.keep.specs.Content.{IsTheRow, new_content}
 use Rattle.keep.proofs.KeyOrders.{key_cmp_total}
 use Rattle.keep.specs.declared.table_row.TableName.TheVariants as table
@@ -69,7 +69,7 @@ rows_stay (change.Desk r) x h = record {
   orders = h.orders;
   lines = h.lines;
   kept = h.kept;
-  firms = h.firms
+  firms = h.firms;
 }
 rows_stay (change.Field r) x h = record {
   fields = put_sorted field_cmp (key_cmp_total table.Field) (field_cells r) x.fields h.fields;
@@ -77,7 +77,7 @@ rows_stay (change.Field r) x h = record {
   orders = h.orders;
   lines = h.lines;
   kept = h.kept;
-  firms = h.firms
+  firms = h.firms;
 }
 rows_stay (change.Move r) x h = record {
   fields = h.fields;
@@ -85,7 +85,7 @@ rows_stay (change.Move r) x h = record {
   orders = h.orders;
   lines = h.lines;
   kept = h.kept;
-  firms = h.firms
+  firms = h.firms;
 }
 rows_stay (change.Order r) x h = record {
   fields = h.fields;
@@ -93,7 +93,7 @@ rows_stay (change.Order r) x h = record {
   orders = put_sorted order_cmp (key_cmp_total table.Orders) (order_cells r) x.orders h.orders;
   lines = h.lines;
   kept = h.kept;
-  firms = h.firms
+  firms = h.firms;
 }
 rows_stay (change.Line r) x h = record {
   fields = h.fields;
@@ -101,7 +101,7 @@ rows_stay (change.Line r) x h = record {
   orders = h.orders;
   lines = put_sorted line_cmp (key_cmp_total table.Line) (line_cells r) x.lines h.lines;
   kept = h.kept;
-  firms = h.firms
+  firms = h.firms;
 }
 rows_stay (change.Kept r) x h = record {
   fields = h.fields;
@@ -109,7 +109,7 @@ rows_stay (change.Kept r) x h = record {
   orders = h.orders;
   lines = h.lines;
   kept = put_sorted kept_cmp (key_cmp_total table.Kept) (kept_cells r) x.kept h.kept;
-  firms = h.firms
+  firms = h.firms;
 }
 rows_stay (change.Firm r) x h = record {
   fields = h.fields;
@@ -117,7 +117,7 @@ rows_stay (change.Firm r) x h = record {
   orders = h.orders;
   lines = h.lines;
   kept = h.kept;
-  firms = put_sorted firm_cmp (key_cmp_total table.Firm) (firm_cells r) x.firms h.firms
+  firms = put_sorted firm_cmp (key_cmp_total table.Firm) (firm_cells r) x.firms h.firms;
 }
 
 abbrev first_row : List DeskCells → DeskCells → DeskCells
@@ -129,8 +129,8 @@ desk_stays : (c : Change) (x : Content) (old : DeskCells) → x.desk ≡ old ∷
 desk_stays (change.Desk r) x old e was h new is =
     let row = All-head IsTheRow (desk_cells r) [] h in
     let same : desk_cells r ∷ [] ≡ new ∷ [] =
-        sym (ap (λ (rows : List DeskCells). put_row desk_cmp (desk_cells r) rows) e
-            ∙ desk_put (desk_cells r) old row was) ∙ is in
+    sym (ap (λ (rows : List DeskCells). put_row desk_cmp (desk_cells r) rows) e
+    ∙ desk_put (desk_cells r) old row was) ∙ is in
     subst IsTheRow (ap (λ (rows : List DeskCells). first_row rows new) same) row
 desk_stays (change.Field r) x old e was h new is =
     subst IsTheRow (ap (λ (rows : List DeskCells). first_row rows new) (sym e ∙ is)) was
@@ -151,7 +151,7 @@ stays_in_order c old new one e h = record {
   rows = subst IsInKeyOrder (sym e) (rows_stay c (shelf_content old) h.rows);
   desk =
       desk_stays c (shelf_content old) (desk_cells old.desk) refl h.desk one (desk_cells new.desk)
-          (sym (ap (λ (x : Content). x.desk) e));
+      (sym (ap (λ (x : Content). x.desk) e));
 }
 
 pub new_in_order : IsInKeyOrder new_content

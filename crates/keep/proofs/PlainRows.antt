@@ -1,7 +1,7 @@
 -- Rows that are put by their keys, in lists and as cells.
-use Rattle.std.proofs.Common.{◌≡◌, ◌∙◌, ℕ, zero, suc, ◌+◌, ◌<◌, ◌≤◌, List, [], ◌∷◌, ◌++◌, Bool, true, false,
-    if◌then◌else◌, Result, Ok, Err, IfErr, IfOk, Less, Equal, add-one, ap, arith, drop, get_or, length, map, refl, set,
-    subst, sym, take}
+use Rattle.std.proofs.Common.{◌≡◌, ◌∙◌, ℕ, zero, suc, ◌+◌, ◌<◌, ◌≤◌, List, [], ◌∷◌, ◌++◌, Bool, true, false}
+use Rattle.std.proofs.Common.{if◌then◌else◌, Result, Ok, Err, IfErr, IfOk, Less, Equal, add-one, ap, arith, drop}
+use Rattle.std.proofs.Common.{get_or, length, map, refl, set, subst, sym, take}
 use Rattle.std.proofs.lemmas.Cmp.{alike_right, tied_back}
 use Rattle.std.proofs.Math.Seq.{take-suc}
 use Rattle.std.proofs.lemmas.List.Elements.{AllZip-push}
@@ -31,7 +31,7 @@ module _ {R : Type 0} (cmp : R → R → Ordering) (o : IsTotalOrder cmp) where
   put_there row (x ∷ xs) zero d lt sorted e = rw (tied_back o x row e) refl
   put_there row (x ∷ xs) (suc i) d lt sorted e =
       let after : cmp row x ≡ Greater =
-          turned x row (sym (alike_right o (get_or xs i d) row x e) ∙ each_at x xs i d (omega arith) sorted.0) in
+      turned x row (sym (alike_right o (get_or xs i d) row x e) ∙ each_at x xs i d (omega arith) sorted.0) in
       rw after (ap (λ ys. x ∷ ys) (put_there row xs i d (omega arith) sorted.1 e))
 
   -- the row is put between those before it and those after it
@@ -57,9 +57,10 @@ module _ {R : Type 0} (cmp : R → R → Ordering) (o : IsTotalOrder cmp) where
   before : (P : R → Type 0) (xs : List R) (i : ℕ) → i ≤ length xs → AllWithin P xs 0 i → Each P (take i xs)
   before P xs zero le h = tt
   before P [] (suc i) le h = tt
-  before P (x ∷ xs) (suc i) le h =
-      (h zero x (omega arith) (omega arith),
-          before P xs i (omega arith) (λ k d low high. h (suc k) d (omega arith) (omega arith)))
+  before P (x ∷ xs) (suc i) le h = (
+    h zero x (omega arith) (omega arith),
+    before P xs i (omega arith) (λ k d low high. h (suc k) d (omega arith) (omega arith)),
+  )
 
   behind : (P : R → Type 0) (xs : List R) (i : ℕ) → AllWithin P xs i (length xs) → Each P (drop i xs)
   behind P [] zero h = tt
@@ -73,20 +74,21 @@ module _ {R : Type 0} (cmp : R → R → Ordering) (o : IsTotalOrder cmp) where
       → IsBinarySearchResult (λ x. cmp x row) xs r
       → record {
         there : IfOk r (λ i. (i < length xs) × (set xs i row ≡ put_row cmp row xs));
-        between : IfErr r (λ i. (i ≤ length xs) × (insert xs i row ≡ put_row cmp row xs))
+        between : IfErr r (λ i. (i ≤ length xs) × (insert xs i row ≡ put_row cmp row xs));
       }
   searched row xs (Ok i) sorted within is = record {
     there = (within, put_there row xs i row within sorted (is row));
-    between = tt
+    between = tt;
   }
   searched row xs (Err i) sorted within is =
       let split = is (rises row xs sorted) in
       record {
         there = tt;
-        between =
-            (within,
-                put_between row xs i within (before (λ x. cmp x row ≡ Less) xs i within split.0)
-                    (behind (λ x. cmp x row ≡ Greater) xs i split.1))
+        between = (
+          within,
+          put_between row xs i within (before (λ x. cmp x row ≡ Less) xs i within split.0)
+              (behind (λ x. cmp x row ≡ Greater) xs i split.1),
+        );
       }
 
 -- an element more, and its copy
@@ -137,9 +139,9 @@ put_cells view cmp row (x ∷ xs) =
     by : (before there : Bool)
         → map view (put_row (λ a b. cmp (view a) (view b)) row xs) ≡ put_row cmp (view row) (map view xs)
         → map view (if before then row ∷ x ∷ xs
-            else (if there then row ∷ xs else x ∷ put_row (λ a b. cmp (view a) (view b)) row xs))
+        else (if there then row ∷ xs else x ∷ put_row (λ a b. cmp (view a) (view b)) row xs))
         ≡ (if before then view row ∷ view x ∷ map view xs
-            else (if there then view row ∷ map view xs else view x ∷ put_row cmp (view row) (map view xs)))
+        else (if there then view row ∷ map view xs else view x ∷ put_row cmp (view row) (map view xs)))
     by true there e = refl
     by false true e = refl
     by false false e = ap (λ ys. view x ∷ ys) e
@@ -150,17 +152,17 @@ pub searched_cells : {X Y : Type 0} (view : X → Y) (cmp : Y → Y → Ordering
     → IsBinarySearchResult (λ x. cmp (view x) (view row)) xs r
     → record {
       there : IfOk r (λ i. (i < length xs) × (map view (set xs i row) ≡ put_row cmp (view row) (map view xs)));
-      between : IfErr r (λ i. (i ≤ length xs) × (map view (insert xs i row) ≡ put_row cmp (view row) (map view xs)))
+      between : IfErr r (λ i. (i ≤ length xs) × (map view (insert xs i row) ≡ put_row cmp (view row) (map view xs)));
     }
 searched_cells view cmp o row xs (Ok i) sorted within is =
     let there =
-        (searched (λ a b. cmp (view a) (view b)) (on_total view o) row xs (Ok i) (sorted_rows view cmp xs sorted) within
-            is).there in
+    (searched (λ a b. cmp (view a) (view b)) (on_total view o) row xs (Ok i) (sorted_rows view cmp xs sorted) within
+    is).there in
     record { there = (there.0, ap (map view) there.1 ∙ put_cells view cmp row xs); between = tt }
 searched_cells view cmp o row xs (Err i) sorted within is =
     let between =
-        (searched (λ a b. cmp (view a) (view b)) (on_total view o) row xs (Err i) (sorted_rows view cmp xs sorted)
-            within is).between in
+    (searched (λ a b. cmp (view a) (view b)) (on_total view o) row xs (Err i) (sorted_rows view cmp xs sorted)
+    within is).between in
     record { there = tt; between = (between.0, ap (map view) between.1 ∙ put_cells view cmp row xs) }
 
 -- ---- rows stay in order
@@ -173,7 +175,7 @@ module _ {R : Type 0} (cmp : R → R → Ordering) (o : IsTotalOrder cmp) where
     where
       by : (before there : Bool) → Each (λ z. cmp x z ≡ Less) (put_row cmp row ys)
           → Each (λ z. cmp x z ≡ Less)
-              (if before then row ∷ y ∷ ys else (if there then row ∷ ys else y ∷ put_row cmp row ys))
+          (if before then row ∷ y ∷ ys else (if there then row ∷ ys else y ∷ put_row cmp row ys))
       by true there rest = (e, h)
       by false true rest = (e, h.1)
       by false false rest = (h.0, rest)
@@ -193,7 +195,7 @@ module _ {R : Type 0} (cmp : R → R → Ordering) (o : IsTotalOrder cmp) where
     where
       by : (r : Ordering) → cmp row x ≡ r → IsStrictlySortedBy cmp (put_row cmp row xs)
           → IsStrictlySortedBy cmp
-              (if is_lt r then row ∷ x ∷ xs else (if is_eq r then row ∷ xs else x ∷ put_row cmp row xs))
+          (if is_lt r then row ∷ x ∷ xs else (if is_eq r then row ∷ xs else x ∷ put_row cmp row xs))
       by Less e rest = ((e, after row x xs e sorted.0), sorted)
       by Equal e rest = (alike row x xs e sorted.0, sorted.1)
       by Greater e rest = (later x row xs (o.antisymm x row ∙ ap ordering_reverse e) sorted.0, rest)

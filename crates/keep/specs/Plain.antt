@@ -1,10 +1,10 @@
 -- A keeper in memory.
-use Rattle.std.specs.Prelude.{◌≡◌, ◌+◌, ◌-◌, ◌≤◌, ℕ, Bool, false, true, if◌then◌else◌, Err, OnOk, Result, Option, Some,
-    List, [], ◌∷◌, length, map, option_map}
+use Rattle.std.specs.Prelude.{◌≡◌, ◌+◌, ◌-◌, ◌≤◌, ℕ, Bool, false, true, if◌then◌else◌, Err, OnOk, Result, Option, Some}
+use Rattle.std.specs.Prelude.{List, [], ◌∷◌, length, map, option_map}
 use Rattle.ledger.specs.declared.rows.Change.{Change}
 use Rattle.ledger.specs.Rows.{Content, IsInKeyOrder}
-use Rattle.ledger.specs.Tables.{desk_cells, field_cells, firm_cells, kept_cells, line_cells, move_cells, no_content,
-    order_cells, with_change}
+use Rattle.ledger.specs.Tables.{desk_cells, field_cells, firm_cells, kept_cells, line_cells, move_cells, no_content}
+use Rattle.ledger.specs.Tables.{order_cells, with_change}
 use Rattle.keep.specs.Content.{IsTheRow, with_changes}
 use Rattle.keep.specs.declared.keep.KeepFault.{KeepFault}
 use Rattle.keep.specs.declared.keep.KeepFault.TheVariants.{Store}

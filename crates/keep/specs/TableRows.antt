@@ -1,8 +1,8 @@
 -- The rows of each table: what a row holds, and how the keys are ordered.
 use Rattle.std.specs.Prelude.{List}
 use Rattle.std.specs.declared.cmp.Ordering.{Ordering}
-use Rattle.ledger.specs.Rows.{Content, DeskCells, FieldCells, FirmCells, KeptCells, LineCells, MoveCells, OrderCells,
-    desk_cmp, field_cmp, firm_cmp, kept_cmp, line_cmp, move_cmp, order_cmp}
+use Rattle.ledger.specs.Rows.{Content, DeskCells, FieldCells, FirmCells, KeptCells, LineCells, MoveCells, OrderCells}
+use Rattle.ledger.specs.Rows.{desk_cmp, field_cmp, firm_cmp, kept_cmp, line_cmp, move_cmp, order_cmp}
 use Rattle.keep.specs.declared.table_row.TableName.{TableName}
 use Rattle.keep.specs.declared.table_row.TableName.TheVariants as table
 

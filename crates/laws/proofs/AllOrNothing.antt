@@ -1,9 +1,10 @@
 -- Wherever a course stops, all of the deal is moved, or nothing is.
-use Rattle.ledger.proofs.Prelude.{Bool, Each, FirstFailure, IfSome, IsFalse, IsNone, IsSomeAnd, IsTrue, Ledger, List,
-    Name, None, OpenLine, Option, Order, Request, Some, [], accept, ap, arith, checks, effect, false, find,
-    if◌then◌else◌, inl, inr, is_open, is_settled, map, name_of, not, numbered, option_map, option_map_or,
-    order_numbered, pos, refl, same_name, settled_part, share_of, signed, subst, sym, total, true, true≢false, ℕ, ℤ,
-    ◌+ℤ◌, ◌==◌, ◌∙◌, ◌∷◌, ◌≡◌, ◌⊎◌}
+use Rattle.ledger.proofs.Prelude.{Bool, Each, FirstFailure, IfSome, IsFalse, IsNone, IsSomeAnd, IsTrue, Ledger, List}
+use Rattle.ledger.proofs.Prelude.{Name, None, OpenLine, Option, Order, Request, Some, [], accept, ap, arith, checks}
+use Rattle.ledger.proofs.Prelude.{effect, false, find, if◌then◌else◌, inl, inr, is_open, is_settled, map, name_of, not}
+use Rattle.ledger.proofs.Prelude.{numbered, option_map, option_map_or, order_numbered, pos, refl, same_name}
+use Rattle.ledger.proofs.Prelude.{settled_part, share_of, signed, subst, sym, total, true, true≢false, ℕ, ℤ, ◌+ℤ◌, ◌==◌}
+use Rattle.ledger.proofs.Prelude.{◌∙◌, ◌∷◌, ◌≡◌, ◌⊎◌}
 use Rattle.words.specs.declared.command.Command.{Command}
 use Rattle.words.specs.declared.command.Command.TheVariants as command
 use Rattle.ledger.specs.declared.order.Line.{Line}
@@ -11,8 +12,8 @@ use Rattle.ledger.proofs.Runs.{accepted_answered}
 use Rattle.ledger.proofs.Lists.{found_passes}
 use Rattle.ledger.proofs.Steps.{found_changed, unsettled_none}
 use Rattle.ledger.proofs.Sums.{each, each-imp}
-use Rattle.laws.specs.Deals.{AllMovedOrUnderWay, AllUsed, Deal, HasAborted, HasCommitted, HasMovedAll, HasMovedNothing,
-    HasUsed, IsAborted, IsCommitted, IsTaken, IsUnderWay, NothingMoved, Side}
+use Rattle.laws.specs.Deals.{AllMovedOrUnderWay, AllUsed, Deal, HasAborted, HasCommitted, HasMovedAll, HasMovedNothing}
+use Rattle.laws.specs.Deals.{HasUsed, IsAborted, IsCommitted, IsTaken, IsUnderWay, NothingMoved, Side}
 use Rattle.laws.proofs.OneOrder.{AsOpened, changes, held_line}
 use Rattle.laws.proofs.Together.{Beside, Stands}
 

@@ -1,16 +1,16 @@
 -- A deal comes to an end by commits and aborts.
-use Rattle.ledger.proofs.Prelude.{[], ◌+◌, ◌∙◌, ◌∷◌, ◌≡◌, ◌≤◌, ◌⊎◌, Bool, Done, Each, IsSome, IsSomeAnd, IsTrue, List,
-    None, Option, Order, Reply, Some, arith, false, inl, inr, is_open, is_settled, length, order_numbered, places, refl,
-    subst, sym, true, true≢false, ℕ}
+use Rattle.ledger.proofs.Prelude.{[], ◌+◌, ◌∙◌, ◌∷◌, ◌≡◌, ◌≤◌, ◌⊎◌, Bool, Done, Each, IsSome, IsSomeAnd, IsTrue, List}
+use Rattle.ledger.proofs.Prelude.{None, Option, Order, Reply, Some, arith, false, inl, inr, is_open, is_settled, length}
+use Rattle.ledger.proofs.Prelude.{order_numbered, places, refl, subst, sym, true, true≢false, ℕ}
 use Rattle.words.specs.declared.command.Command.{Command}
 use Rattle.words.specs.declared.command.Command.TheVariants as command
 use Rattle.ledger.proofs.Sums.{each-both}
-use Rattle.laws.specs.Deals.{AllMoved, AtFirst, AtOther, ComesToAnEnd, Course, Deal, HasCommitted, HasMovedAll,
-    IsAborted, IsAnswered, IsCommitted, IsEnd, IsFree, IsOver, IsUnderWay, NothingMoved, Side, Turn, first_guards,
-    other_guards}
+use Rattle.laws.specs.Deals.{AllMoved, AtFirst, AtOther, ComesToAnEnd, Course, Deal, HasCommitted, HasMovedAll}
+use Rattle.laws.specs.Deals.{IsAborted, IsAnswered, IsCommitted, IsEnd, IsFree, IsOver, IsUnderWay, NothingMoved, Side}
+use Rattle.laws.specs.Deals.{Turn, first_guards, other_guards}
 use Rattle.laws.proofs.Together.{Beside, Stands, at_first, stands_along}
-use Rattle.laws.proofs.AllOrNothing.{committed_beside, committed_or_not, both_ends, moved_all, moved_nothing,
-    not_committed, under}
+use Rattle.laws.proofs.AllOrNothing.{committed_beside, committed_or_not, both_ends, moved_all, moved_nothing}
+use Rattle.laws.proofs.AllOrNothing.{not_committed, under}
 
 -- the deal with these other sides
 abbrev pub with_others : Deal → List Side → Deal

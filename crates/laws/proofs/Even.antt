@@ -1,12 +1,14 @@
 -- What the orders of a deal move at all desks together, and what its own commands do to stock.
-use Rattle.ledger.proofs.Prelude.{Add, Bool, Each, Field, Good, IsNone, List, OpenLine, Way, [], ap, arith, bytes_eq,
-    false, if◌then◌else◌, inl, inr, ints, not, option_map_or, order_numbered, part_of, pos, refl, settled, settled_part,
-    signed, subst, sym, total, true, ℕ, ℤ, ◌+ℤ◌, ◌∷◌, ◌≡◌, ◌≤ℤ◌, ◌⊎◌}
+use Rattle.ledger.proofs.Prelude.{Add, Bool, Each, Field, Good, IsNone, List, OpenLine, Way, [], ap, arith, bytes_eq}
+use Rattle.ledger.proofs.Prelude.{false, if◌then◌else◌, inl, inr, ints, not, option_map_or, order_numbered, part_of}
+use Rattle.ledger.proofs.Prelude.{pos, refl, settled, settled_part, signed, subst, sym, total, true, ℕ, ℤ, ◌+ℤ◌, ◌∷◌}
+use Rattle.ledger.proofs.Prelude.{◌≡◌, ◌≤ℤ◌, ◌⊎◌}
 use Rattle.std.specs.List.{AllZip}
 use Rattle.ledger.proofs.Goodness.{good_answer}
 use Rattle.ledger.proofs.Sums.{each-both, each-imp, total-eq, total-le, total-zero}
-use Rattle.laws.specs.Deals.{AtFirst, AtOther, ChangesByOrder, Course, Deal, HasCommitted, IsAnswered, IsNew, IsOver,
-    IsOwn, IsTransfer, Side, Turn, article_moved, article_of_lines, moved_in_all, moved_under, other_guards}
+use Rattle.laws.specs.Deals.{AtFirst, AtOther, ChangesByOrder, Course, Deal, HasCommitted, IsAnswered, IsNew, IsOver}
+use Rattle.laws.specs.Deals.{IsOwn, IsTransfer, Side, Turn, article_moved, article_of_lines, moved_in_all, moved_under}
+use Rattle.laws.specs.Deals.{other_guards}
 use Rattle.laws.proofs.AllOrNothing.{all_moved, committed_or_not, none_moved}
 use Rattle.laws.proofs.Ends.{aborted_if, some_there}
 use Rattle.laws.proofs.Stock.{moves_alone}

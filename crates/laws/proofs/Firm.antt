@@ -1,6 +1,6 @@
 -- An order that is firm stays firm, and is not aborted.
-use Rattle.ledger.proofs.Prelude.{FirstFailure, Good, IsSomeAnd, IsTrue, Ledger, List, None, Order, Reply, Request,
-    Runs, accept, checks, effect, numbered, order_numbered, sym, true≢false, ℕ, ◌∙◌}
+use Rattle.ledger.proofs.Prelude.{FirstFailure, Good, IsSomeAnd, IsTrue, Ledger, List, None, Order, Reply, Request}
+use Rattle.ledger.proofs.Prelude.{Runs, accept, checks, effect, numbered, order_numbered, sym, true≢false, ℕ, ◌∙◌}
 use Rattle.ledger.specs.Future.{StaysFirm}
 use Rattle.ledger.proofs.Lists.{NumbersInOrder, found_both}
 use Rattle.ledger.proofs.Passing.{along_any, answered}

@@ -1,10 +1,11 @@
 -- What a command that keeps its guard does to the order under a number.
-use Rattle.ledger.proofs.Prelude.{Answers, Bool, Changes, Command, Each, Effect, FirstFailure, IfSome, IsFalse, IsNone,
-    IsSome, IsSomeAnd, Ledger, List, Name, None, Nothing, OpenLine, Opens, Option, Order, Reply, Request, Some, [],
-    add_hold, ap, arith, change_lines, checks, effect, expires, false, find, if◌then◌else◌, inl, inr, is_open,
-    is_settled, is_transfer, map, name_of, nat_lt, new_line, new_order, next, numbered, on, option_map, order_numbered,
-    raise_used, refl, subst, sym, transfer_kind, transfer_lines, true, true≢false, ℕ, ◌+◌, ◌==◌, ◌∙◌, ◌∷◌, ◌≡◌, ◌≢◌,
-    ◌≤◌, ◌⊎◌}
+use Rattle.ledger.proofs.Prelude.{Answers, Bool, Changes, Command, Each, Effect, FirstFailure, IfSome, IsFalse, IsNone}
+use Rattle.ledger.proofs.Prelude.{IsSome, IsSomeAnd, Ledger, List, Name, None, Nothing, OpenLine, Opens, Option, Order}
+use Rattle.ledger.proofs.Prelude.{Reply, Request, Some, [], add_hold, ap, arith, change_lines, checks, effect, expires}
+use Rattle.ledger.proofs.Prelude.{false, find, if◌then◌else◌, inl, inr, is_open, is_settled, is_transfer, map, name_of}
+use Rattle.ledger.proofs.Prelude.{nat_lt, new_line, new_order, next, numbered, on, option_map, order_numbered}
+use Rattle.ledger.proofs.Prelude.{raise_used, refl, subst, sym, transfer_kind, transfer_lines, true, true≢false, ℕ, ◌+◌}
+use Rattle.ledger.proofs.Prelude.{◌==◌, ◌∙◌, ◌∷◌, ◌≡◌, ◌≢◌, ◌≤◌, ◌⊎◌}
 use Rattle.words.specs.declared.command.Command.TheVariants as command
 use Rattle.ledger.specs.declared.order.Kind.TheVariants.{Plain, Transfer}
 use Rattle.ledger.specs.declared.order.Line.{Line}
@@ -274,9 +275,14 @@ module _ (n : ℕ) (lines : List OpenLine) (Lasts : ℕ → Type 0) (g : Guards)
     where
       by : (b : Bool) → (m == n) ≡ b → Comes (order_numbered (next A (command.Open m v ls)) n)
       by true e = let k = may (same_number m n e) in let o = new_order m Plain v ls in
-          inr (o,
-              find-new (numbered n) (λ a b. nat_lt a.number b.number) o A.orders e
-                  (none_found (numbered n) A.orders none), fresh m v ls k.0 k.1, refl, k.0)
+          inr (
+            o,
+            find-new (numbered n) (λ a b. nat_lt a.number b.number) o A.orders e
+                (none_found (numbered n) A.orders none),
+            fresh m v ls k.0 k.1,
+            refl,
+            k.0,
+          )
       by false e = inl (beside n (new_order m Plain v ls) e A.orders ∙ none)
   comes_to (command.Transfer m v a from to q) may =
       inl (beside n (new_order m Transfer v (transfer_lines a from to q)) (other_number m n may) A.orders ∙ none)

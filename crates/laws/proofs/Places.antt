@@ -1,11 +1,12 @@
 -- Where a desk goes on: what is kept stays at its place, and the request that took the next place would have been
 -- accepted wherever it stood behind the request that took the place before.
 use Rattle.ledger.proofs.Passing.{along_any}
-use Rattle.ledger.proofs.Prelude.{Answers, AnswersNew, Bool, Done, Each, FirstFailure, Good, IsAccepted, IsInRange,
-    IsKey, Kept, KeyReused, Ledger, List, MatchOption, None, Option, Refusal, Refused, Reply, Request, Runs, Some, [],
-    accept, ap, arith, checks, drop, false, find, if◌then◌else◌, inl, inr, is_lt, is_some, kept_under, nat_cmp, new_key,
-    places, refl, same_command, slice_cmp, subst, suc, sym, take, true≢false, zero, ℕ, ◌+◌, ◌<◌, ◌==◌, ◌∙◌, ◌∷◌, ◌≡◌,
-    ◌≤◌, ◌⊎◌}
+use Rattle.ledger.proofs.Prelude.{Answers, AnswersNew, Bool, Done, Each, FirstFailure, Good, IsAccepted, IsInRange}
+use Rattle.ledger.proofs.Prelude.{IsKey, Kept, KeyReused, Ledger, List, MatchOption, None, Option, Refusal, Refused}
+use Rattle.ledger.proofs.Prelude.{Reply, Request, Runs, Some, [], accept, ap, arith, checks, drop, false, find}
+use Rattle.ledger.proofs.Prelude.{if◌then◌else◌, inl, inr, is_lt, is_some, kept_under, nat_cmp, new_key, places, refl}
+use Rattle.ledger.proofs.Prelude.{same_command, slice_cmp, subst, suc, sym, take, true≢false, zero, ℕ, ◌+◌, ◌<◌, ◌==◌}
+use Rattle.ledger.proofs.Prelude.{◌∙◌, ◌∷◌, ◌≡◌, ◌≤◌, ◌⊎◌}
 use Rattle.ledger.specs.Answers.{After}
 use Rattle.ledger.proofs.Goodness.{good_answer}
 use Rattle.ledger.proofs.Lists.{find-beside, find-new, length-insert, same_number, some_is}

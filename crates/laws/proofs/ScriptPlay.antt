@@ -1,8 +1,9 @@
 -- Scripts are played by computing: a script whose replies and numbers are those computed is played as it stands.
-use Rattle.ledger.proofs.Prelude.{Answers, AnswersNew, Check, Done, Each, Field, FirstFailure, IsInfimum, IsSomeAnd,
-    IsSupremum, Kept, KeyReused, Ledger, List, MatchOption, None, Option, Refusal, Refused, Reply, Request, Some, [],
-    accept, ap, arith, article_total, checks, field_named, held_to_add, held_to_take, if◌then◌else◌, inl, inr,
-    kept_under, map, places, pos, refl, same_command, settled, subst, ℕ, ℤ, ◌+ℤ◌, ◌+◌, ◌-ℤ◌, ◌∷◌, ◌≡◌}
+use Rattle.ledger.proofs.Prelude.{Answers, AnswersNew, Check, Done, Each, Field, FirstFailure, IsInfimum, IsSomeAnd}
+use Rattle.ledger.proofs.Prelude.{IsSupremum, Kept, KeyReused, Ledger, List, MatchOption, None, Option, Refusal}
+use Rattle.ledger.proofs.Prelude.{Refused, Reply, Request, Some, [], accept, ap, arith, article_total, checks}
+use Rattle.ledger.proofs.Prelude.{field_named, held_to_add, held_to_take, if◌then◌else◌, inl, inr, kept_under, map}
+use Rattle.ledger.proofs.Prelude.{places, pos, refl, same_command, settled, subst, ℕ, ℤ, ◌+ℤ◌, ◌+◌, ◌-ℤ◌, ◌∷◌, ◌≡◌}
 use Rattle.laws.specs.Examples.{Numbers, Plays, Shows, Step, numbers, total}
 use Rattle.ledger.proofs.Bounds.{inf_is, sup_is}
 use Rattle.laws.proofs.Tests.{AllTested, Sounds, Tested, fails, holds, if_sounds, sounds, tested, unknown}
@@ -38,8 +39,8 @@ by_new A r (Some f) = Some (by_found A r f.0 f.1)
 
 abbrev pub by_key : (A : Ledger) (r : Request) (o : Option Kept)
     → Option ((reply : Reply) × (B : Ledger)
-        × MatchOption o (AnswersNew A r reply B)
-            (λ k. (reply ≡ (if same_command k.command r.command then Done k.place else Refused KeyReused 0)) × (B ≡ A)))
+    × MatchOption o (AnswersNew A r reply B)
+    (λ k. (reply ≡ (if same_command k.command r.command then Done k.place else Refused KeyReused 0)) × (B ≡ A)))
 by_key A r None = by_new A r (first_failure (checks A r.command) (tested A r.command))
 by_key A r (Some k) = Some (if same_command k.command r.command then Done k.place else Refused KeyReused 0, A, (refl, refl))
 

@@ -1,9 +1,11 @@
 -- Where no place is free and every open order is firm, nothing moves any more.
-use Rattle.ledger.proofs.Prelude.{Bool, Command, Each, Field, FirstFailure, Good, IsSomeAnd, IsStrictlySortedBy, IsTrue,
-    Kept, Ledger, List, None, Option, Order, Reply, Request, Runs, Some, [], accept, ap, arith, checks, count_by,
-    effect, false, if◌then◌else◌, ints, is_lt, is_open, is_settled, map, nat_cmp, new_key, numbered, on, open_orders,
-    order_numbered, orders_after, part_of, places, pos, refl, set_state, settled, settled_part, signed, slice_cmp, sym,
-    total, true, true≢false, ℕ, ℤ, ◌+ℤ◌, ◌+◌, ◌<◌, ◌==◌, ◌∙◌, ◌∷◌, ◌≡◌, ◌≤◌}
+use Rattle.ledger.proofs.Prelude.{Bool, Command, Each, Field, FirstFailure, Good, IsSomeAnd, IsStrictlySortedBy, IsTrue}
+use Rattle.ledger.proofs.Prelude.{Kept, Ledger, List, None, Option, Order, Reply, Request, Runs, Some, [], accept, ap}
+use Rattle.ledger.proofs.Prelude.{arith, checks, count_by, effect, false, if◌then◌else◌, ints, is_lt, is_open}
+use Rattle.ledger.proofs.Prelude.{is_settled, map, nat_cmp, new_key, numbered, on, open_orders, order_numbered}
+use Rattle.ledger.proofs.Prelude.{orders_after, part_of, places, pos, refl, set_state, settled, settled_part, signed}
+use Rattle.ledger.proofs.Prelude.{slice_cmp, sym, total, true, true≢false, ℕ, ℤ, ◌+ℤ◌, ◌+◌, ◌<◌, ◌==◌, ◌∙◌, ◌∷◌, ◌≡◌}
+use Rattle.ledger.proofs.Prelude.{◌≤◌}
 use Rattle.words.specs.declared.command.Command.TheVariants as command
 use Rattle.ledger.specs.declared.limits.TheConstants.{MAX_PLACES}
 use Rattle.ledger.specs.declared.order.State.TheVariants.{Committed}

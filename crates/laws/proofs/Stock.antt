@@ -1,16 +1,17 @@
 -- A command that names an order changes each field's settled value by what the order moves there, and no other command
 -- changes what it has moved.
-use Rattle.ledger.proofs.Prelude.{Answers, Bool, Changes, Command, Effect, Field, Good, IsNone, IsStrictlySortedBy,
-    Ledger, List, Name, None, Nothing, OpenLine, Opens, Option, Order, Reply, Request, Some, add_hold, ap, arith,
-    effect, expires, false, find, if◌then◌else◌, ints, is_settled, map, moved_by_command, nat_cmp, nat_lt, numbered, on,
-    option_map, option_map_or, orders_after, part_of, pos, refl, set_state, settled, settled_part, subst, sym, total,
-    true, ℕ, ℤ, ◌+ℤ◌, ◌==◌, ◌∙◌, ◌≡◌, ◌≢◌}
+use Rattle.ledger.proofs.Prelude.{Answers, Bool, Changes, Command, Effect, Field, Good, IsNone, IsStrictlySortedBy}
+use Rattle.ledger.proofs.Prelude.{Ledger, List, Name, None, Nothing, OpenLine, Opens, Option, Order, Reply, Request}
+use Rattle.ledger.proofs.Prelude.{Some, add_hold, ap, arith, effect, expires, false, find, if◌then◌else◌, ints}
+use Rattle.ledger.proofs.Prelude.{is_settled, map, moved_by_command, nat_cmp, nat_lt, numbered, on, option_map}
+use Rattle.ledger.proofs.Prelude.{option_map_or, orders_after, part_of, pos, refl, set_state, settled, settled_part}
+use Rattle.ledger.proofs.Prelude.{subst, sym, total, true, ℕ, ℤ, ◌+ℤ◌, ◌==◌, ◌∙◌, ◌≡◌, ◌≢◌}
 use Rattle.words.specs.declared.command.Command.TheVariants as command
 use Rattle.ledger.specs.declared.order.State.TheVariants.{Aborted}
 use Rattle.ledger.proofs.Lists.{found_passes}
 use Rattle.ledger.proofs.Passing.{answered}
-use Rattle.ledger.proofs.Steps.{EffectGoes, effect_goes, found_changed, found_opened, keeps_numbers, moves_next,
-    none_changes, one_changes, unsettled_none}
+use Rattle.ledger.proofs.Steps.{EffectGoes, effect_goes, found_changed, found_opened, keeps_numbers, moves_next}
+use Rattle.ledger.proofs.Steps.{none_changes, one_changes, unsettled_none}
 use Rattle.ledger.proofs.Sums.{each, total-insert}
 use Rattle.laws.specs.Deals.{Names, moved_under}
 use Rattle.laws.proofs.OneOrder.{beside, number_is, other_number, same_number}
@@ -119,8 +120,11 @@ is_beside f n (command.Release m b a q) not = ((λ o. refl), apart _ m n not)
 is_beside f n (command.Commit m) not = ((λ o. refl), apart _ m n not)
 is_beside f n (command.Abort m) not = ((λ o. refl), apart _ m n not)
 is_beside f n (command.Firm m) not = ((λ o. refl), apart _ m n not)
-is_beside f n (command.Expire now) not = ((λ o. refl), λ o is e.
-    unsettled_none (on f) (set_state Aborted o) refl ∙ sym (unsettled_none (on f) o (loose_if now o e)))
+is_beside f n (command.Expire now) not = (
+  (λ o. refl),
+  λ o is e.
+      unsettled_none (on f) (set_state Aborted o) refl ∙ sym (unsettled_none (on f) o (loose_if now o e)),
+)
 is_beside f n c not = tt
 
 leaves : (f : Name) (n : ℕ) (e : Effect) (os : List Order) → IsBeside f n e

@@ -1,21 +1,24 @@
 -- The rows that each command changes, told from the steps that it makes.
-use Rattle.ledger.proofs.Prelude.{[], ◌&&◌, ◌++◌, ◌+◌, ◌-◌, ◌==◌, ◌||◌, ◌∙◌, ◌∷◌, ◌≡◌, ◌≤◌, Bool, Changes, Command,
-    Content, Each, FirstFailure, Good, IsInRange, IsSomeAnd, Ledger, LineCells, List, Move, Name, None, Nothing,
-    OpenLine, Opens, Option, Order, Request, Some, Step, add_hold, amount_row, amount_rows, ap, append-nil, arith,
-    becomes_firm, change_lines, changed_rows, changes_field, changes_held, changes_line, changes_state, changes_stock,
-    checks, effect, expires, false, filter, firm_row, flat_map, hold_more, if◌then◌else◌, is_open, is_some, is_transfer,
-    kept_row, line_name, line_on, line_row, line_steps, lines_from, lines_of, list_any, lower_held, map, mark_row,
-    move_made, move_row, name_of, new_key, new_line, not, numbered, on, open_state, option_map_or, order_numbered,
-    order_row, own_field, places, raise_held, raise_used, refl, same_name, set_firm, set_state, state_row, steps,
-    steps_of, subst, sym, true, ℕ, find, MayHoldMore, opening, turn}
+use Rattle.ledger.proofs.Prelude.{[], ◌&&◌, ◌++◌, ◌+◌, ◌-◌, ◌==◌, ◌||◌, ◌∙◌, ◌∷◌, ◌≡◌, ◌≤◌, Bool, Changes, Command}
+use Rattle.ledger.proofs.Prelude.{Content, Each, FirstFailure, Good, IsInRange, IsSomeAnd, Ledger, LineCells, List}
+use Rattle.ledger.proofs.Prelude.{Move, Name, None, Nothing, OpenLine, Opens, Option, Order, Request, Some, Step}
+use Rattle.ledger.proofs.Prelude.{add_hold, amount_row, amount_rows, ap, append-nil, arith, becomes_firm, change_lines}
+use Rattle.ledger.proofs.Prelude.{changed_rows, changes_field, changes_held, changes_line, changes_state, changes_stock}
+use Rattle.ledger.proofs.Prelude.{checks, effect, expires, false, filter, firm_row, flat_map, hold_more, if◌then◌else◌}
+use Rattle.ledger.proofs.Prelude.{is_open, is_some, is_transfer, kept_row, line_name, line_on, line_row, line_steps}
+use Rattle.ledger.proofs.Prelude.{lines_from, lines_of, list_any, lower_held, map, mark_row, move_made, move_row}
+use Rattle.ledger.proofs.Prelude.{name_of, new_key, new_line, not, numbered, on, open_state, option_map_or}
+use Rattle.ledger.proofs.Prelude.{order_numbered, order_row, own_field, places, raise_held, raise_used, refl, same_name}
+use Rattle.ledger.proofs.Prelude.{set_firm, set_state, state_row, steps, steps_of, subst, sym, true, ℕ, find}
+use Rattle.ledger.proofs.Prelude.{MayHoldMore, opening, turn}
 use Rattle.ledger.specs.declared.order.State.TheVariants.{Aborted, Committed}
 use Rattle.ledger.specs.declared.order.Line.{Line}
 use Rattle.ledger.specs.declared.order.State.{State}
 use Rattle.std.specs.Prelude.{option_to_list}
 use Rattle.ledger.proofs.Steps.{touched, one_step}
 use Rattle.ledger.specs.Rows.{MoveCells}
-use Rattle.laws.specs.RowsByCommand.{TableRows, has_line_on, has_part_on, no_rows, of_order, opened_rows, part_rows,
-    rows_by_command, rows_told}
+use Rattle.laws.specs.RowsByCommand.{TableRows, has_line_on, has_part_on, no_rows, of_order, opened_rows, part_rows}
+use Rattle.laws.specs.RowsByCommand.{rows_by_command, rows_told}
 use Rattle.ledger.proofs.Lists.{each-found, found_passes, number_is, or_nothing, same_number}
 use Rattle.ledger.proofs.NextContent.{new_amounts}
 use Rattle.ledger.proofs.Sums.{each, each-imp, none_found}
@@ -133,21 +136,21 @@ opens_rows : (A : Ledger) (c : Command) (o : Order) → own_field c ≡ None →
     → HasRows A c (opened_rows o)
 opens_rows A c o own unmoved opens loose =
     one_rows A c (opening o) _ own unmoved refl (ap (λ e. steps e A.orders) opens) (record {
-  fields = λ f. all_fields (opening o) f 1 [] o.lines refl;
-  orders = refl;
-  lines = new_amounts o.number 1 o.lines;
-  firms = ap (λ b. if b && true then firm_row o.number ∷ [] else []) loose;
-})
+      fields = λ f. all_fields (opening o) f 1 [] o.lines refl;
+      orders = refl;
+      lines = new_amounts o.number 1 o.lines;
+      firms = ap (λ b. if b && true then firm_row o.number ∷ [] else []) loose;
+    })
 
 -- ---- an order that ends, or becomes firm
 
 end_step : (o : Order) (state : State) → is_open o ≡ true → open_state state ≡ false
     → StepRows (turn o (set_state state o))
-        (record no_rows { fields = λ f. has_line_on f o; orders = order_row (set_state state o) ∷ [] })
+    (record no_rows { fields = λ f. has_line_on f o; orders = order_row (set_state state o) ∷ [] })
 end_step o state unended ends = record {
   fields =
       λ f. all_fields (turn o (set_state state o)) f 1 o.lines o.lines
-          (or_true (is_open o) (open_state state) (o.firm && not o.firm) unended ends);
+      (or_true (is_open o) (open_state state) (o.firm && not o.firm) unended ends);
   orders =
       ap (λ b. if b then order_row (set_state state o) ∷ [] else []) (and_not_true (is_open o) (open_state state) unended ends);
   lines = no_amounts o.number 1 o.lines;
@@ -206,7 +209,7 @@ module _ (now : ℕ) where
       by : (b : Bool) → expires now o ≡ b
           → (ending os ≡ map end (filter (expires now) os)) × Each (λ o. expires now o ≡ true) (filter (expires now) os)
           → ((if b then end o ∷ [] else []) ++ ending os
-              ≡ map end (if b then o ∷ filter (expires now) os else filter (expires now) os))
+          ≡ map end (if b then o ∷ filter (expires now) os else filter (expires now) os))
           × Each (λ o. expires now o ≡ true) (if b then o ∷ filter (expires now) os else filter (expires now) os)
       by true e more = ((λ i. end o ∷ more.0 i), (e, more.1))
       by false e more = more
@@ -238,7 +241,7 @@ lines_fields s f new changed nr (l ∷ ls) same h =
 lines_rows : (n : ℕ) (new : Line → Line) (chosen : Name → Bool) (nr : ℕ) (ls : List Line)
     → Each (λ l. changes_line (record { nr = 0; before = Some l; after = new l }) ≡ chosen (line_name (new l))) ls
     → flat_map (amount_row n) (line_steps nr ls (map new ls))
-        ≡ filter (λ row. chosen (name_of row.branch row.article)) (lines_from n nr (map new ls))
+    ≡ filter (λ row. chosen (name_of row.branch row.article)) (lines_from n nr (map new ls))
 lines_rows n new chosen nr [] h = refl
 lines_rows n new chosen nr (l ∷ ls) h =
     (λ i. (if h.0 i then line_row n nr (new l) ∷ [] else []) ++ lines_rows n new chosen (nr + 1) ls h.1 i)
@@ -266,14 +269,14 @@ used_partly : (q : ℕ) → 1 ≤ q → IsPartly (raise_used q) q false
 used_partly q some = record {
   name = λ l. refl;
   line = λ l left. grind (arith, other_above);
-  held = λ l left. grind (arith, same_number)
+  held = λ l left. grind (arith, same_number);
 }
 
 released_partly : (q : ℕ) → 1 ≤ q → IsPartly (lower_held q) q true
 released_partly q some = record {
   name = λ l. refl;
   line = λ l left. grind (arith, other_below);
-  held = λ l left. grind (arith, other_below)
+  held = λ l left. grind (arith, other_below);
 }
 
 module _ (change : Line → Line) (q : ℕ) (releases : Bool) (is : IsPartly change q releases) (part : Name) (o : Order) where
@@ -301,7 +304,7 @@ module _ (change : Line → Line) (q : ℕ) (releases : Bool) (is : IsPartly cha
 
   new_stock : (l : Line) → ((is_transfer o || on part l) ≡ true → l.used + q ≤ l.held)
       → changes_stock step (record { nr = 0; before = Some l; after = new l })
-          ≡ ((releases || o.firm) && (is_transfer o || on part l))
+      ≡ ((releases || o.firm) && (is_transfer o || on part l))
   new_stock l left = by (is_transfer o || on part l) left
     where
       sides : (a m h c t b : Bool) → h ≡ (t && b) → c ≡ b
@@ -310,7 +313,7 @@ module _ (change : Line → Line) (q : ℕ) (releases : Bool) (is : IsPartly cha
 
       by : (b : Bool) → (b ≡ true → l.used + q ≤ l.held)
           → changes_stock step (record { nr = 0; before = Some l; after = if b then change l else l })
-              ≡ ((releases || o.firm) && b)
+          ≡ ((releases || o.firm) && b)
       by true left =
           sides (is_open o) o.firm _ _ releases true (is.held l (left refl) ∙ sym (and_true releases)) (is.line l (left refl))
       by false left =
@@ -319,7 +322,7 @@ module _ (change : Line → Line) (q : ℕ) (releases : Bool) (is : IsPartly cha
   part_step : (left : Each (λ l. (is_transfer o || on part l) ≡ true → l.used + q ≤ l.held) o.lines)
       → StepRows step (record no_rows {
         fields = λ f. (releases || o.firm) && has_part_on part f o;
-        lines = part_rows part (change_lines part change o)
+        lines = part_rows part (change_lines part change o);
       })
   part_step left = record {
     fields =
@@ -335,7 +338,7 @@ module _ (change : Line → Line) (q : ℕ) (releases : Bool) (is : IsPartly cha
     where
       apart : (f : Name) (b : Bool) (ls : List Line)
           → list_any (λ l. on f l && (b && (is_transfer o || on part l))) ls
-              ≡ (b && list_any (λ l. on f l && (is_transfer o || on part l)) ls)
+          ≡ (b && list_any (λ l. on f l && (is_transfer o || on part l)) ls)
       apart f b [] = grind arith
       apart f b (l ∷ ls) = let more = apart f b ls in grind arith
 
@@ -381,8 +384,8 @@ module _ (l : OpenLine) (o : Order) (some : 1 ≤ l.qty) (unended : is_open o �
   held_there a state firm nr [] = grind arith
   held_there a state firm nr (m ∷ ms) =
       (λ i.
-          (on_kept (on f m) i && held_line o a nr m l.qty (on f m) some unended loose state firm i)
-          || held_there a state firm (nr + 1) ms i)
+      (on_kept (on f m) i && held_line o a nr m l.qty (on f m) some unended loose state firm i)
+      || held_there a state firm (nr + 1) ms i)
       ∙ joined (on g m) (on f m) (same_name g f) (list_any (on f) ms) (both_on f g m)
     where
       on_kept : (b : Bool) → on g (if b then raise_held l.qty m else m) ≡ on g m
@@ -526,6 +529,6 @@ table_holds A c good range passed = by c range (all_pass (checks A c) passed)
         order_rows A (command.Firm n) n set_firm _ (λ o. (is_open o ≡ true) × (o.firm ≡ false)) refl refl refl (λ o. refl) good
         (loose_there _ p.1.0 p.1.1.0 p.1.1.1.0)
         (λ o is may. subst (λ m.
-            StepRows (turn o (set_firm o)) (record no_rows { fields = λ f. has_line_on f o; firms = firm_row m ∷ [] }))
+        StepRows (turn o (set_firm o)) (record no_rows { fields = λ f. has_line_on f o; firms = firm_row m ∷ [] }))
         (number_is o.number n (found_passes (numbered n) o A.orders is)) (firm_step o may.1))
     by (command.Expire now) range p = expired_rows now A

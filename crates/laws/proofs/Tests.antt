@@ -1,10 +1,12 @@
 -- Tests of a command's checks that compute. Each gives the proof of what it found, one way or the other: the tests are
 -- `abbrev`s, which unfold, and the proofs in them are not.
-use Rattle.ledger.proofs.Prelude.{Add, Bool, Check, Command, Each, IsFalse, IsNone, IsSomeAnd, IsTrue, Ledger, List,
-    MAX_ORDER_LINES, Name, None, OpenLine, Option, Order, Some, Take, Way, [], arith, bound, checks, false, field_named,
-    full, held_to_add, held_to_take, ints, is_open, is_transfer, length, line_checks, line_name, line_on, nat_le,
-    nat_lt, new_order, next, on, open_orders, order_checks, order_numbered, places, pos, refl, settled, subst, sym,
-    transfer_lines, true, true≢false, with_order, ℕ, ℤ, ◌++◌, ◌+ℤ◌, ◌+◌, ◌-ℤ◌, ◌<ℤ◌, ◌<◌, ◌↔◌, ◌∷◌, ◌≡◌, ◌≢◌, ◌≤◌}
+use Rattle.ledger.proofs.Prelude.{Add, Bool, Check, Command, Each, IsFalse, IsNone, IsSomeAnd, IsTrue, Ledger, List}
+use Rattle.ledger.proofs.Prelude.{MAX_ORDER_LINES, Name, None, OpenLine, Option, Order, Some, Take, Way, [], arith}
+use Rattle.ledger.proofs.Prelude.{bound, checks, false, field_named, full, held_to_add, held_to_take, ints, is_open}
+use Rattle.ledger.proofs.Prelude.{is_transfer, length, line_checks, line_name, line_on, nat_le, nat_lt, new_order, next}
+use Rattle.ledger.proofs.Prelude.{on, open_orders, order_checks, order_numbered, places, pos, refl, settled, subst, sym}
+use Rattle.ledger.proofs.Prelude.{transfer_lines, true, true≢false, with_order, ℕ, ℤ, ◌++◌, ◌+ℤ◌, ◌+◌, ◌-ℤ◌, ◌<ℤ◌, ◌<◌}
+use Rattle.ledger.proofs.Prelude.{◌↔◌, ◌∷◌, ◌≡◌, ◌≢◌, ◌≤◌}
 use Rattle.ledger.specs.declared.order.Line.{Line}
 use Rattle.ledger.specs.declared.limits.TheConstants.{MAX_PLACES}
 use Rattle.ledger.specs.declared.order.Kind.TheVariants.{Plain, Transfer}
@@ -135,15 +137,15 @@ if_apart (l ∷ ls) = if_both (if_each (λ m. on (line_name l) m ≡ false) ls (
 abbrev pub if_sounds : (A : Ledger) → Tested (Sounds A)
 if_sounds A =
     if_each (λ o. Each (λ l. l.used ≤ l.held) o.lines × Apart o.lines) A.orders
-        (λ o. if_both (if_each (λ l. l.used ≤ l.held) o.lines (λ l. if_upto l.used l.held)) (if_apart o.lines))
+    (λ o. if_both (if_each (λ l. l.used ≤ l.held) o.lines (λ l. if_upto l.used l.held)) (if_apart o.lines))
 
 abbrev pub if_bound : (w : Way) (B : Ledger) (f : Name) (i : ℕ) → Tested (bound w B f i).fails
 if_bound Take B f i =
     if_known (if_sounds B) (λ s. if_iff (falls_below_iff B (sounds B s) f)
-        (if_some_and _ (field_named B f) (λ e. if_less_z (settled B e -ℤ held_to_take B e.name) (pos e.lo))))
+    (if_some_and _ (field_named B f) (λ e. if_less_z (settled B e -ℤ held_to_take B e.name) (pos e.lo))))
 if_bound Add B f i =
     if_known (if_sounds B) (λ s. if_iff (rises_above_iff B (sounds B s) f)
-        (if_some_and _ (field_named B f) (λ e. if_less_z (pos e.hi) (settled B e +ℤ held_to_add B e.name))))
+    (if_some_and _ (field_named B f) (λ e. if_less_z (pos e.hi) (settled B e +ℤ held_to_add B e.name))))
 
 -- ---- the checks of a command
 
@@ -181,9 +183,13 @@ part_tested A n f q = (
   if_full A 1,
   (
     if_no_order A n,
-    (if_ended A n,
-        (if_order A n (λ o. IsNone (line_on o f)) (λ o. if_is (is_some (line_on o f)) false),
-            (if_line A n f (λ l. l.held < l.used + q) (λ l. if_less l.held (l.used + q)), tt))),
+    (
+      if_ended A n,
+      (
+        if_order A n (λ o. IsNone (line_on o f)) (λ o. if_is (is_some (line_on o f)) false),
+        (if_line A n f (λ l. l.held < l.used + q) (λ l. if_less l.held (l.used + q)), tt),
+      ),
+    ),
   ),
 )
 
@@ -204,8 +210,10 @@ abbrev pub order_tested : (A : Ledger) (n until : ℕ) (order : List OpenLine �
     → AllTested (order_checks A n until ++ line_checks A order [] ls)
 order_tested A n until order ls = (
   if_full A 2,
-  (if_upto MAX_ORDERS (length A.orders),
-      (if_is (is_some (order_numbered A n)) true, (if_upto until A.clock, lines_tested A order [] ls))),
+  (
+    if_upto MAX_ORDERS (length A.orders),
+    (if_is (is_some (order_numbered A n)) true, (if_upto until A.clock, lines_tested A order [] ls)),
+  ),
 )
 
 -- the checks of a raise
@@ -243,8 +251,10 @@ tested A (command.Field b a lo hi start) = (
   if_full A 1,
   (
     if_upto MAX_FIELDS (length A.fields),
-    (if_is (is_some (field_named A (record { branch = b; article = a }))) true,
-        (if_not (if_both (if_upto lo start) (if_upto start hi)), tt)),
+    (
+      if_is (is_some (field_named A (record { branch = b; article = a }))) true,
+      (if_not (if_both (if_upto lo start) (if_upto start hi)), tt),
+    ),
   ),
 )
 tested A (command.Deliver b a q) = let f : Name = record { branch = b; article = a } in

@@ -1,12 +1,12 @@
 -- Where all orders of a deal are open and each desk has places, it goes through.
-use Rattle.ledger.proofs.Prelude.{[], ◌++◌, ◌+◌, ◌∙◌, ◌∷◌, ◌≡◌, Bool, Done, Each, IsDistinct, IsNone, IsSomeAnd, Ledger,
-    List, Order, Reply, Some, accept, bytes_decides, bytes_eq, false, true, is_open, kept_under, map, order_numbered,
-    places, refl, subst, sym, true≢false, ℕ, inl}
+use Rattle.ledger.proofs.Prelude.{[], ◌++◌, ◌+◌, ◌∙◌, ◌∷◌, ◌≡◌, Bool, Done, Each, IsDistinct, IsNone, IsSomeAnd, Ledger}
+use Rattle.ledger.proofs.Prelude.{List, Order, Reply, Some, accept, bytes_decides, bytes_eq, false, true, is_open}
+use Rattle.ledger.proofs.Prelude.{kept_under, map, order_numbered, places, refl, subst, sym, true≢false, ℕ, inl}
 use Rattle.words.specs.declared.command.Command.TheVariants as command
 use Rattle.ledger.proofs.Runs.{accepted_answered}
 use Rattle.ledger.proofs.Sums.{each-both, each-imp}
-use Rattle.laws.specs.Deals.{AllUsed, AtFirst, AtOther, Course, Deal, GoesThrough, HasCommitted, HasUsed, IsAnswered,
-    IsCommitted, IsFree, IsOver, IsReady, Side, Turn, first_guards}
+use Rattle.laws.specs.Deals.{AllUsed, AtFirst, AtOther, Course, Deal, GoesThrough, HasCommitted, HasUsed, IsAnswered}
+use Rattle.laws.specs.Deals.{IsCommitted, IsFree, IsOver, IsReady, Side, Turn, first_guards}
 use Rattle.laws.proofs.AllOrNothing.{changed, commit_passes, under}
 use Rattle.laws.proofs.Ends.{IsAtOther, after_first, all_moved, beside_one, over_if, with_others}
 use Rattle.laws.proofs.Together.{Stands, stands_along}

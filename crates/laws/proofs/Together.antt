@@ -1,11 +1,11 @@
 -- What holds between the first order of a deal and the others, along a course.
-use Rattle.ledger.proofs.Prelude.{[], ◌<◌, ◌∷◌, ◌≡◌, ◌≤◌, Each, IfSome, IsNone, IsSome, IsSomeAnd, List, None, OpenLine,
-    Option, Order, Reply, Request, arith, inl, inr, order_numbered, subst, sym, ℕ}
+use Rattle.ledger.proofs.Prelude.{[], ◌<◌, ◌∷◌, ◌≡◌, ◌≤◌, Each, IfSome, IsNone, IsSome, IsSomeAnd, List, None, OpenLine}
+use Rattle.ledger.proofs.Prelude.{Option, Order, Reply, Request, arith, inl, inr, order_numbered, subst, sym, ℕ}
 use Rattle.std.specs.List.{AllZip}
 use Rattle.ledger.proofs.Lists.{each-all}
 use Rattle.ledger.proofs.Sums.{each-both, each-imp}
-use Rattle.laws.specs.Deals.{AtFirst, AtOther, Course, Deal, Guards, HasAborted, HasCommitted, HasUsed, IsAnswered,
-    IsNew, IsThere, Keeps, OneGoes, Side, Turn, first_guards, other_guards}
+use Rattle.laws.specs.Deals.{AtFirst, AtOther, Course, Deal, Guards, HasAborted, HasCommitted, HasUsed, IsAnswered}
+use Rattle.laws.specs.Deals.{IsNew, IsThere, Keeps, OneGoes, Side, Turn, first_guards, other_guards}
 use Rattle.laws.proofs.OneOrder.{AsOpened, Steps, answer_steps}
 use Rattle.laws.proofs.Zips.{all_in_turn, all_same, each_one, one_relates}
 

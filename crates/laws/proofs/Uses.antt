@@ -1,9 +1,10 @@
 -- An open order of which nothing is used uses all, line by line, where there is room for it.
-use Rattle.ledger.proofs.Prelude.{Answers, Bool, Done, Each, FirstFailure, IfSome, IsDistinct, IsNone, IsSomeAnd,
-    IsTrue, Kept, Ledger, List, Name, None, Option, Order, Request, Some, [], accept, ap, arith, bytes_eq, change_lines,
-    checks, false, find, if◌then◌else◌, inr, is_lt, is_open, is_transfer, kept_under, length, line_name, line_on, map,
-    nat_cmp, new_key, numbered, on, open_orders, order_numbered, places, raise_used, refl, same_name, slice_cmp, subst,
-    sym, true, true≢false, ℕ, ◌++◌, ◌+◌, ◌<◌, ◌||◌, ◌∙◌, ◌∷◌, ◌≡◌, ◌≤◌}
+use Rattle.ledger.proofs.Prelude.{Answers, Bool, Done, Each, FirstFailure, IfSome, IsDistinct, IsNone, IsSomeAnd}
+use Rattle.ledger.proofs.Prelude.{IsTrue, Kept, Ledger, List, Name, None, Option, Order, Request, Some, [], accept, ap}
+use Rattle.ledger.proofs.Prelude.{arith, bytes_eq, change_lines, checks, false, find, if◌then◌else◌, inr, is_lt}
+use Rattle.ledger.proofs.Prelude.{is_open, is_transfer, kept_under, length, line_name, line_on, map, nat_cmp, new_key}
+use Rattle.ledger.proofs.Prelude.{numbered, on, open_orders, order_numbered, places, raise_used, refl, same_name}
+use Rattle.ledger.proofs.Prelude.{slice_cmp, subst, sym, true, true≢false, ℕ, ◌++◌, ◌+◌, ◌<◌, ◌||◌, ◌∙◌, ◌∷◌, ◌≡◌, ◌≤◌}
 use Rattle.words.specs.declared.command.Command.TheVariants as command
 use Rattle.ledger.specs.declared.limits.TheConstants.{MAX_PLACES}
 use Rattle.ledger.specs.declared.order.Line.{Line}

@@ -1,8 +1,8 @@
 -- A deal between desks: under one number there is an order at each. Together the orders move all that they hold or
 -- nothing, whatever stops where. The first desk's commit decides. Each command of the deal rests on a fact which, by
 -- a law, stays once it is so. So the command may come late, twice, or from two that carry the deal on at once.
-use Rattle.std.specs.Prelude.{ℕ, ◌+◌, ◌<◌, ◌≤◌, ◌≡◌, ℤ, pos, ◌+ℤ◌, List, [], ◌∷◌, length, ◌⊎◌, IsSome, IsNone, IsTrue,
-    IsFalse, if◌then◌else◌}
+use Rattle.std.specs.Prelude.{ℕ, ◌+◌, ◌<◌, ◌≤◌, ◌≡◌, ℤ, pos, ◌+ℤ◌, List, [], ◌∷◌, length, ◌⊎◌, IsSome, IsNone, IsTrue}
+use Rattle.std.specs.Prelude.{IsFalse, if◌then◌else◌}
 use Rattle.std.specs.Str.{bytes_eq}
 use Rattle.std.specs.List.{AllByRecursion as Each}
 use Rattle.std.specs.Option.{option_map_or}
@@ -17,8 +17,8 @@ use Rattle.words.specs.declared.reply.Reply.{Reply}
 use Rattle.words.specs.declared.reply.Reply.TheVariants.{Done}
 use Rattle.ledger.specs.declared.limits.TheConstants.{MAX_PLACES}
 use Rattle.ledger.specs.Good.{Good}
-use Rattle.ledger.specs.Ledger.{Field as FieldOf, Ledger, Name, Order, is_open, is_settled, kept_under, name_of,
-    open_orders, order_numbered, places, same_name}
+use Rattle.ledger.specs.Ledger.{Field as FieldOf, Ledger, Name, Order, is_open, is_settled, kept_under, name_of}
+use Rattle.ledger.specs.Ledger.{open_orders, order_numbered, places, same_name}
 use Rattle.ledger.specs.Outcomes.{part_of, settled, settled_part, share_of, signed, total}
 use Rattle.ledger.specs.Answers.{Answers, OfOrder}
 

@@ -7,12 +7,13 @@ use Rattle.escrow.specs.declared.quantity.Way.{Way}
 use Rattle.escrow.specs.declared.quantity.Way.TheVariants.{Take, Add}
 use Rattle.words.specs.declared.open_line.OpenLine.{OpenLine}
 use Rattle.words.specs.declared.command.Command.{Command}
-use Rattle.words.specs.declared.command.Command.TheVariants.{Abort, Commit, Deliver, Expire, Field, Firm, More, Open,
-    Rebound, Release, Transfer, Use}
+use Rattle.words.specs.declared.command.Command.TheVariants.{Abort, Commit, Deliver, Expire, Field, Firm, More, Open}
+use Rattle.words.specs.declared.command.Command.TheVariants.{Rebound, Release, Transfer, Use}
 use Rattle.words.specs.declared.command.Request.{Request}
 use Rattle.words.specs.declared.reply.Refusal.TheVariants as refusal
-use Rattle.words.specs.declared.reply.Refusal.TheVariants.{KeyReused, NoOrder, NoField, BadBounds, Ended, Past,
-    SameField, OtherWay, TooLittle, TooMuch, NotHeld, OverUse, TransferFixed, ClockBack}
+use Rattle.words.specs.declared.reply.Refusal.TheVariants.{KeyReused, NoOrder, NoField, BadBounds, Ended, Past}
+use Rattle.words.specs.declared.reply.Refusal.TheVariants.{SameField, OtherWay, TooLittle, TooMuch, NotHeld, OverUse}
+use Rattle.words.specs.declared.reply.Refusal.TheVariants.{TransferFixed, ClockBack}
 use Rattle.words.specs.declared.reply.Reply.{Reply}
 use Rattle.words.specs.declared.reply.Reply.TheVariants.{Done, Refused}
 use Rattle.ledger.specs.Ledger.{Ledger, field_named, name_of}

@@ -3,14 +3,14 @@ use Rattle.std.specs.Prelude.{ℕ, ◌+◌, Bool, false, ◌&&◌, ◌||◌, Lis
 use Rattle.std.specs.List.{filter, list_any}
 use Rattle.std.specs.Option.{option_map_or}
 use Rattle.words.specs.declared.command.Command.{Command}
-use Rattle.words.specs.declared.command.Command.TheVariants.{Field, Deliver, Writeoff, Rebound, Open, Transfer, More,
-    Use, Release, Commit, Abort, Firm, Expire}
+use Rattle.words.specs.declared.command.Command.TheVariants.{Field, Deliver, Writeoff, Rebound, Open, Transfer, More}
+use Rattle.words.specs.declared.command.Command.TheVariants.{Use, Release, Commit, Abort, Firm, Expire}
 use Rattle.words.specs.declared.command.Request.{Request}
 use Rattle.ledger.specs.Ledger.{Ledger, Name, Order, is_transfer, name_of, on, order_numbered, places, same_name}
-use Rattle.ledger.specs.Next.{add_hold, change_lines, expires, lower_held, new_key, new_order, raise_used, set_state,
-    transfer_lines}
-use Rattle.ledger.specs.Rows.{Content, FirmCells, LineCells, MoveCells, OrderCells, firm_row, kept_row, move_row,
-    order_lines, order_row}
+use Rattle.ledger.specs.Next.{add_hold, change_lines, expires, lower_held, new_key, new_order, raise_used, set_state}
+use Rattle.ledger.specs.Next.{transfer_lines}
+use Rattle.ledger.specs.Rows.{Content, FirmCells, LineCells, MoveCells, OrderCells, firm_row, kept_row, move_row}
+use Rattle.ledger.specs.Rows.{order_lines, order_row}
 use Rattle.ledger.specs.declared.order.Kind.TheVariants as kind
 use Rattle.ledger.specs.declared.order.State.TheVariants.{Aborted, Committed}
 

@@ -1,22 +1,24 @@
 -- A command that asks for stock: so much more is held or moved on one field. Where the check of the bound passes, each
 -- field keeps its room; and the check, over all outcomes, is one comparison with the ledger before.
-use Rattle.ledger.proofs.Prelude.{Add, Bool, BreaksBound, Changes, Each, Field, Good, IsDistinct, IsNone, IsSomeAnd,
-    IsStrictlySortedBy, Kind, Ledger, Line, List, MatchOption, MayHoldMore, Move, Name, None, Open, OpenLine, Option,
-    Order, Part, Share, Some, State, Take, Way, [], add_hold, ap, append-nil, append_assoc, arith, bound, by_lt_z,
-    common_steps, false, field_named, find, held_to_add, held_to_take, hold_more, if_add, if_take, if◌then◌else◌, ints,
-    is_open, is_some, length, line_checks, line_name, line_on, map, nat_cmp, nat_lt, new_line, new_order, next,
-    numbered, on, open_state, order_numbered, orders_after, part_of, pos, raise_held, refl, same_name, settled,
-    share_of, signed, subst, sym, total, true, true≢false, with_order, ℕ, ℤ, ◌++◌, ◌+ℤ◌, ◌+◌, ◌-ℤ◌, ◌<ℤ◌, ◌↔◌, ◌∙◌, ◌∷◌,
-    ◌≡◌, ◌≤ℤ◌, ◌≤◌}
+use Rattle.ledger.proofs.Prelude.{Add, Bool, BreaksBound, Changes, Each, Field, Good, IsDistinct, IsNone, IsSomeAnd}
+use Rattle.ledger.proofs.Prelude.{IsStrictlySortedBy, Kind, Ledger, Line, List, MatchOption, MayHoldMore, Move, Name}
+use Rattle.ledger.proofs.Prelude.{None, Open, OpenLine, Option, Order, Part, Share, Some, State, Take, Way, []}
+use Rattle.ledger.proofs.Prelude.{add_hold, ap, append-nil, append_assoc, arith, bound, by_lt_z, common_steps, false}
+use Rattle.ledger.proofs.Prelude.{field_named, find, held_to_add, held_to_take, hold_more, if_add, if_take}
+use Rattle.ledger.proofs.Prelude.{if◌then◌else◌, ints, is_open, is_some, length, line_checks, line_name, line_on, map}
+use Rattle.ledger.proofs.Prelude.{nat_cmp, nat_lt, new_line, new_order, next, numbered, on, open_state, order_numbered}
+use Rattle.ledger.proofs.Prelude.{orders_after, part_of, pos, raise_held, refl, same_name, settled, share_of, signed}
+use Rattle.ledger.proofs.Prelude.{subst, sym, total, true, true≢false, with_order, ℕ, ℤ, ◌++◌, ◌+ℤ◌, ◌+◌, ◌-ℤ◌, ◌<ℤ◌}
+use Rattle.ledger.proofs.Prelude.{◌↔◌, ◌∙◌, ◌∷◌, ◌≡◌, ◌≤ℤ◌, ◌≤◌}
 use Rattle.ledger.proofs.Bounds.{HasRoom, Sound, falls_below_iff, none-total, rises_above_iff}
 use Rattle.ledger.proofs.Falls.{sounds_from_good}
-use Rattle.ledger.proofs.FieldNames.{InOrder, OneOn, line_field, name_is, named, none_bad, one_on, one_on-map,
-    one_on-push, other_way, same_self}
+use Rattle.ledger.proofs.FieldNames.{InOrder, OneOn, line_field, name_is, named, none_bad, one_on, one_on-map}
+use Rattle.ledger.proofs.FieldNames.{one_on-push, other_way, same_self}
 use Rattle.ledger.proofs.Lists.{NumbersInOrder, found_both}
 use Rattle.ledger.proofs.Passing.{AllPass, none_if_not_some}
 use Rattle.ledger.proofs.Steps.{IsPart, add_counts, no_settled, one_changes, settled_counts, take_counts}
-use Rattle.ledger.proofs.Sums.{change_order, each, each-both, each-imp, each-insert, each-map, each-of-push, none_found,
-    total-eq, total-insert, total-push, with_move}
+use Rattle.ledger.proofs.Sums.{change_order, each, each-both, each-imp, each-insert, each-map, each-of-push, none_found}
+use Rattle.ledger.proofs.Sums.{total-eq, total-insert, total-push, with_move}
 
 -- ---- one field, that way
 
@@ -211,7 +213,7 @@ pub fresh-push : (ls : List OpenLine) (l : OpenLine) → ((g : Name) → OneOn g
     → find (on (line_field l)) (map new_line ls) ≡ None → (g : Name) → OneOn g (map new_line (ls ++ l ∷ []))
 fresh-push ls l one none g =
     rw (map-push ls l)
-        (one_on-push g (map new_line ls) (new_line l) (one g) (none_found (on (line_field l)) (map new_line ls) none))
+    (one_on-push g (map new_line ls) (new_line l) (one g) (none_found (on (line_field l)) (map new_line ls) none))
 
 pub fresh-sound : (n : ℕ) (k : Kind) (u : ℕ) (ls : List OpenLine) → ((g : Name) → OneOn g (map new_line ls))
     → Sound (new_order n k u ls)

@@ -1,9 +1,10 @@
 -- The least and the greatest result over all outcomes, by what is held.
-use Rattle.ledger.proofs.Prelude.{Add, Bool, Each, FallsBelow, Field, IsInfimum, IsSafe, IsSomeAnd, IsSupremum, IsTrue,
-    IsWithin, Ledger, Line, List, Name, None, Option, Order, Part, RisesAbove, Some, Take, Way, [], ap, arith,
-    common_steps, false, field_named, held_to_add, held_to_take, if_add, if_take, if◌then◌else◌, ints, is_open,
-    list_any, neg_ℤ, on, part_of, pos, refl, settled, signed, subst, sym, total, true, true≢false, unsettled, ℕ, ℤ,
-    ◌&&◌, ◌+ℤ◌, ◌-ℤ◌, ◌-◌, ◌<ℤ◌, ◌||◌, ◌↔◌, ◌∙◌, ◌∷◌, ◌≡◌, ◌≤ℤ◌, ◌≤◌}
+use Rattle.ledger.proofs.Prelude.{Add, Bool, Each, FallsBelow, Field, IsInfimum, IsSafe, IsSomeAnd, IsSupremum, IsTrue}
+use Rattle.ledger.proofs.Prelude.{IsWithin, Ledger, Line, List, Name, None, Option, Order, Part, RisesAbove, Some, Take}
+use Rattle.ledger.proofs.Prelude.{Way, [], ap, arith, common_steps, false, field_named, held_to_add, held_to_take}
+use Rattle.ledger.proofs.Prelude.{if_add, if_take, if◌then◌else◌, ints, is_open, list_any, neg_ℤ, on, part_of, pos}
+use Rattle.ledger.proofs.Prelude.{refl, settled, signed, subst, sym, total, true, true≢false, unsettled, ℕ, ℤ, ◌&&◌}
+use Rattle.ledger.proofs.Prelude.{◌+ℤ◌, ◌-ℤ◌, ◌-◌, ◌<ℤ◌, ◌||◌, ◌↔◌, ◌∙◌, ◌∷◌, ◌≡◌, ◌≤ℤ◌, ◌≤◌}
 use Rattle.ledger.specs.Outcomes.{IsOutcome, Outcome, commits_in, outcome_result}
 use Rattle.ledger.proofs.Sums.{each, each-imp, total-not_negative, total-zero}
 use Rattle.ledger.proofs.FieldNames.{OneOn}
@@ -221,7 +222,7 @@ inf_is A h f = record { reached = (extreme Take f.name, extreme-outcome Take f.n
 pub sup_is : (A : Ledger) → Each Sound A.orders → (f : Field) → IsSupremum A f (settled A f +ℤ held_to_add A f.name)
 sup_is A h f = record {
   reached = (extreme Add f.name, extreme-outcome Add f.name A h, extreme-result Add f A h);
-  greatest = greatest A f
+  greatest = greatest A f;
 }
 
 -- an infimum is unique

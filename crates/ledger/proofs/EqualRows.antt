@@ -1,10 +1,12 @@
 -- The rows of a good ledger: one content, in the order of their keys, and equal rows of equal ledgers.
-use Rattle.ledger.proofs.Prelude.{AllZip, AreOthers, Bool, Content, Each, Field, FieldCells, FirmCells, Good,
-    IsFieldRow, IsGoodKept, IsRowsOf, IsStrictlySortedBy, Kept, Kind, Ledger, Less, Line, LineCells, List, Move, Order,
-    Ordering, State, TellsField, [], ap, arith, common_steps, desk_row, field_cmp, field_row, firm_cmp, firm_row,
-    firm_rows, flat_map, if◌then◌else◌, int_cmp_total, ints, kept_cmp, kept_row, line_cmp, line_row, lines_from, map,
-    move_cmp, move_row, name_cmp, nat_cmp, order_cmp, order_lines, order_row, pos, refl, spelling_one, subst, sym,
-    tied_itself, ℕ, ◌++◌, ◌+◌, ◌<◌, ◌∙◌, ◌∷◌, ◌≡◌}
+use Rattle.ledger.proofs.Prelude.{AllZip, AreOthers, Bool, Content, Each, Field, FieldCells, FirmCells, Good}
+use Rattle.ledger.proofs.Prelude.{IsFieldRow, IsGoodKept, IsRowsOf, IsStrictlySortedBy, Kept, Kind, Ledger, Less, Line}
+use Rattle.ledger.proofs.Prelude.{LineCells, List, Move, Order, Ordering, State, TellsField, [], ap, arith}
+use Rattle.ledger.proofs.Prelude.{common_steps, desk_row, field_cmp, field_row, firm_cmp, firm_row, firm_rows, flat_map}
+use Rattle.ledger.proofs.Prelude.{if◌then◌else◌, int_cmp_total, ints, kept_cmp, kept_row, line_cmp, line_row}
+use Rattle.ledger.proofs.Prelude.{lines_from, map, move_cmp, move_row, name_cmp, nat_cmp, order_cmp, order_lines}
+use Rattle.ledger.proofs.Prelude.{order_row, pos, refl, spelling_one, subst, sym, tied_itself, ℕ, ◌++◌, ◌+◌, ◌<◌, ◌∙◌}
+use Rattle.ledger.proofs.Prelude.{◌∷◌, ◌≡◌}
 use Rattle.ledger.specs.inner.ToldLedgers.{TellsLedger}
 use Rattle.ledger.specs.Rows.{IsInKeyOrder, kind_code, state_code}
 use Rattle.ledger.proofs.Sums.{each-imp, each-map, less_is}
@@ -30,8 +32,14 @@ map_tells P f one [] [] h k e = refl
 map_tells P f one [] (y ∷ ys) h k e = absurd (cc)
 map_tells P f one (x ∷ xs) [] h k e = absurd (cc)
 map_tells P f one (x ∷ xs) (y ∷ ys) h k e =
-    grind (arith, ints, common_steps, (map_tells P f one xs ys h.1 k.1 (same_rest (f x) (f y) (map f xs) (map f ys) e)),
-        same_first, same_rest)
+    grind (
+      arith,
+      ints,
+      common_steps,
+      (map_tells P f one xs ys h.1 k.1 (same_rest (f x) (f y) (map f xs) (map f ys) e)),
+      same_first,
+      same_rest,
+    )
 
 -- fields
 
@@ -52,9 +60,10 @@ fields_tell : (A : Ledger) (fs : List Field) (rows : List FieldCells) → AllZip
 fields_tell A [] [] h = tt
 fields_tell A [] (r ∷ rows) h = absurd h
 fields_tell A (f ∷ fs) [] h = absurd h
-fields_tell A (f ∷ fs) (r ∷ rows) h =
-    (record { branch = h.0.branch; article = h.0.article; lo = h.0.lo; hi = h.0.hi; start = h.0.start },
-        fields_tell A fs rows h.1)
+fields_tell A (f ∷ fs) (r ∷ rows) h = (
+  record { branch = h.0.branch; article = h.0.article; lo = h.0.lo; hi = h.0.hi; start = h.0.start },
+  fields_tell A fs rows h.1,
+)
 
 -- moves
 
@@ -138,14 +147,17 @@ same_orders (o ∷ os) (p ∷ ps) h k e d m =
     (subst (λ n. MarkOthers n (flat_map firm_rows ps)) (sym n) (marks_after p ps (after p ps k.0)))
     (m ∙ ap (λ n. (if p.firm then firm_row n ∷ [] else []) ++ flat_map firm_rows ps) (sym n)) in
     let more =
-        same_orders os ps h.1 k.1 (same_rest (order_row o) (order_row p) (map order_row os) (map order_row ps) e) ls.1
-            marked.1 in
+    same_orders os ps h.1 k.1 (same_rest (order_row o) (order_row p) (map order_row os) (map order_row ps) e) ls.1
+    marked.1 in
     λ i. record { number = n i; kind = ki i; until = u i; state = s i; firm = marked.0 i; lines = ls.0 i } ∷ more i
 
 same_kept : (k j : Kept) → IsGoodKept k → IsGoodKept j → kept_row k ≡ kept_row j → k ≡ j
 same_kept k j g h e =
-    grind (arith, (same_pos k.place j.place (ap (λ r. r.place) e)),
-        (spelling_one k.command j.command g.command h.command (ap (λ r. r.words) e)))
+    grind (
+      arith,
+      (same_pos k.place j.place (ap (λ r. r.place) e)),
+      (spelling_one k.command j.command g.command h.command (ap (λ r. r.words) e)),
+    )
 
 any : {X : Type 0} (xs : List X) → Each (λ x. Unit {0}) xs
 any [] = tt
@@ -179,8 +191,8 @@ told_once A B C g h r s =
     let t = same_pos A.clock B.clock (ap (λ d. d.clock) (same_first (desk_row A) (desk_row B) [] [] (sym r.desk ∙ s.desk))) in
     let f = same_fields A.fields B.fields C.fields r.fields s.fields in
     let m =
-        map_tells (λ _. Unit {0}) move_row (λ a b _ _ e. same_move a b e) A.moves B.moves (any A.moves) (any B.moves)
-            (sym r.moves ∙ s.moves) in
+    map_tells (λ _. Unit {0}) move_row (λ a b _ _ e. same_move a b e) A.moves B.moves (any A.moves) (any B.moves)
+    (sym r.moves ∙ s.moves) in
     let o = same_orders A.orders B.orders g.orders_in_order (subst (IsStrictlySortedBy nat_cmp)
     (same_numbers A.orders B.orders rows) g.orders_in_order) rows (sym r.lines ∙ s.lines) (sym r.firms ∙ s.firms) in
     let k = map_tells IsGoodKept kept_row same_kept A.kept B.kept g.kept h (sym r.kept ∙ s.kept) in
@@ -248,7 +260,7 @@ later_orders : (n nr : ℕ) (l : Line) (os : List Order) → Each (λ o. n < o.n
 later_orders n nr l [] h = tt
 later_orders n nr l (o ∷ os) h =
     each-join _ (order_lines o) (flat_map order_lines os) (lines_of_later n nr o.number 1 l o.lines h.0)
-        (later_orders n nr l os h.1)
+    (later_orders n nr l os h.1)
 
 lines_sorted_from : (n nr : ℕ) (ls : List Line) (os : List Order) → Each (λ o. n < o.number) os
     → IsStrictlySortedBy line_cmp (flat_map order_lines os)
@@ -337,7 +349,7 @@ rows_are A g = record {
   orders = refl;
   lines = refl;
   kept = refl;
-  firms = refl
+  firms = refl;
 }
 
 pub a_content : (A : Ledger) → Good A → (C : Content) × IsRowsOf A C

@@ -1,19 +1,23 @@
 -- A command that asks for no stock: what its lines count for only falls, so that each field keeps its room.
-use Rattle.ledger.proofs.Prelude.{Aborted, Accepts, Add, AsksNoStock, Bool, Changes, Command, Committed, Each, Effect,
-    Field, FirstFailure, Good, IsGoodOrder, IsSome, IsSomeAnd, IsTransferPair, IsTrue, Ledger, Line, List, MatchOption,
-    Name, None, Nothing, Open, Opens, Option, Order, Request, Share, ShareStep, Some, State, Step, Take, Way, [],
-    accept, add_part, added_on, ap, arith, change_lines, checks, common_steps, effect, expires, false, field_named,
-    find, if◌then◌else◌, insert_in_order, ints, is_open, is_transfer, line_name, lower_held, map, moved_by_command,
-    name_of, nat_lt, next, numbered, on, open_state, order_numbered, orders_after, pos, raise_used, refl, same_name,
-    set_firm, set_state, settled_part, share_of, share_steps, shares_of_step, steps, steps_of, subst, sym, take_part,
-    true, true≢false, ℕ, ℤ, ◌+ℤ◌, ◌+◌, ◌-ℤ◌, ◌-◌, ◌||◌, ◌∙◌, ◌∷◌, ◌≡◌, ◌≤ℤ◌, ◌≤◌}
+use Rattle.ledger.proofs.Prelude.{Aborted, Accepts, Add, AsksNoStock, Bool, Changes, Command, Committed, Each, Effect}
+use Rattle.ledger.proofs.Prelude.{Field, FirstFailure, Good, IsGoodOrder, IsSome, IsSomeAnd, IsTransferPair, IsTrue}
+use Rattle.ledger.proofs.Prelude.{Ledger, Line, List, MatchOption, Name, None, Nothing, Open, Opens, Option, Order}
+use Rattle.ledger.proofs.Prelude.{Request, Share, ShareStep, Some, State, Step, Take, Way, [], accept, add_part}
+use Rattle.ledger.proofs.Prelude.{added_on, ap, arith, change_lines, checks, common_steps, effect, expires, false}
+use Rattle.ledger.proofs.Prelude.{field_named, find, if◌then◌else◌, insert_in_order, ints, is_open, is_transfer}
+use Rattle.ledger.proofs.Prelude.{line_name, lower_held, map, moved_by_command, name_of, nat_lt, next, numbered, on}
+use Rattle.ledger.proofs.Prelude.{open_state, order_numbered, orders_after, pos, raise_used, refl, same_name, set_firm}
+use Rattle.ledger.proofs.Prelude.{set_state, settled_part, share_of, share_steps, shares_of_step, steps, steps_of}
+use Rattle.ledger.proofs.Prelude.{subst, sym, take_part, true, true≢false, ℕ, ℤ, ◌+ℤ◌, ◌+◌, ◌-ℤ◌, ◌-◌, ◌||◌, ◌∙◌, ◌∷◌}
+use Rattle.ledger.proofs.Prelude.{◌≡◌, ◌≤ℤ◌, ◌≤◌}
 use Rattle.ledger.specs.Next.{fields_after}
 use Rattle.ledger.proofs.Bounds.{HasRoom, Sound, room_from_safe}
 use Rattle.ledger.proofs.FieldNames.{at_line, one_on, one_on-map}
 use Rattle.ledger.proofs.Lists.{NumbersInOrder, at_number}
 use Rattle.ledger.proofs.Passing.{AllPass, Usable, all_pass, loose_there, open_there, usable_there}
-use Rattle.ledger.proofs.Steps.{Goes, StepGoes, adds_next, after_turns, changes_each, commits, effect_goes, expired,
-    firm_goes, lines_go, numbers_after, shares_from, state_goes, step_if, takes_next, turns, value_next}
+use Rattle.ledger.proofs.Steps.{Goes, StepGoes, adds_next, after_turns, changes_each, commits, effect_goes, expired}
+use Rattle.ledger.proofs.Steps.{firm_goes, lines_go, numbers_after, shares_from, state_goes, step_if, takes_next, turns}
+use Rattle.ledger.proofs.Steps.{value_next}
 use Rattle.ledger.proofs.Sums.{each, each-both, each-flat, each-imp, each-insert, each-map}
 use Rattle.words.specs.declared.command.Command.TheVariants as command
 
@@ -136,7 +140,7 @@ use_closes : (q : ℕ) → Closes q (raise_used q)
 use_closes q = record {
   same = λ l. (refl, refl);
   falls = λ l h. (omega arith, omega arith, h);
-  pair = λ l m a b. (a, ap (λ n. n + q) b)
+  pair = λ l m a b. (a, ap (λ n. n + q) b);
 }
 
 release_closes : (q : ℕ) → Closes q (lower_held q)
@@ -257,9 +261,11 @@ step_shares s falls = by s.before falls
     go b falls nr [] [] lines = tt
     go b falls nr [] (l ∷ ls) lines = absurd lines
     go b falls nr (m ∷ ms) [] lines = absurd lines
-    go b falls nr (m ∷ ms) (l ∷ ls) lines =
-        (share_falls b.state s.after.state b.firm s.after.firm m l falls.goes.unended falls.goes.firm falls.goes.loose
-            lines.0, go b falls (nr + 1) ms ls lines.1)
+    go b falls nr (m ∷ ms) (l ∷ ls) lines = (
+      share_falls b.state s.after.state b.firm s.after.firm m l falls.goes.unended falls.goes.firm falls.goes.loose
+          lines.0,
+      go b falls (nr + 1) ms ls lines.1,
+    )
 
     by : (b : Option Order) → MatchOption b ⊥ (λ b. OrderFalls b s.after)
         → Each Falls (shares_of_step (record { before = b; after = s.after }))
@@ -290,7 +296,7 @@ share_lowers false w x y falls = record {
   takes_fall = omega (arith, ints);
   adds_fall = omega (arith, ints);
   least = omega (arith, ints);
-  most = omega (arith, ints)
+  most = omega (arith, ints);
 }
 
 pub lowers : (f : Name) (xs : List ShareStep) → Each Falls xs
@@ -300,7 +306,7 @@ lowers f [] falls =
       takes_fall = omega (arith, ints);
       adds_fall = omega (arith, ints);
       least = omega (arith, ints);
-      most = omega (arith, ints)
+      most = omega (arith, ints);
     }
 lowers f (x ∷ xs) falls =
     let one = share_lowers (same_name f x.name) x.way x.before x.after falls.0 in let more = lowers f xs falls.1 in
@@ -308,7 +314,7 @@ lowers f (x ∷ xs) falls =
       takes_fall = omega (arith, ints);
       adds_fall = omega (arith, ints);
       least = omega (arith, ints);
-      most = omega (arith, ints)
+      most = omega (arith, ints);
     }
 
 moves_nothing : (f : Name) (c : Command) → AsksNoStock c → moved_by_command f c ≡ pos 0

@@ -1,9 +1,9 @@
 -- Names of fields: which are equal, and the one line or field under a name.
 use Rattle.ledger.proofs.Lists.{AtMostOne, at_one, each-unmap}
-use Rattle.ledger.proofs.Prelude.{Bool, Each, Equal, Field, IsDistinct, IsSomeAnd, IsStrictlySortedBy, Ledger, Less,
-    Line, List, Name, OpenLine, Some, [], arith, bytes_decides, common_steps, false, find, if◌then◌else◌, ints,
-    line_name, map, name_cmp, nat_cmp, new_line, on, refl, same_name, slice_cmp, subst, sym, true, true≢false, ℕ, ◌&&◌,
-    ◌++◌, ◌∙◌, ◌∷◌, ◌≡◌}
+use Rattle.ledger.proofs.Prelude.{Bool, Each, Equal, Field, IsDistinct, IsSomeAnd, IsStrictlySortedBy, Ledger, Less}
+use Rattle.ledger.proofs.Prelude.{Line, List, Name, OpenLine, Some, [], arith, bytes_decides, common_steps, false, find}
+use Rattle.ledger.proofs.Prelude.{if◌then◌else◌, ints, line_name, map, name_cmp, nat_cmp, new_line, on, refl, same_name}
+use Rattle.ledger.proofs.Prelude.{slice_cmp, subst, sym, true, true≢false, ℕ, ◌&&◌, ◌++◌, ◌∙◌, ◌∷◌, ◌≡◌}
 use Rattle.ledger.proofs.Sums.{each-imp, each-of-push}
 
 pub same_parts : (a b : Bool) → (a && b) ≡ true → (a ≡ true) × (b ≡ true)
@@ -95,9 +95,10 @@ at_line P f ls one h = at_one (on f) P ls one (λ l e. subst (λ x. IsSomeAnd x 
 pub one_on-push : (g : Name) (ls : List Line) (l : Line) → OneOn g ls → Each (λ m. on (line_name l) m ≡ false) ls
     → OneOn g (ls ++ l ∷ [])
 one_on-push g [] l one h = ((λ _. tt), tt)
-one_on-push g (m ∷ ms) l one h =
-    ((λ e. each-of-push (λ k. on g k ≡ false) ms l (one.0 e) (apart (same_name g (line_name l)) refl e)),
-        one_on-push g ms l one.1 h.1)
+one_on-push g (m ∷ ms) l one h = (
+  (λ e. each-of-push (λ k. on g k ≡ false) ms l (one.0 e) (apart (same_name g (line_name l)) refl e)),
+  one_on-push g ms l one.1 h.1,
+)
   where
     apart : (b : Bool) → same_name g (line_name l) ≡ b → on g m ≡ true → on g l ≡ false
     apart false d e = d

@@ -1,7 +1,8 @@
 -- From a good ledger every future keeps the bounds and the commits.
-use Rattle.ledger.proofs.Prelude.{Answers, AnswersNew, AsksNoStock, Done, Each, Field, Good, IsHonoured, IsNone, IsTrue,
-    IsWithin, Kept, KeyReused, Ledger, List, MatchOption, Option, Order, Refused, Reply, Request, Some, accept, arith,
-    if◌then◌else◌, ints, is_open, kept_under, order_numbered, places, same_command, settled, ℕ, ◌+◌, ◌≡◌}
+use Rattle.ledger.proofs.Prelude.{Answers, AnswersNew, AsksNoStock, Done, Each, Field, Good, IsHonoured, IsNone, IsTrue}
+use Rattle.ledger.proofs.Prelude.{IsWithin, Kept, KeyReused, Ledger, List, MatchOption, Option, Order, Refused, Reply}
+use Rattle.ledger.proofs.Prelude.{Request, Some, accept, arith, if◌then◌else◌, ints, is_open, kept_under}
+use Rattle.ledger.proofs.Prelude.{order_numbered, places, same_command, settled, ℕ, ◌+◌, ◌≡◌}
 use Rattle.words.specs.declared.command.Command.TheVariants as command
 use Rattle.ledger.specs.Future.{HonoursAlways}
 use Rattle.ledger.proofs.Sums.{each-imp}

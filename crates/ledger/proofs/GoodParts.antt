@@ -1,10 +1,12 @@
 -- All that makes a ledger good but its kept keys and its safety, and where it stays though orders change.
-use Rattle.ledger.proofs.Prelude.{Bool, Changes, Each, Effect, Equal, Good, IsDistinct, IsGoodField, IsGoodLine,
-    IsGoodMove, IsGoodOrder, IsMoment, IsSome, IsStrictlySortedBy, IsTotalOrder, Kept, Ledger, Line, List, MatchOption,
-    MatchOrdering, Move, Name, None, Option, Order, Ordering, Some, Step, [], ap, arith, bytes_decides, bytes_eq,
-    common_steps, count_by, false, field_named, if◌then◌else◌, ints, is_eq, is_eq-slice_cmp, is_open, length, line_name,
-    map, name_cmp, nat_cmp, nat_list_cmp_total, on_total, open_orders, ordering_then, places, ranks, refl, same_name,
-    slice_cmp, steps, subst, suc, sym, then_total, true, true≢false, ℕ, ◌&&◌, ◌+◌, ◌<◌, ◌∙◌, ◌∷◌, ◌≡◌, ◌≤◌}
+use Rattle.ledger.proofs.Prelude.{Bool, Changes, Each, Effect, Equal, Good, IsDistinct, IsGoodField, IsGoodLine}
+use Rattle.ledger.proofs.Prelude.{IsGoodMove, IsGoodOrder, IsMoment, IsSome, IsStrictlySortedBy, IsTotalOrder, Kept}
+use Rattle.ledger.proofs.Prelude.{Ledger, Line, List, MatchOption, MatchOrdering, Move, Name, None, Option, Order}
+use Rattle.ledger.proofs.Prelude.{Ordering, Some, Step, [], ap, arith, bytes_decides, bytes_eq, common_steps, count_by}
+use Rattle.ledger.proofs.Prelude.{false, field_named, if◌then◌else◌, ints, is_eq, is_eq-slice_cmp, is_open, length}
+use Rattle.ledger.proofs.Prelude.{line_name, map, name_cmp, nat_cmp, nat_list_cmp_total, on_total, open_orders}
+use Rattle.ledger.proofs.Prelude.{ordering_then, places, ranks, refl, same_name, slice_cmp, steps, subst, suc, sym}
+use Rattle.ledger.proofs.Prelude.{then_total, true, true≢false, ℕ, ◌&&◌, ◌+◌, ◌<◌, ◌∙◌, ◌∷◌, ◌≡◌, ◌≤◌}
 use Rattle.escrow.specs.Ranges.{IsOrderNo}
 use Rattle.ledger.proofs.Sums.{each-both, each-imp, each-map}
 use Rattle.ledger.proofs.Lists.{count-map, length-of-map}
@@ -100,8 +102,13 @@ pub changing : (A : Ledger) (names : Order → Bool) (change : Order → Order) 
     → places A + count_by is_open (after_turns names change A.orders) + 1 ≤ 200000
     → Parts (changed (λ o. if names o then change o else o) clock kept A)
 changing A names change clock kept g moment more goes orders room =
-    grind (arith, (numbers_after (Changes names change) A.orders goes g.orders_in_order),
-        (length-of-map (λ o. if names o then change o else o) A.orders), each-imp, move_kept)
+    grind (
+      arith,
+      (numbers_after (Changes names change) A.orders goes g.orders_in_order),
+      (length-of-map (λ o. if names o then change o else o) A.orders),
+      each-imp,
+      move_kept,
+    )
 
 -- ---- commands that ask for no stock
 
@@ -149,7 +156,7 @@ closing A names change clock kept g moment more goes falls room =
     changing A names change clock kept g moment more goes
     (after_each (IsGoodOrder B) e A.orders (each-imp (order_kept A B (λ f y. y)) A.orders g.orders)
     (each-both (λ s h x. step_good A B (λ f y. y) s h x) (steps e A.orders) falls
-        (before_each (IsGoodOrder A) e A.orders g.orders))) room
+    (before_each (IsGoodOrder A) e A.orders g.orders))) room
 
 -- no order is opened
 pub fewer_open : (names : Order → Bool) (change : Order → Order) (os : List Order)

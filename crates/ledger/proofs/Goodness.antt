@@ -1,27 +1,32 @@
 -- From a good ledger every accepted command leaves a good one.
-use Rattle.ledger.proofs.Prelude.{Aborted, Answers, AsksNoStock, Bool, Changes, Command, Committed, Each, Field,
-    FirstFailure, Good, IsGoodField, IsGoodKept, IsGoodLine, IsGoodOrder, IsInRange, IsKey, IsLevel, IsMoment, IsNone,
-    IsOpenLine, IsQty, IsSafe, IsSome, IsSomeAnd, IsStrictlySortedBy, IsTransferPair, IsTrue, Kept, Kind, Ledger, Line,
-    List, MayHoldMore, Name, None, OpenLine, Opens, Order, Part, Plain, Reply, Request, Share, Some, State, Transfer,
-    Way, [], accept, add_hold, add_part, ap, arith, bytes_eq, change_lines, checks, effect, expires, false, field_named,
-    find, full, held_to_add, held_to_take, hold_more, if_add, if_take, if◌then◌else◌, insert_in_order, ints, is_lt,
-    is_open, is_some, is_transfer, kept_under, length, line_checks, line_name, line_on, lower_held, map, name_cmp,
-    name_of, nat_abs, nat_cmp, nat_list_cmp_total, nat_lt, neg_ℤ, new_line, new_order, numbered, on, open_orders,
-    open_state, order_numbered, part_of, places, pos, raise_held, raise_used, recursion_from_All, refl, same_name,
-    set_firm, set_state, settled, share_of, slice_cmp, steps, steps_of, subst, sym, take_part, total, transfer_lines,
-    true, true≢false, with_order, ℕ, ℤ, ◌++◌, ◌+ℤ◌, ◌+◌, ◌-ℤ◌, ◌<◌, ◌==◌, ◌∙◌, ◌∷◌, ◌≡◌, ◌≤ℤ◌, ◌≤◌}
+use Rattle.ledger.proofs.Prelude.{Aborted, Answers, AsksNoStock, Bool, Changes, Command, Committed, Each, Field}
+use Rattle.ledger.proofs.Prelude.{FirstFailure, Good, IsGoodField, IsGoodKept, IsGoodLine, IsGoodOrder, IsInRange}
+use Rattle.ledger.proofs.Prelude.{IsKey, IsLevel, IsMoment, IsNone, IsOpenLine, IsQty, IsSafe, IsSome, IsSomeAnd}
+use Rattle.ledger.proofs.Prelude.{IsStrictlySortedBy, IsTransferPair, IsTrue, Kept, Kind, Ledger, Line, List}
+use Rattle.ledger.proofs.Prelude.{MayHoldMore, Name, None, OpenLine, Opens, Order, Part, Plain, Reply, Request, Share}
+use Rattle.ledger.proofs.Prelude.{Some, State, Transfer, Way, [], accept, add_hold, add_part, ap, arith, bytes_eq}
+use Rattle.ledger.proofs.Prelude.{change_lines, checks, effect, expires, false, field_named, find, full, held_to_add}
+use Rattle.ledger.proofs.Prelude.{held_to_take, hold_more, if_add, if_take, if◌then◌else◌, insert_in_order, ints, is_lt}
+use Rattle.ledger.proofs.Prelude.{is_open, is_some, is_transfer, kept_under, length, line_checks, line_name, line_on}
+use Rattle.ledger.proofs.Prelude.{lower_held, map, name_cmp, name_of, nat_abs, nat_cmp, nat_list_cmp_total, nat_lt}
+use Rattle.ledger.proofs.Prelude.{neg_ℤ, new_line, new_order, numbered, on, open_orders, open_state, order_numbered}
+use Rattle.ledger.proofs.Prelude.{part_of, places, pos, raise_held, raise_used, recursion_from_All, refl, same_name}
+use Rattle.ledger.proofs.Prelude.{set_firm, set_state, settled, share_of, slice_cmp, steps, steps_of, subst, sym}
+use Rattle.ledger.proofs.Prelude.{take_part, total, transfer_lines, true, true≢false, with_order, ℕ, ℤ, ◌++◌, ◌+ℤ◌, ◌+◌}
+use Rattle.ledger.proofs.Prelude.{◌-ℤ◌, ◌<◌, ◌==◌, ◌∙◌, ◌∷◌, ◌≡◌, ◌≤ℤ◌, ◌≤◌}
 use Rattle.words.specs.declared.command.Command.TheVariants as command
 use Rattle.escrow.specs.Ranges.{IsOrderNo}
 use Rattle.words.specs.OpenLines.{AreOpenLines}
-use Rattle.ledger.proofs.Sums.{change_order, each, each-both, each-imp, each-insert, each-map, each-of-push, least_if,
-    none_found, total-eq, total-not_negative, with_move}
-use Rattle.ledger.proofs.GoodParts.{Parts, StillThere, apart_lines, changed, changing, closing, equal_name, fewer_open,
-    line_kept, move_kept, name_cmp_total, not_many, order_kept, other_key}
+use Rattle.ledger.proofs.Sums.{change_order, each, each-both, each-imp, each-insert, each-map, each-of-push, least_if}
+use Rattle.ledger.proofs.Sums.{none_found, total-eq, total-not_negative, with_move}
+use Rattle.ledger.proofs.GoodParts.{Parts, StillThere, apart_lines, changed, changing, closing, equal_name, fewer_open}
+use Rattle.ledger.proofs.GoodParts.{line_kept, move_kept, name_cmp_total, not_many, order_kept, other_key}
 use Rattle.ledger.proofs.Bounds.{HasRoom, Sound, room_from_safe}
 use Rattle.ledger.proofs.Safety.{bounding, bounding_names, not_false, safe_after, still_bounded}
 use Rattle.ledger.specs.Next.{with_bounds}
-use Rattle.ledger.proofs.Lists.{at_number, count-fewer, count-insert, distinct-insert, each-all, each-two, each-unmap,
-    find-insert, length-insert, length-of-map, length-of-push, sorted-insert, sorted-push, total-has}
+use Rattle.ledger.proofs.Lists.{at_number, count-fewer, count-insert, distinct-insert, each-all, each-two, each-unmap}
+use Rattle.ledger.proofs.Lists.{find-insert, length-insert, length-of-map, length-of-push, sorted-insert, sorted-push}
+use Rattle.ledger.proofs.Lists.{total-has}
 use Rattle.ledger.proofs.FieldNames.{OneOn, name_is, same_self}
 use Rattle.ledger.proofs.Passing.{AllPass, all_pass, none_if_not_some, open_there, takes_more}
 use Rattle.ledger.proofs.Falls.{StepFalls, fit_from_good, sounds_from_good, steps_fall}
@@ -76,7 +81,7 @@ HasLevels B o = is_open o ≡ true → o.firm ≡ false → Each (λ l. IsSome (
 held_levels : (B : Ledger) → Each IsGoodField B.fields → Room B → Each (HasLevels B) B.orders
 held_levels B good room =
     each-both (λ o t a e d.
-        each-both (λ l u v some. of_line o l (loose_share o.state o.firm l e d) u v some) o.lines t a) B.orders
+    each-both (λ l u v some. of_line o l (loose_share o.state o.firm l e d) u v some) o.lines t a) B.orders
     (in_all take_part (λ w s. omega (arith, ints)) B.orders) (in_all add_part (λ w s. omega (arith, ints)) B.orders)
   where
     of_line : (o : Order) (l : Line) → share_of o.state o.firm l ≡ only_held l.held
@@ -234,7 +239,7 @@ adding A n l kept g goes more full there qty takes_it fits sound room =
     raised_good : (t : Bool) (m : Line) → IsGoodLine A m
         → (if t then raise_held l.qty m else m).used ≤ (if t then raise_held l.qty m else m).held
         → (IsSome (field_named B (line_name (if t then raise_held l.qty m else m)))
-            → IsLevel (if t then raise_held l.qty m else m).held)
+        → IsLevel (if t then raise_held l.qty m else m).held)
         → IsGoodLine B (if t then raise_held l.qty m else m)
     raised_good t m x u v = grind arith
 
@@ -256,8 +261,15 @@ adding A n l kept g goes more full there qty takes_it fits sound room =
           firm = λ e. absurd (true≢false (sym e ∙ t.1));
         }
     held_more o x t false fit s v =
-        grind (arith, (each-imp (line_kept A B (λ f z. z)) o.lines x.lines), (length-of-push o.lines (new_line l)),
-            apart_lines, each-of-push, line_kept, name)
+        grind (
+          arith,
+          (each-imp (line_kept A B (λ f z. z)) o.lines x.lines),
+          (length-of-push o.lines (new_line l)),
+          apart_lines,
+          each-of-push,
+          line_kept,
+          name,
+        )
 
     by : (o : Order) (b : Bool) → IsGoodOrder A o
         → (b ≡ true → MayHoldMore name l.way o) → (b ≡ true → IsNone (line_on o name) → length o.lines ≤ 63)
@@ -292,8 +304,8 @@ ended : (A : Ledger) (n : ℕ) (s : State) (kept : List Kept) → open_state s �
 ended A n s kept closed g more goes falls there =
     closing A (numbered n) (set_state s) A.clock kept g g.clock more goes falls
     (let fewer = count-fewer is_open (numbered n) (set_state s) A.orders (λ _. closed) there in
-        let room = g.places_fit in
-        omega arith)
+    let room = g.places_fit in
+    omega arith)
 
 parts_accept : (A : Ledger) (key : List ℕ) (c : Command) → Good A → IsInRange c → FirstFailure (checks A c) None
     → Parts (accept A (record { key = key; command = c }))

@@ -1,6 +1,7 @@
 -- Whether a list is in the order of its keys, told from each two neighbours.
-use Rattle.ledger.proofs.Prelude.{[], ◌+◌, ◌<◌, ◌↔◌, ◌∙◌, ◌∷◌, ◌≡◌, Bool, IsStrictlySortedBy, IsTotalOrder, IsTrue,
-    Less, List, Ordering, ap, arith, false, is_lt, length, map, map-map, subst, suc, sym, true, true≢false, zero, ℕ}
+use Rattle.ledger.proofs.Prelude.{[], ◌+◌, ◌<◌, ◌↔◌, ◌∙◌, ◌∷◌, ◌≡◌, Bool, IsStrictlySortedBy, IsTotalOrder, IsTrue}
+use Rattle.ledger.proofs.Prelude.{Less, List, Ordering, ap, arith, false, is_lt, length, map, map-map, subst, suc, sym}
+use Rattle.ledger.proofs.Prelude.{true, true≢false, zero, ℕ}
 use Rattle.std.specs.List.{AllAdjacentBelow, IsAllAdjacentAnswer}
 use Rattle.std.specs.Prelude.{slice_index_or}
 use Rattle.ledger.proofs.Sums.{each-imp}
@@ -60,4 +61,4 @@ pub in_order : {X Y K : Type 0} (cmp : K → K → Ordering) → IsTotalOrder cm
     → IsTrue r ↔ IsStrictlySortedBy cmp (map key (map view xs))
 in_order cmp total key view test same xs r all =
     subst (λ ks. IsTrue r ↔ IsStrictlySortedBy cmp ks) (sym (map-map key view xs))
-        (neighbours cmp total (λ x. key (view x)) test same xs r all)
+    (neighbours cmp total (λ x. key (view x)) test same xs r all)

@@ -1,13 +1,15 @@
 -- Lists: in order, changed, filtered, and walked element by element.
-use Rattle.ledger.proofs.Prelude.{AllZip, Bool, Bor, Each, Equal, IsDistinct, IsSome, IsSomeAnd, IsStrictlySortedBy,
-    IsTotalOrder, IsTrue, Ledger, Less, List, MatchOption, Move, None, Option, Order, Ordering, Some, [], ap, arith,
-    common_steps, count_by, drop, false, filter, find, flat_map, get_or, get_or_from_slice_get, if◌then◌else◌,
-    insert_in_order, ints, is_lt, is_some, length, list_any, list_any-append, map, nat_cmp, nat_eq, nat_lt, not,
-    numbered, pos, recursion_from_All, refl, set, slice_get, slice_get_within, subst, suc, sym, take, take-append-drop,
-    take_all, total, true, true≢false, zero, ℕ, ℤ, ◌++◌, ◌+ℤ◌, ◌+◌, ◌<◌, ◌==◌, ◌||◌, ◌↔◌, ◌∙◌, ◌∷◌, ◌≡◌, ◌≤ℤ◌, ◌≤◌}
+use Rattle.ledger.proofs.Prelude.{AllZip, Bool, Bor, Each, Equal, IsDistinct, IsSome, IsSomeAnd, IsStrictlySortedBy}
+use Rattle.ledger.proofs.Prelude.{IsTotalOrder, IsTrue, Ledger, Less, List, MatchOption, Move, None, Option, Order}
+use Rattle.ledger.proofs.Prelude.{Ordering, Some, [], ap, arith, common_steps, count_by, drop, false, filter, find}
+use Rattle.ledger.proofs.Prelude.{flat_map, get_or, get_or_from_slice_get, if◌then◌else◌, insert_in_order, ints, is_lt}
+use Rattle.ledger.proofs.Prelude.{is_some, length, list_any, list_any-append, map, nat_cmp, nat_eq, nat_lt, not}
+use Rattle.ledger.proofs.Prelude.{numbered, pos, recursion_from_All, refl, set, slice_get, slice_get_within, subst, suc}
+use Rattle.ledger.proofs.Prelude.{sym, take, take-append-drop, take_all, total, true, true≢false, zero, ℕ, ℤ, ◌++◌}
+use Rattle.ledger.proofs.Prelude.{◌+ℤ◌, ◌+◌, ◌<◌, ◌==◌, ◌||◌, ◌↔◌, ◌∙◌, ◌∷◌, ◌≡◌, ◌≤ℤ◌, ◌≤◌}
 use Rattle.std.proofs.lemmas.List.Sums.{sum_by-cons}
-use Rattle.ledger.proofs.Sums.{each, each-both, each-imp, each-insert, each-map, each-of-push, less_is,
-    total-not_negative, total-push, total-zero}
+use Rattle.ledger.proofs.Sums.{each, each-both, each-imp, each-insert, each-map, each-of-push, less_is}
+use Rattle.ledger.proofs.Sums.{total-not_negative, total-push, total-zero}
 use Rattle.std.proofs.lemmas.Grind.{take_at_read}
 use Rattle.std.proofs.lemmas.List.{get_or-set_other, get_or-set_same}
 use Rattle.ledger.proofs.TestResults.{no, yes}
@@ -71,9 +73,11 @@ distinct-insert key p x (y ∷ ys) less d = step (p x y) (distinct-insert key p 
   where
     step : (b : Bool) → IsDistinct nat_eq (map key (insert_in_order p x ys))
         → IsDistinct nat_eq (map key (if b then x ∷ y ∷ ys else y ∷ insert_in_order p x ys))
-    step true more =
-        (each-map (λ k. nat_eq (key x) k ≡ false) key (y ∷ ys)
-            (each-imp (λ z h. other_number' (key z) (key x) h) (y ∷ ys) less), d)
+    step true more = (
+      each-map (λ k. nat_eq (key x) k ≡ false) key (y ∷ ys)
+          (each-imp (λ z h. other_number' (key z) (key x) h) (y ∷ ys) less),
+      d,
+    )
     step false more = (
       each-map (λ k. nat_eq (key y) k ≡ false) key (insert_in_order p x ys)
           (each-insert (λ z. nat_eq (key y) (key z) ≡ false) p x ys (other_number (key y) (key x) less.0)
@@ -124,7 +128,7 @@ count-fewer q t new [] none h = absurd h
 count-fewer q t new (x ∷ xs) none h =
     rw (counted q x xs, counted q (if t x then new x else x) (map (λ x. if t x then new x else x) xs))
     (step (t x) h (count-map q (λ x. if t x then new x else x) xs (each (λ x. stays x (t x)) xs))
-        (λ k. count-fewer q t new xs none k))
+    (λ k. count-fewer q t new xs none k))
   where
     stays : (x : _) (b : Bool) → q (if b then new x else x) ≡ true → q x ≡ true
     stays x b e = grind arith
@@ -401,12 +405,12 @@ find-first p (Some x) [] (is, i, lt, at, all) = absurd (omega arith)
 find-first p (Some x) (y ∷ ys) (is, zero, lt, at, all) = rw (at y, is) refl
 find-first p (Some x) (y ∷ ys) (is, suc i, lt, at, all) =
     rw (all 0 y (omega arith) (omega arith))
-        (find-first p (Some x) ys (is, i, omega arith, at, λ k d low below. all (suc k) d (omega arith) (omega arith)))
+    (find-first p (Some x) ys (is, i, omega arith, at, λ k d low below. all (suc k) d (omega arith) (omega arith)))
 
 -- the same, of a walk that tells whether there is one, among what the elements are mapped to
 pub find-any : {X Y : Type 0} (p : Y → Bool) (h : X → Y) (r : Bool) (xs : List X)
     → MatchBool r ((k : ℕ) × (k < length xs) × HoldsAt (λ x. p (h x) ≡ true) xs k)
-        (AllWithin (λ x. p (h x) ≡ false) xs 0 (length xs))
+    (AllWithin (λ x. p (h x) ≡ false) xs 0 (length xs))
     → r ≡ is_some (find p (map h xs))
 find-any p h false [] all = refl
 find-any p h false (x ∷ xs) all =
@@ -430,8 +434,8 @@ not_before key [] i d lt apart = absurd (omega arith)
 not_before key (x ∷ xs) zero d lt apart = refl
 not_before key (x ∷ xs) (suc i) d lt apart =
     let away =
-        each_get (λ y. nat_eq (key x) (key y) ≡ false) xs i d (omega arith)
-            (each-unmap (λ k. nat_eq (key x) k ≡ false) key xs apart.0) in
+    each_get (λ y. nat_eq (key x) (key y) ≡ false) xs i d (omega arith)
+    (each-unmap (λ k. nat_eq (key x) k ≡ false) key xs apart.0) in
     rw away (not_before key xs i d (omega arith) apart.1)
 
 push_apart : {X : Type 0} (key : X → ℕ) (xs : List X) (x : X) → IsDistinct nat_eq (map key xs)

@@ -1,13 +1,15 @@
 -- The rows that an accepted command changes, put into the ledger's rows, give the rows of the next ledger.
-use Rattle.ledger.proofs.Prelude.{Bool, Command, Content, DeskCells, Each, Equal, Field, FieldCells, FirmCells,
-    FirstFailure, Good, IsInRange, IsKey, IsRowsOf, IsStrictlySortedBy, IsTotalOrder, Ledger, Line, LineCells, List,
-    Name, None, Order, OrderCells, Ordering, Request, Some, [], accept, amount_row, amount_rows, ap, arith,
-    changed_rows, changes_field, checks, common_steps, desk_row, effect, false, field_cmp, field_row, filter, firm_cmp,
-    firm_rows, flat_map, if◌then◌else◌, insert_in_order, int_cmp_total, ints, is_lt, kept_cmp, kept_row, kept_under,
-    line_cmp, line_name, line_row, line_steps, lines_from, map, map-map, mark_row, move_cmp, move_made, move_row,
-    name_cmp, name_of, nat_cmp, nat_list_cmp_total, new_key, next, not, on_total, opening, order_cmp, order_lines,
-    order_row, places, pos, put_content, put_rows, refl, slice_cmp, state_row, steps_of, subst, sym, then_total,
-    tied_itself, true, turn, ℕ, ◌+◌, ◌==◌, ◌||◌, ◌∙◌, ◌∷◌, ◌≡◌}
+use Rattle.ledger.proofs.Prelude.{Bool, Command, Content, DeskCells, Each, Equal, Field, FieldCells, FirmCells}
+use Rattle.ledger.proofs.Prelude.{FirstFailure, Good, IsInRange, IsKey, IsRowsOf, IsStrictlySortedBy, IsTotalOrder}
+use Rattle.ledger.proofs.Prelude.{Ledger, Line, LineCells, List, Name, None, Order, OrderCells, Ordering, Request, Some}
+use Rattle.ledger.proofs.Prelude.{[], accept, amount_row, amount_rows, ap, arith, changed_rows, changes_field, checks}
+use Rattle.ledger.proofs.Prelude.{common_steps, desk_row, effect, false, field_cmp, field_row, filter, firm_cmp}
+use Rattle.ledger.proofs.Prelude.{firm_rows, flat_map, if◌then◌else◌, insert_in_order, int_cmp_total, ints, is_lt}
+use Rattle.ledger.proofs.Prelude.{kept_cmp, kept_row, kept_under, line_cmp, line_name, line_row, line_steps, lines_from}
+use Rattle.ledger.proofs.Prelude.{map, map-map, mark_row, move_cmp, move_made, move_row, name_cmp, name_of, nat_cmp}
+use Rattle.ledger.proofs.Prelude.{nat_list_cmp_total, new_key, next, not, on_total, opening, order_cmp, order_lines}
+use Rattle.ledger.proofs.Prelude.{order_row, places, pos, put_content, put_rows, refl, slice_cmp, state_row, steps_of}
+use Rattle.ledger.proofs.Prelude.{subst, sym, then_total, tied_itself, true, turn, ℕ, ◌+◌, ◌==◌, ◌||◌, ◌∙◌, ◌∷◌, ◌≡◌}
 use Rattle.words.specs.declared.command.Command.TheVariants as command
 use Rattle.std.specs.Prelude.{option_to_list}
 use Rattle.ledger.specs.Rows.{desk_cmp}
@@ -15,10 +17,10 @@ use Rattle.ledger.specs.Next.{with_bounds}
 use Rattle.ledger.proofs.Sums.{each}
 use Rattle.ledger.proofs.Goodness.{good_accept}
 use Rattle.ledger.proofs.Safety.{bounding, bounding_name}
-use Rattle.ledger.proofs.Puts.{Follows, follows-insert, follows-join, follows-map, follows-new, follows-one,
-    follows-push, follows-same, put_all, steps_put}
-use Rattle.ledger.proofs.EqualRows.{fields_sorted, firms_sorted, kept_sorted, lines_sorted, moves_sorted, one_content,
-    orders_sorted, rows_are, rows_of}
+use Rattle.ledger.proofs.Puts.{Follows, follows-insert, follows-join, follows-map, follows-new, follows-one}
+use Rattle.ledger.proofs.Puts.{follows-push, follows-same, put_all, steps_put}
+use Rattle.ledger.proofs.EqualRows.{fields_sorted, firms_sorted, kept_sorted, lines_sorted, moves_sorted, one_content}
+use Rattle.ledger.proofs.EqualRows.{orders_sorted, rows_are, rows_of}
 use Rattle.ledger.proofs.Lists.{number_is, or_false}
 use Rattle.ledger.proofs.Steps.{Goes, Grows, SameNumbers, and_not, effect_goes, not_not, same_numbers, state_same}
 use Rattle.ledger.proofs.FieldNames.{other_way, same_self}
@@ -56,7 +58,7 @@ state_follows b a goes = grind (arith, ints, common_steps, follows-one, state_sa
 
 line_follows : (n nr : ℕ) (b l : Line) → l.way ≡ b.way → line_name l ≡ line_name b
     → Follows line_cmp (amount_row n (record { nr = nr; before = Some b; after = l })) (line_row n nr b ∷ [])
-        (line_row n nr l ∷ [])
+    (line_row n nr l ∷ [])
 line_follows n nr b l way name =
     follows-one line_cmp (not (b.held == l.held) || not (b.used == l.used)) (line_row n nr b) (line_row n nr l)
     (rw (tied_itself int_cmp_total (pos n)) (tied_itself int_cmp_total (pos nr))) same
@@ -71,7 +73,7 @@ line_follows n nr b l way name =
           branch = (sym name i).branch;
           article = (sym name i).article;
           held = held i;
-          used = used i
+          used = used i;
         })
 
 pub new_amounts : (n nr : ℕ) (ls : List Line) → flat_map (amount_row n) (line_steps nr [] ls) ≡ lines_from n nr ls
@@ -82,7 +84,7 @@ amounts_follow : (n nr : ℕ) (bs ls : List Line) → Grows bs ls
     → Follows line_cmp (flat_map (amount_row n) (line_steps nr bs ls)) (lines_from n nr bs) (lines_from n nr ls)
 amounts_follow n nr [] ls grows =
     subst (λ (rows : List LineCells). Follows line_cmp rows [] (lines_from n nr ls)) (sym (new_amounts n nr ls))
-        (follows-new line_cmp (lines_from n nr ls))
+    (follows-new line_cmp (lines_from n nr ls))
 amounts_follow n nr (b ∷ bs) [] grows = absurd grows
 amounts_follow n nr (b ∷ bs) (l ∷ ls) grows =
     follows-join line_cmp (amount_row n (record { nr = nr; before = Some b; after = l })) (line_row n nr b ∷ [])
@@ -106,7 +108,7 @@ new_mark_follows o = grind (arith, ints, common_steps, follows-new, follows-same
 
 moves_follow : (A : Ledger) (c : Command)
     → Follows move_cmp (map move_row (option_to_list (move_made (places A + 1) c))) (map move_row A.moves)
-        (map move_row (next A c).moves)
+    (map move_row (next A c).moves)
 moves_follow A c = grind (arith, ints, common_steps, follows-same, follows-push)
 
 -- ---- fields
@@ -126,7 +128,7 @@ field_inserted : (chosen : Name → Bool) (old new : Field → FieldCells) (p : 
     → RowChosen chosen (new n) ≡ true
     → Each (λ f. (field_cmp (new f) (old f) ≡ Equal) × (RowChosen chosen (new f) ≡ false → old f ≡ new f)) fs
     → Follows field_cmp (filter (RowChosen chosen) (map new (insert_in_order p n fs))) (map old fs)
-        (map new (insert_in_order p n fs))
+    (map new (insert_in_order p n fs))
 field_inserted chosen old new p n [] is all = grind (arith, follows-new)
 field_inserted chosen old new p n (f ∷ fs) is all =
     grind (arith, follows-join, follows-new, follows-one, follows-map, (field_inserted chosen old new p n fs is all.1))
@@ -189,20 +191,20 @@ changes_suffice A r C D g key range none h x y =
     let goes = effect_goes A r.command g.orders_in_order h in
     let desk = desk_put (desk_row A) (desk_row B) C.desk D.desk refl refl x.desk y.desk in
     let before : C.fields ≡ map (field_row A) A.fields =
-        ap (λ (C : Content). C.fields) (one_content A C (rows_of A) x (rows_are A g)) in
+    ap (λ (C : Content). C.fields) (one_content A C (rows_of A) x (rows_are A g)) in
     let after : D.fields ≡ map (field_row B) B.fields =
-        ap (λ (C : Content). C.fields) (one_content B D (rows_of B) y (rows_are B k)) in
+    ap (λ (C : Content). C.fields) (one_content B D (rows_of B) y (rows_are B k)) in
     let fields = (λ i. put_rows field_cmp (filter (RowChosen (changes_field A r.command)) (after i)) (before i))
     ∙ put_all field_cmp field_cmp_total _ _ _
     (subst (IsStrictlySortedBy field_cmp) after (fields_sorted B B.fields D.fields k.fields_in_order y.fields))
     (fields_follow A r.command (λ f e. same_numbers A r.command f g h e)) ∙ sym after in
     let moves =
-        placed move_cmp move_cmp_total _ _ _ C.moves D.moves x.moves y.moves (moves_sorted B k)
-            (moves_follow A r.command) in
+    placed move_cmp move_cmp_total _ _ _ C.moves D.moves x.moves y.moves (moves_sorted B k)
+    (moves_follow A r.command) in
     let single = flat-one order_row B.orders in
     let orders =
-        ap (put_rows order_cmp (flat_map state_row (steps_of A r.command)))
-            (x.orders ∙ sym (flat-one order_row A.orders))
+    ap (put_rows order_cmp (flat_map state_row (steps_of A r.command)))
+    (x.orders ∙ sym (flat-one order_row A.orders))
     ∙ steps_put OrderCells order_cmp (λ o. order_row o ∷ []) state_row (λ o. follows-new order_cmp (order_row o ∷ []))
     state_follows order_cmp_total
     (effect r.command) A.orders (subst (IsStrictlySortedBy order_cmp) (sym single) (orders_sorted B k)) goes
@@ -223,5 +225,5 @@ changes_suffice A r C D g key range none h x y =
       orders = orders i;
       lines = lines i;
       kept = kept i;
-      firms = firms i
+      firms = firms i;
     }

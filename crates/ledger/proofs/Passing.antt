@@ -1,10 +1,11 @@
 -- What passing its checks says of a command.
 use Rattle.ledger.proofs.Sums.{each}
-use Rattle.ledger.proofs.Prelude.{Answers, AnswersNew, Check, Done, Each, FirstFailure, IsFalse, IsNone, IsSome,
-    IsSomeAnd, IsTrue, Kept, KeyReused, Ledger, List, MatchOption, MayHoldMore, Name, None, Option, Order, Refusal,
-    Refused, Reply, Request, Runs, Some, Way, [], accept, ap, arith, checks, false, if◌then◌else◌, inl, inr, is_open,
-    is_some, is_transfer, kept_under, line_on, places, same_command, subst, sym, true, true≢false, ℕ, ◌+◌, ◌<◌, ◌∷◌,
-    ◌≡◌, ◌≢◌, ◌≤◌}
+use Rattle.ledger.proofs.Prelude.{Answers, AnswersNew, Check, Done, Each, FirstFailure, IsFalse, IsNone, IsSome}
+use Rattle.ledger.proofs.Prelude.{IsSomeAnd, IsTrue, Kept, KeyReused, Ledger, List, MatchOption, MayHoldMore, Name}
+use Rattle.ledger.proofs.Prelude.{None, Option, Order, Refusal, Refused, Reply, Request, Runs, Some, Way, [], accept}
+use Rattle.ledger.proofs.Prelude.{ap, arith, checks, false, if◌then◌else◌, inl, inr, is_open, is_some, is_transfer}
+use Rattle.ledger.proofs.Prelude.{kept_under, line_on, places, same_command, subst, sym, true, true≢false, ℕ, ◌+◌, ◌<◌}
+use Rattle.ledger.proofs.Prelude.{◌∷◌, ◌≡◌, ◌≢◌, ◌≤◌}
 
 none-is-not-some : {X : Type 0} (x : X) → None ≡ Some x → ⊥
 none-is-not-some x e = true≢false (sym (ap is_some e))

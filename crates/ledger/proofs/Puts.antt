@@ -1,8 +1,9 @@
 -- Rows that are put in by their keys.
-use Rattle.ledger.proofs.Prelude.{Bool, Changes, Each, Effect, Equal, Greater, IsStrictlySortedBy, IsTotalOrder, Less,
-    List, Nothing, Opens, Order, Ordering, Step, [], ap, append-nil, arith, common_steps, false, filter, flat_map,
-    if◌then◌else◌, inl, inr, insert_in_order, ints, map, opening, ordering_reverse, orders_after, put_row, put_rows,
-    refl, steps, subst, sym, total, true, turn, ◌++◌, ◌∙◌, ◌∷◌, ◌≡◌, ◌⊎◌}
+use Rattle.ledger.proofs.Prelude.{Bool, Changes, Each, Effect, Equal, Greater, IsStrictlySortedBy, IsTotalOrder, Less}
+use Rattle.ledger.proofs.Prelude.{List, Nothing, Opens, Order, Ordering, Step, [], ap, append-nil, arith, common_steps}
+use Rattle.ledger.proofs.Prelude.{false, filter, flat_map, if◌then◌else◌, inl, inr, insert_in_order, ints, map, opening}
+use Rattle.ledger.proofs.Prelude.{ordering_reverse, orders_after, put_row, put_rows, refl, steps, subst, sym, total}
+use Rattle.ledger.proofs.Prelude.{true, turn, ◌++◌, ◌∙◌, ◌∷◌, ◌≡◌, ◌⊎◌}
 use Rattle.ledger.proofs.Sums.{each-imp}
 use Rattle.ledger.specs.Changes.{put_content}
 use Rattle.ledger.specs.Rows.{Content}
@@ -17,7 +18,7 @@ abbrev pub Follows : {R : Type 0} → (R → R → Ordering) → List R → List
 Follows cmp new xs [] = (new ≡ []) × (xs ≡ [])
 Follows {R = R} cmp new xs (y ∷ ys) = ((more : List R) × (new ≡ y ∷ more) × Follows cmp more xs ys)
     ⊎ ((x : R) × (rest : List R) × (more : List R) × (xs ≡ x ∷ rest) × (new ≡ y ∷ more) × (cmp y x ≡ Equal)
-        × Follows cmp more rest ys)
+    × Follows cmp more rest ys)
     ⊎ ((rest : List R) × (xs ≡ y ∷ rest) × Follows cmp new rest ys)
 
 -- rows after y are put after y
@@ -91,8 +92,15 @@ follows-join cmp new xs [] more vs ws f g =
 follows-join cmp new xs (y ∷ ys) more vs ws (inl f) g =
     inl (f.0 ++ more, ap (λ t. t ++ more) f.1, follows-join cmp f.0 xs ys more vs ws f.2 g)
 follows-join cmp new xs (y ∷ ys) more vs ws (inr (inl f)) g =
-    inr (inl (f.0, f.1 ++ vs, f.2 ++ more, ap (λ t. t ++ vs) f.3, ap (λ t. t ++ more) f.4, f.5,
-        follows-join cmp f.2 f.1 ys more vs ws f.6 g))
+    inr (inl (
+      f.0,
+      f.1 ++ vs,
+      f.2 ++ more,
+      ap (λ t. t ++ vs) f.3,
+      ap (λ t. t ++ more) f.4,
+      f.5,
+      follows-join cmp f.2 f.1 ys more vs ws f.6 g,
+    ))
 follows-join cmp new xs (y ∷ ys) more vs ws (inr (inr f)) g =
     inr (inr (f.0 ++ vs, ap (λ t. t ++ vs) f.1, follows-join cmp new f.0 ys more vs ws f.2 g))
 
@@ -125,7 +133,7 @@ module _ (R : Type 0) (cmp : R → R → Ordering) (rows : Order → List R) (ne
   changed_follow : (names : Order → Bool) (change : Order → Order) (os : List Order)
       → Each (λ o. names o ≡ true → Goes o (change o)) os
       → Follows cmp (flat_map new (steps (Changes names change) os)) (flat_map rows os)
-          (flat_map rows (map (λ o. if names o then change o else o) os))
+      (flat_map rows (map (λ o. if names o then change o else o) os))
   changed_follow names change [] goes = (refl, refl)
   changed_follow names change (o ∷ os) goes =
       grind (arith, ints, common_steps, (changed_follow names change os goes.1), steps, follows-join, follows-same)

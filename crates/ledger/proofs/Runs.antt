@@ -1,12 +1,15 @@
 -- What is answered: each request once, at a good ledger always, and in whole runs.
-use Rattle.ledger.proofs.Prelude.{Add, Answers, AnswersNew, AsksNoStock, Check, Command, Done, Each, Field,
-    FirstFailure, Good, IsAccepted, IsDistinct, IsFuture, IsGoodField, IsHonoured, IsInRange, IsKey, IsNone, IsSomeAnd,
-    IsStrictlySortedBy, Kept, KeyReused, Kind, Ledger, List, MatchOption, MayHoldMore, Name, None, OpenLine, Option,
-    Plain, Refusal, Refused, Reply, Request, Runs, Some, Take, Transfer, Way, [], accept, add_hold, ap, arith, bound,
-    bytes_decides, checks, dec_le, find, held_to_add, held_to_take, if◌then◌else◌, inl, inr, ints, kept_under, length,
-    line_checks, line_name, map, new_ledger, new_line, new_order, next, on, order_numbered, places, pos, refl,
-    same_command, settled, spelling, spelling_one, subst, suc, sym, take, transfer_lines, true, with_order, zero, ℕ,
-    ◌++◌, ◌+ℤ◌, ◌+◌, ◌-ℤ◌, ◌<◌, ◌↔◌, ◌∙◌, ◌∷◌, ◌≡◌, ◌≤ℤ◌, ◌≤◌, ◌⊎◌}
+use Rattle.ledger.proofs.Prelude.{Add, Answers, AnswersNew, AsksNoStock, Check, Command, Done, Each, Field}
+use Rattle.ledger.proofs.Prelude.{FirstFailure, Good, IsAccepted, IsDistinct, IsFuture, IsGoodField, IsHonoured}
+use Rattle.ledger.proofs.Prelude.{IsInRange, IsKey, IsNone, IsSomeAnd, IsStrictlySortedBy, Kept, KeyReused, Kind}
+use Rattle.ledger.proofs.Prelude.{Ledger, List, MatchOption, MayHoldMore, Name, None, OpenLine, Option, Plain, Refusal}
+use Rattle.ledger.proofs.Prelude.{Refused, Reply, Request, Runs, Some, Take, Transfer, Way, [], accept, add_hold, ap}
+use Rattle.ledger.proofs.Prelude.{arith, bound, bytes_decides, checks, dec_le, find, held_to_add, held_to_take}
+use Rattle.ledger.proofs.Prelude.{if◌then◌else◌, inl, inr, ints, kept_under, length, line_checks, line_name, map}
+use Rattle.ledger.proofs.Prelude.{new_ledger, new_line, new_order, next, on, order_numbered, places, pos, refl}
+use Rattle.ledger.proofs.Prelude.{same_command, settled, spelling, spelling_one, subst, suc, sym, take, transfer_lines}
+use Rattle.ledger.proofs.Prelude.{true, with_order, zero, ℕ, ◌++◌, ◌+ℤ◌, ◌+◌, ◌-ℤ◌, ◌<◌, ◌↔◌, ◌∙◌, ◌∷◌, ◌≡◌, ◌≤ℤ◌, ◌≤◌}
+use Rattle.ledger.proofs.Prelude.{◌⊎◌}
 use Rattle.words.specs.declared.command.Command.TheVariants as command
 use Rattle.ledger.specs.Future.{Honours}
 use Rattle.ledger.proofs.Futures.{fit-answer, stands_if_fit}
@@ -77,10 +80,10 @@ answers_found A r first = by_key (kept_under A r.key)
 
     by_key : (o : Option Kept)
         → (reply : Reply) × (B : Ledger)
-            × MatchOption o (AnswersNew A r reply B)
-                (λ k.
-                    (reply ≡ (if same_command k.command r.command then Done k.place else Refused KeyReused 0))
-                    × (B ≡ A))
+        × MatchOption o (AnswersNew A r reply B)
+        (λ k.
+        (reply ≡ (if same_command k.command r.command then Done k.place else Refused KeyReused 0))
+        × (B ≡ A))
     by_key None = by_found first.0 first.1
     by_key (Some k) = (if same_command k.command r.command then Done k.place else Refused KeyReused 0, A, (refl, refl))
 
@@ -135,8 +138,8 @@ found_lines A n k u before (l ∷ ls) s one = (
     (grind arith),
     λ there.
         let one' : (g : Name) → OneOn g (map new_line (before ++ l ∷ [])) =
-            fresh-push before l one
-                (none_if_not_some (find (on (line_name (new_line l))) (map new_line before)) same) in (
+        fresh-push before l one
+        (none_if_not_some (find (on (line_name (new_line l))) (map new_line before)) same) in (
           (dec_bound l.way (with_order (new_order n k u (before ++ l ∷ [])) A) (line_name (new_line l)) (length before + 1)
               (with_sound A (new_order n k u (before ++ l ∷ [])) (fresh-sound n k u (before ++ l ∷ []) one') s)),
           λ _. found_lines A n k u (before ++ l ∷ []) ls s one',
@@ -147,64 +150,93 @@ found_lines A n k u before (l ∷ ls) s one = (
 found : (A : Ledger) (c : Command) → Good A → InTurn (checks A c)
 found A (command.Field b a lo hi start) g =
     ((dec_less _ _), λ _. ((dec_upto _ _), λ _. ((grind arith), λ _. ((grind arith), λ _. tt))))
-found A (command.Deliver b a q) g =
-    ((dec_less _ _),
-        λ _. ((grind arith),
-            λ _. ((dec_bound Add (next A (command.Deliver b a q)) (record { branch = b; article = a }) 0
-                (sounds_from_good A g)), λ _. tt)))
-found A (command.Writeoff b a q) g =
-    ((dec_less _ _),
-        λ _. ((grind arith),
-            λ _. ((dec_bound Take (next A (command.Writeoff b a q)) (record { branch = b; article = a }) 0
-                (sounds_from_good A g)), λ _. tt)))
-found A (command.Rebound b a lo hi) g =
-    let B : Ledger = next A (command.Rebound b a lo hi) in
-    let f : Name = record { branch = b; article = a } in
-    let s = sounds_from_good A g in
-    ((dec_less _ _),
-        λ _. ((grind arith),
-            λ _. ((dec_less _ _), λ _. ((dec_bound Take B f 0 s), λ _. ((dec_bound Add B f 0 s), λ _. tt)))))
-found A (command.Open n until lines) g =
-    ((dec_less _ _),
-        λ _. ((dec_upto _ _),
-            λ _. ((grind arith),
-                λ _. ((dec_upto _ _), λ _. found_lines A n Plain until [] lines (sounds_from_good A g) (λ _. tt)))))
-found A (command.Transfer n until a from to q) g =
-    ((dec_less _ _),
-        λ _. ((dec_upto _ _),
-            λ _. ((grind arith),
-                λ _. ((dec_upto _ _),
-                    λ _. found_lines A n Transfer until [] (transfer_lines a from to q) (sounds_from_good A g)
-                        (λ _. tt)))))
-found A (command.More n way b a q) g =
-    let f : Name = record { branch = b; article = a } in
-    let l : OpenLine = record { way = way; branch = b; article = a; qty = q } in (
+found A (command.Deliver b a q) g = (
   (dec_less _ _),
   λ _. (
     (grind arith),
-    λ p1. (
-      (grind arith),
-      λ p2. (
+    λ _. (
+      (dec_bound Add (next A (command.Deliver b a q)) (record { branch = b; article = a }) 0
+          (sounds_from_good A g)),
+      λ _. tt,
+    ),
+  ),
+)
+found A (command.Writeoff b a q) g = (
+  (dec_less _ _),
+  λ _. (
+    (grind arith),
+    λ _. (
+      (dec_bound Take (next A (command.Writeoff b a q)) (record { branch = b; article = a }) 0
+          (sounds_from_good A g)),
+      λ _. tt,
+    ),
+  ),
+)
+found A (command.Rebound b a lo hi) g =
+    let B : Ledger = next A (command.Rebound b a lo hi) in
+    let f : Name = record { branch = b; article = a } in
+    let s = sounds_from_good A g in (
+      (dec_less _ _),
+      λ _. (
         (grind arith),
-        λ loose. (
+        λ _. ((dec_less _ _), λ _. ((dec_bound Take B f 0 s), λ _. ((dec_bound Add B f 0 s), λ _. tt))),
+      ),
+    )
+found A (command.Open n until lines) g = (
+  (dec_less _ _),
+  λ _. (
+    (dec_upto _ _),
+    λ _. (
+      (grind arith),
+      λ _. ((dec_upto _ _), λ _. found_lines A n Plain until [] lines (sounds_from_good A g) (λ _. tt)),
+    ),
+  ),
+)
+found A (command.Transfer n until a from to q) g = (
+  (dec_less _ _),
+  λ _. (
+    (dec_upto _ _),
+    λ _. (
+      (grind arith),
+      λ _. (
+        (dec_upto _ _),
+        λ _. found_lines A n Transfer until [] (transfer_lines a from to q) (sounds_from_good A g)
+            (λ _. tt),
+      ),
+    ),
+  ),
+)
+found A (command.More n way b a q) g =
+    let f : Name = record { branch = b; article = a } in
+    let l : OpenLine = record { way = way; branch = b; article = a; qty = q } in (
+      (dec_less _ _),
+      λ _. (
+        (grind arith),
+        λ p1. (
           (grind arith),
-          λ p3. (
+          λ p2. (
             (grind arith),
-            λ _. (
+            λ loose. (
               (grind arith),
-              λ p5. (
+              λ p3. (
                 (grind arith),
-                λ _.
-                    ((dec_bound way (next A (command.More n way b a q)) f 0
-                        (more_sound l (takes_more f way (order_numbered A n) p1 p2 loose p3 p5))), λ _. tt),
+                λ _. (
+                  (grind arith),
+                  λ p5. (
+                    (grind arith),
+                    λ _. (
+                      (dec_bound way (next A (command.More n way b a q)) f 0
+                          (more_sound l (takes_more f way (order_numbered A n) p1 p2 loose p3 p5))),
+                      λ _. tt,
+                    ),
+                  ),
+                ),
               ),
             ),
           ),
         ),
       ),
-    ),
-  ),
-)
+    )
   where
     more_sound : (l : OpenLine) → IsSomeAnd (order_numbered A n) (MayHoldMore (line_name (new_line l)) l.way)
         → Each Sound (change_order n (add_hold l) A).orders
@@ -223,9 +255,10 @@ answered_if_good A r g = answers_found A r (in_turn (checks A r.command) (found 
 
 -- the same text is the same command
 pub same_is : (c d : Command) → IsInRange c → IsInRange d → (same_command c d ≡ true) ↔ (c ≡ d)
-same_is c d h k =
-    ((λ e. spelling_one c d h k ((bytes_decides (spelling c) (spelling d)).0 e)),
-        (λ e. (bytes_decides (spelling c) (spelling d)).1 (ap spelling e)))
+same_is c d h k = (
+  (λ e. spelling_one c d h k ((bytes_decides (spelling c) (spelling d)).0 e)),
+  (λ e. (bytes_decides (spelling c) (spelling d)).1 (ap spelling e)),
+)
 
 abbrev InRanges : List Request → Type 0
 InRanges rs = Each (λ r. IsKey r.key × IsInRange r.command) rs
@@ -267,15 +300,15 @@ after_once A rs i B C h k = (runs_once A (take i rs) h.0 k.0 B C h.1 k.1).1
 -- all numbers of a field are levels, in their order
 pub in_order : (A : Ledger) → Good A
     → Each (λ f.
-        (pos f.lo ≤ℤ (settled A f -ℤ held_to_take A f.name)) × ((settled A f -ℤ held_to_take A f.name) ≤ℤ settled A f)
-        × (settled A f ≤ℤ (settled A f +ℤ held_to_add A f.name)) × ((settled A f +ℤ held_to_add A f.name) ≤ℤ pos f.hi)
-        × (f.hi ≤ 1000000000)) A.fields
+    (pos f.lo ≤ℤ (settled A f -ℤ held_to_take A f.name)) × ((settled A f -ℤ held_to_take A f.name) ≤ℤ settled A f)
+    × (settled A f ≤ℤ (settled A f +ℤ held_to_add A f.name)) × ((settled A f +ℤ held_to_add A f.name) ≤ℤ pos f.hi)
+    × (f.hi ≤ 1000000000)) A.fields
 in_order A g = each-both (λ f r x. one f r x) A.fields (room_from_safe A (sounds_from_good A g) g.safe) g.fields
   where
     one : (f : Field) → HasRoom A f → IsGoodField f
         → (pos f.lo ≤ℤ (settled A f -ℤ held_to_take A f.name)) × ((settled A f -ℤ held_to_take A f.name) ≤ℤ settled A f)
-            × (settled A f ≤ℤ (settled A f +ℤ held_to_add A f.name))
-            × ((settled A f +ℤ held_to_add A f.name) ≤ℤ pos f.hi) × (f.hi ≤ 1000000000)
+        × (settled A f ≤ℤ (settled A f +ℤ held_to_add A f.name))
+        × ((settled A f +ℤ held_to_add A f.name) ≤ℤ pos f.hi) × (f.hi ≤ 1000000000)
     one f r x =
         let held = held_least A f.name in
         let take = held.0 in

@@ -1,10 +1,11 @@
 -- Every accepted command leaves a good ledger safe.
-use Rattle.ledger.proofs.Prelude.{Add, Bool, Command, Each, FallsBelow, Field, FirstFailure, Good, IsSafe, IsSome,
-    IsSomeAnd, IsStrictlySortedBy, Ledger, List, Name, None, Option, Part, Plain, Request, RisesAbove, Take, Transfer,
-    Way, [], accept, add_part, arith, bound, checks, common_steps, false, field_named, find, held_to_add, held_to_take,
-    if◌then◌else◌, ints, is_lt, line_name, map, name_cmp, name_of, next, option_map, order_numbered, part_of, pos, refl,
-    same_name, settled, settled_part, subst, sym, take_part, total, transfer_lines, true, true≢false, ℕ, ℤ, ◌+ℤ◌, ◌-ℤ◌,
-    ◌<ℤ◌, ◌↔◌, ◌∙◌, ◌∷◌, ◌≡◌, ◌≤◌}
+use Rattle.ledger.proofs.Prelude.{Add, Bool, Command, Each, FallsBelow, Field, FirstFailure, Good, IsSafe, IsSome}
+use Rattle.ledger.proofs.Prelude.{IsSomeAnd, IsStrictlySortedBy, Ledger, List, Name, None, Option, Part, Plain, Request}
+use Rattle.ledger.proofs.Prelude.{RisesAbove, Take, Transfer, Way, [], accept, add_part, arith, bound, checks}
+use Rattle.ledger.proofs.Prelude.{common_steps, false, field_named, find, held_to_add, held_to_take, if◌then◌else◌}
+use Rattle.ledger.proofs.Prelude.{ints, is_lt, line_name, map, name_cmp, name_of, next, option_map, order_numbered}
+use Rattle.ledger.proofs.Prelude.{part_of, pos, refl, same_name, settled, settled_part, subst, sym, take_part, total}
+use Rattle.ledger.proofs.Prelude.{transfer_lines, true, true≢false, ℕ, ℤ, ◌+ℤ◌, ◌-ℤ◌, ◌<ℤ◌, ◌↔◌, ◌∙◌, ◌∷◌, ◌≡◌, ◌≤◌}
 use Rattle.words.specs.declared.command.Command.TheVariants as command
 use Rattle.ledger.proofs.Sums.{each-both, each-imp, each-insert, each-map, total-zero}
 use Rattle.ledger.proofs.Bounds.{HasRoom, Sound, safe_from_room}

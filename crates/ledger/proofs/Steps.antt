@@ -1,22 +1,25 @@
 -- The steps of an accepted command: what stays of an order, and what the lines add up to.
-use Rattle.ledger.proofs.Prelude.{Aborted, Bool, Changes, Command, Committed, Each, Effect, Field, FirstFailure, Good,
-    IsNone, IsSome, IsSomeAnd, IsStrictlySortedBy, Ledger, Line, LineStep, List, MatchOption, Name, None, Nothing, Open,
-    OpenLine, Opens, Option, Order, Part, ShareStep, Some, State, Step, Way, [], add_hold, add_part, added_on, ap,
-    arith, change_lines, changes_field, changes_stock, checks, common_steps, effect, expires, false, find, flat_map,
-    if_add, if_take, if◌then◌else◌, ints, is_open, is_settled, line_name, line_steps, lines_of, list_any, lower_held,
-    map, moved_at_once, moved_by_command, name_of, nat_cmp, nat_cmp_total, nat_lt, next, no_share, not, numbered, on,
-    open_state, option_map, option_map_or, order_numbered, orders_after, own_field, part_of, pos, raise_used, refl,
-    same_name, set_firm, set_state, settled, settled_part, share_of, share_step, share_steps, shares_of_step, signed,
-    steps, steps_of, subst, sym, take_part, total, true, true≢false, turn, ℕ, ℤ, ◌&&◌, ◌++◌, ◌+ℤ◌, ◌+◌, ◌-ℤ◌, ◌==◌,
-    ◌||◌, ◌∙◌, ◌∷◌, ◌≡◌, ◌≢◌}
+use Rattle.ledger.proofs.Prelude.{Aborted, Bool, Changes, Command, Committed, Each, Effect, Field, FirstFailure, Good}
+use Rattle.ledger.proofs.Prelude.{IsNone, IsSome, IsSomeAnd, IsStrictlySortedBy, Ledger, Line, LineStep, List}
+use Rattle.ledger.proofs.Prelude.{MatchOption, Name, None, Nothing, Open, OpenLine, Opens, Option, Order, Part}
+use Rattle.ledger.proofs.Prelude.{ShareStep, Some, State, Step, Way, [], add_hold, add_part, added_on, ap, arith}
+use Rattle.ledger.proofs.Prelude.{change_lines, changes_field, changes_stock, checks, common_steps, effect, expires}
+use Rattle.ledger.proofs.Prelude.{false, find, flat_map, if_add, if_take, if◌then◌else◌, ints, is_open, is_settled}
+use Rattle.ledger.proofs.Prelude.{line_name, line_steps, lines_of, list_any, lower_held, map, moved_at_once}
+use Rattle.ledger.proofs.Prelude.{moved_by_command, name_of, nat_cmp, nat_cmp_total, nat_lt, next, no_share, not}
+use Rattle.ledger.proofs.Prelude.{numbered, on, open_state, option_map, option_map_or, order_numbered, orders_after}
+use Rattle.ledger.proofs.Prelude.{own_field, part_of, pos, raise_used, refl, same_name, set_firm, set_state, settled}
+use Rattle.ledger.proofs.Prelude.{settled_part, share_of, share_step, share_steps, shares_of_step, signed, steps}
+use Rattle.ledger.proofs.Prelude.{steps_of, subst, sym, take_part, total, true, true≢false, turn, ℕ, ℤ, ◌&&◌, ◌++◌}
+use Rattle.ledger.proofs.Prelude.{◌+ℤ◌, ◌+◌, ◌-ℤ◌, ◌==◌, ◌||◌, ◌∙◌, ◌∷◌, ◌≡◌, ◌≢◌}
 use Rattle.std.specs.Prelude.{cond, option_to_list}
 use Rattle.std.specs.List.{filter}
 use Rattle.ledger.specs.Changes.{stock_lines}
 use Rattle.ledger.specs.Held.{held_to_add, held_to_take}
-use Rattle.ledger.proofs.Lists.{NumbersInOrder, any-map, any_none, any_same, at_number, each-found, lt_is, none_after,
-    not_equal, number_is, or_false, sorted-insert}
-use Rattle.ledger.proofs.Sums.{each, each-both, each-flat, each-imp, none_found, total-eq, total-flat, total-insert,
-    total-push, total-zero}
+use Rattle.ledger.proofs.Lists.{NumbersInOrder, any-map, any_none, any_same, at_number, each-found, lt_is, none_after}
+use Rattle.ledger.proofs.Lists.{not_equal, number_is, or_false, sorted-insert}
+use Rattle.ledger.proofs.Sums.{each, each-both, each-flat, each-imp, none_found, total-eq, total-flat, total-insert}
+use Rattle.ledger.proofs.Sums.{total-push, total-zero}
 use Rattle.ledger.specs.Next.{fields_after}
 use Rattle.ledger.proofs.Passing.{AllPass, all_pass, loose_there, none_if_not_some, open_there}
 use Rattle.words.specs.declared.command.Command.TheVariants as command
@@ -208,7 +211,7 @@ numbers_after Nothing os goes sorted = sorted
 numbers_after (Opens o) os goes sorted =
     sorted-insert nat_cmp nat_cmp_total (λ o. o.number) (λ a b. nat_lt a.number b.number) (λ a b. lt_is a.number b.number) o os
     (each-imp (λ m x. not_equal o.number m.number x) os
-        (none_found (numbered o.number) os (none_if_not_some _ (λ some. true≢false (sym some ∙ goes))))) sorted
+    (none_found (numbered o.number) os (none_if_not_some _ (λ some. true≢false (sym some ∙ goes))))) sorted
 numbers_after (Changes names change) os goes sorted =
     subst (IsStrictlySortedBy nat_cmp) (sym (numbers_kept names change os (keeps_numbers names change os goes))) sorted
 
@@ -483,7 +486,7 @@ StaysAlike x = x.changes ≡ false → x.after ≡ x.before
 -- a line whose stock does not change, in the states and with the marks before and then
 line_alike : (s t : State) (x y : Bool) (m l : Line) → open_state s ≡ true → (x ≡ true → y ≡ true)
     → ((open_state s && not (open_state t)) || (y && not x) || not (m.held == l.held)
-        || (y && (not (m.held == l.held) || not (m.used == l.used))))
+    || (y && (not (m.held == l.held) || not (m.used == l.used))))
     ≡ false
     → share_of t y l ≡ share_of s x m
 line_alike Open Open true y m l unended firm e = rw (firm refl) (grind (arith, number_is))
@@ -582,5 +585,18 @@ SameNumbers A B f = (settled B f ≡ settled A f) × (held_to_take B f.name ≡ 
 pub same_numbers : (A : Ledger) (c : Command) (f : Field) → Good A → FirstFailure (checks A c) None
     → changes_field A c f.name ≡ false → SameNumbers A (next A c) f
 same_numbers A c f good passed e =
-    grind (arith, ints, common_steps, or_false, touched, steps_go, alike, changes_share, value_next, takes_next,
-        adds_next, none_added, moves_alone)
+    grind (
+      arith,
+      ints,
+      common_steps,
+      or_false,
+      touched,
+      steps_go,
+      alike,
+      changes_share,
+      value_next,
+      takes_next,
+      adds_next,
+      none_added,
+      moves_alone,
+    )

@@ -1,7 +1,8 @@
 -- Sums of whole numbers over lists, term by term.
-use Rattle.ledger.proofs.Prelude.{Bool, Each, Ledger, Less, List, MatchOrdering, Name, None, Order, Some, [], ap, arith,
-    common_steps, false, find, flat_map, if◌then◌else◌, insert_in_order, ints, map, nat_cmp, places, pos, ranks, refl,
-    subst, total, ℕ, ℤ, ◌++◌, ◌+ℤ◌, ◌+◌, ◌<◌, ◌==◌, ◌∷◌, ◌≡◌, ◌≤ℤ◌}
+use Rattle.ledger.proofs.Prelude.{Bool, Each, Ledger, Less, List, MatchOrdering, Name, None, Order, Some, [], ap, arith}
+use Rattle.ledger.proofs.Prelude.{common_steps, false, find, flat_map, if◌then◌else◌, insert_in_order, ints, map}
+use Rattle.ledger.proofs.Prelude.{nat_cmp, places, pos, ranks, refl, subst, total, ℕ, ℤ, ◌++◌, ◌+ℤ◌, ◌+◌, ◌<◌, ◌==◌}
+use Rattle.ledger.proofs.Prelude.{◌∷◌, ◌≡◌, ◌≤ℤ◌}
 
 pub total-le : {X : Type 0} (f g : X → ℤ) (xs : List X) → Each (λ x. f x ≤ℤ g x) xs → total f xs ≤ℤ total g xs
 total-le f g [] h = omega (arith, ints)

@@ -1,10 +1,12 @@
 -- The commit of a transfer, a `firm` on it and a use leave every article's total as it was.
-use Rattle.ledger.proofs.Prelude.{Answers, Bool, Command, Committed, Each, Field, FirstFailure, Good, IsGoodOrder,
-    IsSome, IsSomeAnd, IsStrictlySortedBy, IsTransferPair, IsTrue, Kept, Ledger, Line, List, Name, None, Option, Order,
-    Reply, Request, Some, [], accept, ap, arith, article_total, bytes_eq, change_lines, checks, false, field_named,
-    find, if◌then◌else◌, ints, is_settled, is_transfer, line_name, map, name_cmp, name_of, on, order_numbered, part_of,
-    pos, raise_used, refl, same_name, set_firm, set_state, settled, settled_part, signed, subst, sym, total, true, ℕ, ℤ,
-    ◌+ℤ◌, ◌==◌, ◌||◌, ◌∙◌, ◌∷◌, ◌≡◌}
+use Rattle.ledger.proofs.Prelude.{Answers, Bool, Command, Committed, Each, Field, FirstFailure, Good, IsGoodOrder}
+use Rattle.ledger.proofs.Prelude.{IsSome, IsSomeAnd, IsStrictlySortedBy, IsTransferPair, IsTrue, Kept, Ledger, Line}
+use Rattle.ledger.proofs.Prelude.{List, Name, None, Option, Order, Reply, Request, Some, [], accept, ap, arith}
+use Rattle.ledger.proofs.Prelude.{article_total, bytes_eq, change_lines, checks, false, field_named, find}
+use Rattle.ledger.proofs.Prelude.{if◌then◌else◌, ints, is_settled, is_transfer, line_name, map, name_cmp, name_of, on}
+use Rattle.ledger.proofs.Prelude.{order_numbered, part_of, pos, raise_used, refl, same_name, set_firm, set_state}
+use Rattle.ledger.proofs.Prelude.{settled, settled_part, signed, subst, sym, total, true, ℕ, ℤ, ◌+ℤ◌, ◌==◌, ◌||◌, ◌∙◌}
+use Rattle.ledger.proofs.Prelude.{◌∷◌, ◌≡◌}
 use Rattle.words.specs.declared.command.Command.TheVariants as command
 use Rattle.ledger.specs.Future.{Settles}
 use Rattle.ledger.proofs.Sums.{change_order, each, each-imp, each-map, less_is, total-eq, total-sum, total-zero}
@@ -47,8 +49,8 @@ pair_evens : (A : Ledger) (article : List ℕ) (b : Bool) (ls : List Line)
     → IsStrictlySortedBy name_cmp (map (λ f. f.name) A.fields) → IsTransferPair ls
     → Each (λ l. IsSome (field_named A (line_name l))) ls
     → total (λ f.
-        if bytes_eq f.name.article article then total (λ l. if on f.name l then moved b l else pos 0) ls else pos 0)
-        A.fields ≡ pos 0
+    if bytes_eq f.name.article article then total (λ l. if on f.name l then moved b l else pos 0) ls else pos 0)
+    A.fields ≡ pos 0
 unfolding one_part
 pair_evens A article b [] sorted p g = absurd p
 pair_evens A article b (l ∷ []) sorted p g = absurd p
@@ -56,18 +58,18 @@ pair_evens A article b (l ∷ m ∷ k ∷ ls) sorted p g = absurd p
 pair_evens A article b (l ∷ m ∷ []) sorted p g =
     let at = λ (l : Line). at_named article (line_name l) (moved b l) A.fields sorted in
     let c = total-eq (λ f.
-        if bytes_eq f.name.article article
-        then ((if on f.name l then moved b l else pos 0) +ℤ ((if on f.name m then moved b m else pos 0) +ℤ pos 0))
-        else pos 0)
+    if bytes_eq f.name.article article
+    then ((if on f.name l then moved b l else pos 0) +ℤ ((if on f.name m then moved b m else pos 0) +ℤ pos 0))
+    else pos 0)
     (λ f. one_part article (line_name l) (moved b l) f +ℤ one_part article (line_name m) (moved b m) f) A.fields
     (each (λ f. by (bytes_eq f.name.article article) (if on f.name l then moved b l else pos 0)
-        (if on f.name m then moved b m else pos 0)) A.fields) in
+    (if on f.name m then moved b m else pos 0)) A.fields) in
     let d = total-sum (one_part article (line_name l) (moved b l)) (one_part article (line_name m) (moved b m)) A.fields in
     let e : (if bytes_eq l.article article then moved b l else pos 0)
-        +ℤ (if bytes_eq m.article article then moved b m else pos 0) ≡ pos 0
+    +ℤ (if bytes_eq m.article article then moved b m else pos 0) ≡ pos 0
     = subst (λ t.
-        (if bytes_eq l.article article then moved b l else pos 0) +ℤ (if bytes_eq t article then moved b m else pos 0)
-        ≡ pos 0) p.2 (grind arith) in
+    (if bytes_eq l.article article then moved b l else pos 0) +ℤ (if bytes_eq t article then moved b m else pos 0)
+    ≡ pos 0) p.2 (grind arith) in
     c ∙ d ∙ (λ i. at l g.0 i +ℤ at m g.1.0 i) ∙ e
   where
     by : (b : Bool) (x y : ℤ) → (if b then (x +ℤ (y +ℤ pos 0)) else pos 0) ≡ (if b then x else pos 0) +ℤ (if b then y else pos 0)
@@ -105,7 +107,7 @@ module _ (A : Ledger) (good : Good A) (n : ℕ) (h : Order → Order) (kept : Li
 
       at : (f : Field) (b : Bool)
           → (if b then settled after f else pos 0) +ℤ (if b then part_of settled_part f.name o else pos 0)
-              ≡ (if b then settled A f else pos 0) +ℤ (if b then part_of settled_part f.name (h o) else pos 0)
+          ≡ (if b then settled A f else pos 0) +ℤ (if b then part_of settled_part f.name (h o) else pos 0)
       at f b = grind (arith, so)
 
   pub stays : Fit after → ((o : Order) → is_transfer (h o) ≡ is_transfer o)
@@ -119,9 +121,9 @@ module _ (A : Ledger) (good : Good A) (n : ℕ) (h : Order → Order) (kept : Li
       by (Some o) e t =
           let was = each-found (IsGoodOrder A) _ o A.orders good.orders e in
           let fine =
-              subst (λ b. Fine (if b then h o else o)) (found_passes _ o A.orders e)
-                  (each-found (λ o. Fine (if o.number == n then h o else o)) _ o A.orders
-                      (each-unmap Fine (λ o. if o.number == n then h o else o) A.orders fit.orders) e) in
+          subst (λ b. Fine (if b then h o else o)) (found_passes _ o A.orders e)
+          (each-found (λ o. Fine (if o.number == n then h o else o)) _ o A.orders
+          (each-unmap Fine (λ o. if o.number == n then h o else o) A.orders fit.orders) e) in
           let lines = each-imp (λ l g. g.field) o.lines was.lines in
           same_total o e (was.transfer t) (fine.pair (kind o ∙ t)) lines (there o lines)
 

@@ -1,14 +1,14 @@
 -- How a request is answered, and which ledger it leaves. The checks of its command are made in their order, and the
 -- first that fails decides.
-use Rattle.std.specs.Prelude.{ℕ, Bool, ◌+◌, ◌<◌, ◌≤◌, ◌≡◌, ◌≢◌, List, [], ◌∷◌, ◌++◌, length, take, Option, Some, None,
-    IsSome, IsNone, IsSomeAnd, IsTrue, IsFalse, ◌⊎◌, MatchOption, if◌then◌else◌}
+use Rattle.std.specs.Prelude.{ℕ, Bool, ◌+◌, ◌<◌, ◌≤◌, ◌≡◌, ◌≢◌, List, [], ◌∷◌, ◌++◌, length, take, Option, Some, None}
+use Rattle.std.specs.Prelude.{IsSome, IsNone, IsSomeAnd, IsTrue, IsFalse, ◌⊎◌, MatchOption, if◌then◌else◌}
 use Rattle.std.specs.Str.{bytes_eq}
 use Rattle.escrow.specs.declared.quantity.Way.{Way}
 use Rattle.escrow.specs.declared.quantity.Way.TheVariants as way
 use Rattle.words.specs.declared.open_line.OpenLine.{OpenLine}
 use Rattle.words.specs.declared.command.Command.{Command}
-use Rattle.words.specs.declared.command.Command.TheVariants.{Field, Deliver, Writeoff, Rebound, Open, Transfer, More,
-    Use, Release, Commit, Abort, Firm, Expire}
+use Rattle.words.specs.declared.command.Command.TheVariants.{Field, Deliver, Writeoff, Rebound, Open, Transfer, More}
+use Rattle.words.specs.declared.command.Command.TheVariants.{Use, Release, Commit, Abort, Firm, Expire}
 use Rattle.words.specs.declared.command.Request.{Request}
 use Rattle.words.specs.declared.reply.Refusal.{Refusal}
 use Rattle.words.specs.declared.reply.Refusal.TheVariants as refusal
@@ -19,8 +19,8 @@ use Rattle.words.specs.declared.limits.TheConstants.{MAX_ORDER_LINES}
 use Rattle.ledger.specs.declared.limits.TheConstants.{MAX_FIELDS, MAX_ORDERS, MAX_PLACES}
 use Rattle.ledger.specs.declared.order.Kind.TheVariants as kind
 use Rattle.ledger.specs.declared.order.Line.{Line}
-use Rattle.ledger.specs.Ledger.{Name, Order, Ledger, places, is_open, is_transfer, open_orders, field_named,
-    order_numbered, line_on, kept_under, name_of}
+use Rattle.ledger.specs.Ledger.{Name, Order, Ledger, places, is_open, is_transfer, open_orders, field_named}
+use Rattle.ledger.specs.Ledger.{order_numbered, line_on, kept_under, name_of}
 use Rattle.ledger.specs.Outcomes.{FallsBelow, RisesAbove}
 use Rattle.ledger.specs.Next.{next, accept, with_order, new_order, transfer_lines}
 

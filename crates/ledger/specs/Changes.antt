@@ -1,6 +1,6 @@
 -- Which rows an accepted command changes, and how rows are put in by their keys.
-use Rattle.std.specs.Prelude.{ℕ, ◌+◌, ◌++◌, Bool, List, [], ◌∷◌, flat_map, map, Option, Some, option_map,
-    option_to_list, if◌then◌else◌}
+use Rattle.std.specs.Prelude.{ℕ, ◌+◌, ◌++◌, Bool, List, [], ◌∷◌, flat_map, map, Option, Some, option_map}
+use Rattle.std.specs.Prelude.{option_to_list, if◌then◌else◌}
 use Rattle.std.specs.declared.cmp.Ordering.{Ordering}
 use Rattle.std.specs.Ordering.{is_eq, is_lt}
 use Rattle.std.specs.List.{list_any, filter, fold}
@@ -10,8 +10,8 @@ use Rattle.words.specs.declared.command.Request.{Request}
 use Rattle.ledger.specs.Ledger.{Name, Ledger, line_name, same_name, places, name_of}
 use Rattle.ledger.specs.declared.order.Line.{Line}
 use Rattle.ledger.specs.Next.{move_made, moved_at_once, new_key}
-use Rattle.ledger.specs.Rows.{Content, FirmCells, LineCells, OrderCells, desk_cmp, field_cmp, firm_cmp, firm_row,
-    kept_cmp, kept_row, line_cmp, line_row, move_cmp, move_row, order_cmp, order_row}
+use Rattle.ledger.specs.Rows.{Content, FirmCells, LineCells, OrderCells, desk_cmp, field_cmp, firm_cmp, firm_row}
+use Rattle.ledger.specs.Rows.{kept_cmp, kept_row, line_cmp, line_row, move_cmp, move_row, order_cmp, order_row}
 use Rattle.ledger.specs.Steps.{LineStep, Step, becomes_firm, changes_line, changes_state, changes_stock, lines_of, steps_of}
 
 -- the field that the command makes, moves at once or gives other bounds

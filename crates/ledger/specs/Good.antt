@@ -13,8 +13,8 @@ use Rattle.words.specs.declared.limits.TheConstants.{MAX_ORDER_LINES}
 use Rattle.ledger.specs.declared.limits.TheConstants.{MAX_FIELDS, MAX_ORDERS, MAX_PLACES}
 use Rattle.ledger.specs.declared.order.State.TheVariants.{Aborted}
 use Rattle.ledger.specs.declared.order.Line.{Line}
-use Rattle.ledger.specs.Ledger.{Field, Move, Order, Kept, Ledger, places, name_cmp, same_name, line_name, is_transfer,
-    open_orders, field_named}
+use Rattle.ledger.specs.Ledger.{Field, Move, Order, Kept, Ledger, places, name_cmp, same_name, line_name, is_transfer}
+use Rattle.ledger.specs.Ledger.{open_orders, field_named}
 use Rattle.ledger.specs.Outcomes.{IsSafe}
 
 -- a good field: its codes have their forms, and its numbers are levels

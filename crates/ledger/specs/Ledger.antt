@@ -1,7 +1,7 @@
 -- A ledger: the clock, all fields, and all that was ever moved, ordered and accepted. It holds no value, no infimum and
 -- no supremum.
-use Rattle.std.specs.Prelude.{ℕ, ◌-◌, ℤ, Bool, true, false, ◌&&◌, List, [], ◌∷◌, length, Option, find, ◌==◌,
-    if◌then◌else◌, count_by}
+use Rattle.std.specs.Prelude.{ℕ, ◌-◌, ℤ, Bool, true, false, ◌&&◌, List, [], ◌∷◌, length, Option, find, ◌==◌}
+use Rattle.std.specs.Prelude.{if◌then◌else◌, count_by}
 use Rattle.std.specs.Str.{bytes_eq}
 use Rattle.std.specs.declared.cmp.Ordering.{Ordering}
 use Rattle.std.specs.Ordering.{nat_cmp, ordering_then}

@@ -1,7 +1,7 @@
 -- What a command does to the orders, and the ledger after it. The definitions here look at no stock: the check of the
 -- stock looks at the ledger that they give. Of a command that a check before that one refuses they mean nothing.
-use Rattle.std.specs.Prelude.{ℕ, ◌+◌, ◌-◌, Bool, Option, None, Some, option_map, ◌&&◌, ◌||◌, not, false, true, ◌==◌,
-    nat_lt, nat_le, List, [], ◌∷◌, ◌++◌, map, is_some, if◌then◌else◌}
+use Rattle.std.specs.Prelude.{ℕ, ◌+◌, ◌-◌, Bool, Option, None, Some, option_map, ◌&&◌, ◌||◌, not, false, true, ◌==◌}
+use Rattle.std.specs.Prelude.{nat_lt, nat_le, List, [], ◌∷◌, ◌++◌, map, is_some, if◌then◌else◌}
 use Rattle.std.specs.Ordering.{is_lt, nat_cmp}
 use Rattle.std.specs.Cmp.Lexicographic.{slice_cmp}
 use Rattle.escrow.specs.declared.quantity.Way.{Way}
@@ -9,15 +9,15 @@ use Rattle.escrow.specs.declared.quantity.Way.TheVariants as way
 use Rattle.words.specs.declared.open_line.OpenLine.{OpenLine}
 use Rattle.words.specs.declared.command.Command.{Command}
 use Rattle.words.specs.declared.command.Request.{Request}
-use Rattle.words.specs.declared.command.Command.TheVariants.{Field, Deliver, Writeoff, Rebound, Open, Transfer, More,
-    Use, Release, Commit, Abort, Firm, Expire}
+use Rattle.words.specs.declared.command.Command.TheVariants.{Field, Deliver, Writeoff, Rebound, Open, Transfer, More}
+use Rattle.words.specs.declared.command.Command.TheVariants.{Use, Release, Commit, Abort, Firm, Expire}
 use Rattle.ledger.specs.declared.order.Kind.{Kind}
 use Rattle.ledger.specs.declared.order.Kind.TheVariants as kind
 use Rattle.ledger.specs.declared.order.State.{State}
 use Rattle.ledger.specs.declared.order.State.TheVariants as state
 use Rattle.ledger.specs.declared.order.Line.{Line}
-use Rattle.ledger.specs.Ledger.{Kept, Name, Field as FieldOf, Move, Order, Ledger, places, name_cmp, on, is_open,
-    is_transfer, line_on, insert_in_order, name_of, same_name}
+use Rattle.ledger.specs.Ledger.{Kept, Name, Field as FieldOf, Move, Order, Ledger, places, name_cmp, on, is_open}
+use Rattle.ledger.specs.Ledger.{is_transfer, line_on, insert_in_order, name_of, same_name}
 use Rattle.ledger.specs.Outcomes.{signed}
 
 -- the field with other bounds; its start stays, and may then lie outside them

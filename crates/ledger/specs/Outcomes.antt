@@ -1,7 +1,7 @@
 -- What a field's stock can come to: its settled value, and its results over all outcomes of the open orders (O'Neil,
 -- The Escrow Transactional Method). Sums are whole numbers with a sign and without limit.
-use Rattle.std.specs.Prelude.{ℕ, ◌≤◌, ℤ, pos, ◌+ℤ◌, neg_ℤ, ◌≤ℤ◌, ◌<ℤ◌, ◌≡◌, Bool, ◌&&◌, ◌||◌, List, [], ◌∷◌,
-    if◌then◌else◌, IsTrue, IsSomeAnd}
+use Rattle.std.specs.Prelude.{ℕ, ◌≤◌, ℤ, pos, ◌+ℤ◌, neg_ℤ, ◌≤ℤ◌, ◌<ℤ◌, ◌≡◌, Bool, ◌&&◌, ◌||◌, List, [], ◌∷◌}
+use Rattle.std.specs.Prelude.{if◌then◌else◌, IsTrue, IsSomeAnd}
 use Rattle.std.specs.Str.{bytes_eq}
 use Rattle.std.specs.List.{AllByRecursion as Each}
 use Rattle.escrow.specs.Choices.{IsWithin}
@@ -10,8 +10,8 @@ use Rattle.escrow.specs.declared.quantity.Way.TheVariants.{Take, Add}
 use Rattle.ledger.specs.declared.order.Line.{Line}
 use Rattle.ledger.specs.declared.order.Share.{Share}
 use Rattle.ledger.specs.declared.order.State.{State}
-use Rattle.ledger.specs.Ledger.{Name, Field, Order, Ledger, same_name, on, is_open, open_state, settled_state,
-    unsettled, field_named}
+use Rattle.ledger.specs.Ledger.{Name, Field, Order, Ledger, same_name, on, is_open, open_state, settled_state}
+use Rattle.ledger.specs.Ledger.{unsettled, field_named}
 
 -- the sum of f over the elements
 abbrev pub total : {X : Type 0} → (X → ℤ) → List X → ℤ

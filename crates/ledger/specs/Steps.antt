@@ -2,8 +2,8 @@
 -- there, and as it is after. These two alone say which rows of orders, lines and firm marks are written, and of which
 -- fields a row is written since the lines of orders change their numbers. Moves, and what a command does to a field
 -- itself, have no step.
-use Rattle.std.specs.Prelude.{ℕ, ◌+◌, Bool, true, ◌&&◌, ◌||◌, not, ◌==◌, List, [], ◌∷◌, flat_map, map, Option, None,
-    Some, if◌then◌else◌}
+use Rattle.std.specs.Prelude.{ℕ, ◌+◌, Bool, true, ◌&&◌, ◌||◌, not, ◌==◌, List, [], ◌∷◌, flat_map, map, Option, None}
+use Rattle.std.specs.Prelude.{Some, if◌then◌else◌}
 use Rattle.std.specs.Option.{option_map_or}
 use Rattle.words.specs.declared.command.Command.{Command}
 use Rattle.ledger.specs.declared.order.Line.{Line}

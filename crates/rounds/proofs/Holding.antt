@@ -5,10 +5,10 @@ use Rattle.std.proofs.lemmas.Option.{slice_get_within}
 use Rattle.desk.specs.Desk.{Snapshot}
 use Rattle.desk.specs.Dialogue.{Language}
 use Rattle.rounds.specs.Lines.{Heard, IsTold, LineView, Said, Speaks, Stands, with_said}
-use Rattle.rounds.specs.Rounds.{AtEach, InRound, IsAt, IsForgotten, IsNowhere, IsSameSeat, IsShown, Loss, SameAt,
-    heard_with, lost_between, said_on, stopped_at}
-use Rattle.rounds.specs.Histories.{AreRounds, History, IsHeardOn, IsReached, IsSeated, PlacesView, Visit, begun, came,
-    heard_in, kept, lost, visit_of, wrote}
+use Rattle.rounds.specs.Rounds.{AtEach, InRound, IsAt, IsForgotten, IsNowhere, IsSameSeat, IsShown, Loss, SameAt}
+use Rattle.rounds.specs.Rounds.{heard_with, lost_between, said_on, stopped_at}
+use Rattle.rounds.specs.Histories.{AreRounds, History, IsHeardOn, IsReached, IsSeated, PlacesView, Visit, begun, came}
+use Rattle.rounds.specs.Histories.{heard_in, kept, lost, visit_of, wrote}
 use Rattle.rounds.proofs.Lists.{each_at, each_from, not_true}
 use Rattle.rounds.proofs.Saying.{with_none}
 use Rattle.rounds.proofs.OneTurn.{apart_by, seat_after, seat_before}
@@ -21,7 +21,7 @@ module _ {Q A : Type 0} (L : Language Q A) (loss : Option Loss) (start : Snapsho
   none_lost (wrote history connection bytes) now going are = none_lost history now going are
   none_lost (kept history said) now going (mid, are, more, still) =
       none_lost history mid (not_true mid.is_stopped
-          (λ halted. let same = ap (λ (s : Snapshot). s.is_stopped) (still halted) in absurd (cc))) are
+      (λ halted. let same = ap (λ (s : Snapshot). s.is_stopped) (still halted) in absurd (cc))) are
   none_lost (lost history untold) now going (mid, last, are, before, more, left, is) =
       let halted : now.is_stopped ≡ true = ap (λ (s : Snapshot). s.is_stopped) is in absurd (cc)
 
@@ -60,9 +60,9 @@ module _ {S P T Q A : Type 0} (g : Speaks S P T Q A) (loss : Option Loss) (start
     seated = λ p x e. seated_at p x e;
     apart =
         apart_by old.lines shown (λ p x e.
-            let (v, v_at, same, _) = shown_before p x e in
-            let (u, u_at, alike) = seat_before old.lines asked p v seats v_at in
-            (u, u_at, sym alike.0 ∙ sym same.0)) r.apart;
+        let (v, v_at, same, _) = shown_before p x e in
+        let (u, u_at, alike) = seat_before old.lines asked p v seats v_at in
+        (u, u_at, sym alike.0 ∙ sym same.0)) r.apart;
     there = λ n first e.
         let (p, u, u_at, number) = r.there n first e in let (v, v_at, alike) = seat_after old.lines asked p u seats u_at in
         let (x, x_at, same) = shown_after p v v_at in (p, x, x_at, same.0 ∙ alike.0 ∙ number);
@@ -71,12 +71,12 @@ module _ {S P T Q A : Type 0} (g : Speaks S P T Q A) (loss : Option Loss) (start
     where
       shown_before : (p : ℕ) (x : LineView S P T) → IsAt shown p x
           → (v : LineView S P T) × IsAt asked p v × IsSameSeat v x
-              × ((h : Heard Q A) (said : List (Said Q A)) → Stands g v h said → Stands g x (with_said h said) [])
+          × ((h : Heard Q A) (said : List (Said Q A)) → Stands g v h said → Stands g x (with_said h said) [])
       shown_before p x e = by (each_at (IsShown g) asked shown p x are e)
         where
           by : ((v : Option (LineView S P T)) × (slice_get asked p ≡ Some v) × IsShown g v (Some x))
               → (v : LineView S P T) × IsAt asked p v × IsSameSeat v x
-                  × ((h : Heard Q A) (said : List (Said Q A)) → Stands g v h said → Stands g x (with_said h said) [])
+              × ((h : Heard Q A) (said : List (Said Q A)) → Stands g v h said → Stands g x (with_said h said) [])
           by (None, is, h) = absurd h
           by (Some v, is, h) = (v, is, h.0, h.1)
 
@@ -131,9 +131,9 @@ module _ {S P T Q A : Type 0} (g : Speaks S P T Q A) (loss : Option Loss) (start
     seated = λ p x e. seated_at p x e;
     apart =
         apart_by old.lines left (λ p x e.
-            let (v, v_at, same, _) = left_before p x e in
-            let (u, u_at, alike) = seat_before old.lines asked p v seats v_at in
-            (u, u_at, sym alike.0 ∙ sym same.0)) r.apart;
+        let (v, v_at, same, _) = left_before p x e in
+        let (u, u_at, alike) = seat_before old.lines asked p v seats v_at in
+        (u, u_at, sym alike.0 ∙ sym same.0)) r.apart;
     there = λ n first e.
         let (p, u, u_at, number) = r.there n first e in let (v, v_at, alike) = seat_after old.lines asked p u seats u_at in
         let (x, x_at, same) = left_after p v v_at in (p, x, x_at, same.0 ∙ alike.0 ∙ number);
@@ -150,12 +150,12 @@ module _ {S P T Q A : Type 0} (g : Speaks S P T Q A) (loss : Option Loss) (start
 
       left_before : (p : ℕ) (x : LineView S P T) → IsAt left p x
           → (v : LineView S P T) × IsAt asked p v × IsSameSeat v x
-              × ((h : Heard Q A) (said : List (Said Q A)) → Stands g v h said → Stands g x h [])
+          × ((h : Heard Q A) (said : List (Said Q A)) → Stands g v h said → Stands g x h [])
       left_before p x e = by (each_at (IsForgotten g) asked left p x are e)
         where
           by : ((v : Option (LineView S P T)) × (slice_get asked p ≡ Some v) × IsForgotten g v (Some x))
               → (v : LineView S P T) × IsAt asked p v × IsSameSeat v x
-                  × ((h : Heard Q A) (said : List (Said Q A)) → Stands g v h said → Stands g x h [])
+              × ((h : Heard Q A) (said : List (Said Q A)) → Stands g v h said → Stands g x h [])
           by (None, is, h) = absurd h
           by (Some v, is, h) = (v, is, h.0, h.1)
 

@@ -1,6 +1,6 @@
 -- What stands at the places of a list.
-use Rattle.std.proofs.Common.{◌≡◌, ◌≢◌, ◌⊎◌, ◌∙◌, ◌+◌, ◌<◌, ◌≤◌, ◌++◌, ◌∷◌, ℕ, zero, suc, Bool, List, [], Option, None,
-    Some, ap, arith, inl, inr, length, length-set, refl, set, subst, sym, take, true, false}
+use Rattle.std.proofs.Common.{◌≡◌, ◌≢◌, ◌⊎◌, ◌∙◌, ◌+◌, ◌<◌, ◌≤◌, ◌++◌, ◌∷◌, ℕ, zero, suc, Bool, List, [], Option, None}
+use Rattle.std.proofs.Common.{Some, ap, arith, inl, inr, length, length-set, refl, set, subst, sym, take, true, false}
 use Rattle.std.specs.Prelude.{nat_eq, slice_get}
 use Rattle.std.proofs.lemmas.Bool.Decides.{eqb_tells}
 use Rattle.rounds.specs.Rounds.{AreBefore, AtEach, IsAt}

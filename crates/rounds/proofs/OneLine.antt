@@ -1,6 +1,6 @@
 -- How one connection stands, from step to step.
-use Rattle.std.proofs.Common.{◌≡◌, ◌∙◌, ◌+◌, ◌≤◌, ◌++◌, ◌∷◌, ℕ, zero, suc, Bool, true, false, List, [], add-one, ap,
-    append-nil, append_assoc, arith, drop, length, refl, subst, sym, take}
+use Rattle.std.proofs.Common.{◌≡◌, ◌∙◌, ◌+◌, ◌≤◌, ◌++◌, ◌∷◌, ℕ, zero, suc, Bool, true, false, List, [], add-one, ap}
+use Rattle.std.proofs.Common.{append-nil, append_assoc, arith, drop, length, refl, subst, sym, take}
 use Rattle.std.specs.Prelude.{slice_index_or}
 use Rattle.std.proofs.lemmas.List.{map-append}
 use Rattle.desk.specs.Desk.{DeskState, Snapshot, snapshot}
@@ -8,8 +8,8 @@ use Rattle.desk.specs.Dialogue.{FailsOne, Language, text_of}
 use Rattle.desk.specs.declared.fault.CallFault.{CallFault}
 use Rattle.desk.specs.declared.fault.CallFault.TheVariants.{Memory, Stopped}
 use Rattle.rounds.specs.declared.phase.Phase.TheVariants.{Asks, Over, Wants}
-use Rattle.rounds.specs.Lines.{Ask, Heard, IsHeard, IsTold, LineView, Said, Speaks, answers_of, questions_of,
-    with_piece, with_said, with_written}
+use Rattle.rounds.specs.Lines.{Ask, Heard, IsHeard, IsTold, LineView, Said, Speaks, answers_of, questions_of}
+use Rattle.rounds.specs.Lines.{with_piece, with_said, with_written}
 use Rattle.rounds.specs.Rounds.{HasTurn}
 use Rattle.rounds.proofs.Telling.{AreSettled, begins_shorter, texts_joined}
 use Rattle.rounds.proofs.Saying.{with_none}
@@ -121,7 +121,7 @@ module _ {S P T Q A : Type 0} (g : Speaks S P T Q A) where
   pub nothing_said : (v : LineView S P T) (h : Heard Q A) (said : List (Said Q A)) → v.asked ≡ [] → IsHeard g v h said → said ≡ []
   nothing_said v h said none is =
       none_said said (asks_none g.asks (questions_of said)
-          (subst (λ (ps : List P). Ask g.asks ps (questions_of said)) none is.are_asked))
+      (subst (λ (ps : List P). Ask g.asks ps (questions_of said)) none is.are_asked))
 
   pub heard_nothing : (v : LineView S P T) (h : Heard Q A) (said : List (Said Q A)) → v.asked ≡ [] → IsHeard g v h said
       → IsHeard g v h []
@@ -131,7 +131,7 @@ module _ {S P T Q A : Type 0} (g : Speaks S P T Q A) where
       → IsHeard g v (with_said h said) []
   shown_nothing v h said none is =
       subst (λ (k : Heard Q A). IsHeard g v k []) (sym (ap (with_said h) (nothing_said v h said none is) ∙ with_none h))
-          (heard_nothing v h said none is)
+      (heard_nothing v h said none is)
 
   -- a turn of one that is the same connection
   pub turn_from : (is_answered : Bool) (u v w : LineView S P T) (old new : Snapshot) (h : Heard Q A)
@@ -153,7 +153,7 @@ module _ {S P T Q A : Type 0} (g : Speaks S P T Q A) where
         g.has_found d h.read h.has_ended ((h.questions ++ []) ++ (questions_of said ++ is.waiting))) (sym dialogue)
         (subst (λ (qs : List Q). g.has_found v.dialogue h.read h.has_ended qs)
         (append_assoc h.questions (questions_of said) is.waiting
-            ∙ ap (λ (qs : List Q). qs ++ (questions_of said ++ is.waiting)) (sym (append-nil h.questions))) is.found);
+        ∙ ap (λ (qs : List Q). qs ++ (questions_of said ++ is.waiting)) (sym (append-nil h.questions))) is.found);
     text = is.text ∙ ap (λ (bytes : List ℕ). h.written ++ bytes) (sym output);
     hidden = hidden;
     quiet = λ some. absurd (omega arith);
@@ -167,9 +167,9 @@ module _ {S P T Q A : Type 0} (g : Speaks S P T Q A) where
       → w.waiting ≡ v.waiting → w.hidden ≡ [] → w.output ≡ v.hidden → w.phase ≡ v.phase → IsHeard g w (with_said h said) []
   heard_shown v w h said is some dialogue asked waiting hidden output phase =
       let quiet : v.output ≡ [] =
-          is.quiet (omega (arith, some, asks_some g.asks v.asked (questions_of said) is.are_asked, count_said said)) in
+      is.quiet (omega (arith, some, asks_some g.asks v.asked (questions_of said) is.are_asked, count_said said)) in
       let again : (h.questions ++ questions_of said) ++ [] ≡ h.questions ++ questions_of said =
-          append-nil (h.questions ++ questions_of said) in
+      append-nil (h.questions ++ questions_of said) in
       record {
         waiting = is.waiting;
         are_asked = subst (λ (ps : List P). Ask g.asks ps []) (sym asked) tt;
@@ -179,15 +179,17 @@ module _ {S P T Q A : Type 0} (g : Speaks S P T Q A) where
             (subst (λ (qs : List Q). g.has_found v.dialogue h.read h.has_ended (qs ++ is.waiting)) (sym again) is.found);
         text = texts_joined g.language h.answers (answers_of said)
             ∙ ap (λ (bytes : List ℕ). bytes ++ text_of g.language (answers_of said))
-                (is.text ∙ ap (λ (bytes : List ℕ). h.written ++ bytes) quiet ∙ append-nil h.written)
+            (is.text ∙ ap (λ (bytes : List ℕ). h.written ++ bytes) quiet ∙ append-nil h.written)
             ∙ ap (λ (bytes : List ℕ). h.written ++ bytes) (sym is.hidden ∙ sym output);
         hidden = hidden;
         quiet = λ some. absurd (omega arith);
         wants = λ wants. let (none, going, come) = is.wants (sym phase ∙ wants) in
             (none, going, subst (λ (qs : List Q). g.language.have_come h.read qs) (sym again) come);
-        over = λ over. let (none, are, ends) = is.over (sym phase ∙ over) in
-            (none, subst (λ (qs : List Q). g.language.are_questions h.read qs) (sym again) are,
-                subst (λ (qs : List Q). g.language.ends h.has_ended qs) (sym again) ends);
+        over = λ over. let (none, are, ends) = is.over (sym phase ∙ over) in (
+          none,
+          subst (λ (qs : List Q). g.language.are_questions h.read qs) (sym again) are,
+          subst (λ (qs : List Q). g.language.ends h.has_ended qs) (sym again) ends,
+        );
       }
 
   -- its answer is hidden
@@ -197,19 +199,19 @@ module _ {S P T Q A : Type 0} (g : Speaks S P T Q A) where
   hidden_so u v w before bytes text same was e is =
       is ∙ (λ i. record u { asked = u.asked ++ take 1 u.waiting; waiting = drop 1 u.waiting; hidden = was i ++ e i })
       ∙ (λ i.
-          let x = same i in
-          record x { asked = x.asked ++ take 1 x.waiting; waiting = drop 1 x.waiting; hidden = x.hidden ++ text })
+      let x = same i in
+      record x { asked = x.asked ++ take 1 x.waiting; waiting = drop 1 x.waiting; hidden = x.hidden ++ text })
 
   -- its next question is answered
   pub heard_answered : (v w : LineView S P T) (h : Heard Q A) (said : List (Said Q A)) → v.phase ≡ Asks → v.output ≡ []
       → (is : IsHeard g v h said)
       → (first : IsFirst g.asks v.waiting is.waiting) → (s : Said Q A) → s.question ≡ first.question
       → w
-          ≡ record v {
-            asked = v.asked ++ take 1 v.waiting;
-            waiting = drop 1 v.waiting;
-            hidden = v.hidden ++ g.language.text s.answer
-          } → IsHeard g w h (said ++ s ∷ [])
+      ≡ record v {
+        asked = v.asked ++ take 1 v.waiting;
+        waiting = drop 1 v.waiting;
+        hidden = v.hidden ++ g.language.text s.answer;
+      } → IsHeard g w h (said ++ s ∷ [])
   heard_answered v w h said phase quiet is first s asked same =
       subst (λ (x : LineView S P T). IsHeard g x h (said ++ s ∷ [])) (sym same) (record {
         waiting = first.rest;
@@ -233,7 +235,7 @@ module _ {S P T Q A : Type 0} (g : Speaks S P T Q A) where
       found_so : (h.questions ++ questions_of said) ++ is.waiting ≡ (h.questions ++ questions_of (said ++ s ∷ [])) ++ first.rest
       found_so =
           ap (λ (qs : List Q). (h.questions ++ questions_of said) ++ qs)
-              (first.questions_are ∙ ap (λ (q : Q). q ∷ first.rest) (sym asked))
+          (first.questions_are ∙ ap (λ (q : Q). q ∷ first.rest) (sym asked))
           ∙ sym (append_assoc (h.questions ++ questions_of said) (s.question ∷ []) first.rest)
           ∙ ap (λ (qs : List Q). qs ++ first.rest) (append_assoc h.questions (questions_of said) (s.question ∷ [])
           ∙ ap (λ (qs : List Q). h.questions ++ qs) (sym (map-append (λ (s : Said Q A). s.question) said (s ∷ []))))
@@ -256,7 +258,7 @@ module _ {S P T Q A : Type 0} (g : Speaks S P T Q A) where
       found_so : (h.questions ++ questions_of said) ++ is.waiting ≡ (h.questions ++ questions_of (said ++ s ∷ [])) ++ first.rest
       found_so =
           ap (λ (qs : List Q). (h.questions ++ questions_of said) ++ qs)
-              (first.questions_are ∙ ap (λ (q : Q). q ∷ first.rest) (sym asked))
+          (first.questions_are ∙ ap (λ (q : Q). q ∷ first.rest) (sym asked))
           ∙ sym (append_assoc (h.questions ++ questions_of said) (s.question ∷ []) first.rest)
           ∙ ap (λ (qs : List Q). qs ++ first.rest) (append_assoc h.questions (questions_of said) (s.question ∷ [])
           ∙ ap (λ (qs : List Q). h.questions ++ qs) (sym (map-append (λ (s : Said Q A). s.question) said (s ∷ []))))
@@ -280,7 +282,7 @@ module _ {S P T Q A : Type 0} (g : Speaks S P T Q A) where
             (taken h.read (h.questions ++ [])
             (subst (λ (ended : Bool). g.has_found v.dialogue h.read ended (h.questions ++ [])) going
             (subst (λ (qs : List Q). g.has_found v.dialogue h.read h.has_ended qs)
-                (ap (λ (qs : List Q). (h.questions ++ []) ++ qs) none ∙ append-nil (h.questions ++ [])) is.found))
+            (ap (λ (qs : List Q). (h.questions ++ []) ++ qs) none ∙ append-nil (h.questions ++ [])) is.found))
             come));
         text = is.text ∙ ap (λ (b : List ℕ). h.written ++ b) (sym output);
         hidden = hidden ∙ is.hidden;
@@ -314,11 +316,11 @@ module _ {S P T Q A : Type 0} (g : Speaks S P T Q A) where
       → (q : Q) × g.asks held q × g.has_found w.dialogue read ended (questions ++ q ∷ [])) → IsHeard g w h said
   heard_found v w h said held is none asked waiting hidden output phase finds =
       let empty : is.waiting ≡ [] =
-          asks_none g.asks is.waiting (subst (λ (ps : List P). Ask g.asks ps is.waiting) none is.are_waiting) in
+      asks_none g.asks is.waiting (subst (λ (ps : List P). Ask g.asks ps is.waiting) none is.are_waiting) in
       let (q, asks, found) = finds h.read h.has_ended (h.questions ++ questions_of said)
       (subst (λ (qs : List Q). g.has_found v.dialogue h.read h.has_ended qs)
       (ap (λ (qs : List Q). (h.questions ++ questions_of said) ++ qs) empty
-          ∙ append-nil (h.questions ++ questions_of said)) is.found) in
+      ∙ append-nil (h.questions ++ questions_of said)) is.found) in
       record {
         waiting = q ∷ [];
         are_asked = subst (λ (ps : List P). Ask g.asks ps (questions_of said)) (sym asked) is.are_asked;
@@ -341,12 +343,12 @@ module _ {S P T Q A : Type 0} (g : Speaks S P T Q A) where
       × (w.phase ≡ Over → g.language.are_questions read questions × g.language.ends ended questions)) → IsHeard g w h said
   heard_paused v w h said is none asked waiting hidden output finds =
       let empty : is.waiting ≡ [] =
-          asks_none g.asks is.waiting (subst (λ (ps : List P). Ask g.asks ps is.waiting) none is.are_waiting) in
+      asks_none g.asks is.waiting (subst (λ (ps : List P). Ask g.asks ps is.waiting) none is.are_waiting) in
       let same : (h.questions ++ questions_of said) ++ is.waiting ≡ h.questions ++ questions_of said =
       ap (λ (qs : List Q). (h.questions ++ questions_of said) ++ qs) empty ∙ append-nil (h.questions ++ questions_of said) in
       let (found, wants, over) =
-          finds h.read h.has_ended (h.questions ++ questions_of said)
-              (subst (λ (qs : List Q). g.has_found v.dialogue h.read h.has_ended qs) same is.found) in
+      finds h.read h.has_ended (h.questions ++ questions_of said)
+      (subst (λ (qs : List Q). g.has_found v.dialogue h.read h.has_ended qs) same is.found) in
       record {
         waiting = is.waiting;
         are_asked = subst (λ (ps : List P). Ask g.asks ps (questions_of said)) (sym asked) is.are_asked;

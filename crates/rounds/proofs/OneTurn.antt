@@ -1,12 +1,12 @@
 -- A round, turn by turn.
-use Rattle.std.proofs.Common.{◌≡◌, ◌≢◌, ◌⊎◌, ◌∙◌, ◌++◌, ◌∷◌, ℕ, Bool, true, false, List, [], Option, None, Some, ap,
-    inl, inr, refl, set, subst, sym}
+use Rattle.std.proofs.Common.{◌≡◌, ◌≢◌, ◌⊎◌, ◌∙◌, ◌++◌, ◌∷◌, ℕ, Bool, true, false, List, [], Option, None, Some, ap}
+use Rattle.std.proofs.Common.{inl, inr, refl, set, subst, sym}
 use Rattle.std.specs.Prelude.{nat_eq, slice_get}
 use Rattle.std.proofs.lemmas.Bool.Decides.{eqb_tells}
 use Rattle.desk.specs.Desk.{Snapshot}
 use Rattle.rounds.specs.Lines.{Heard, IsTold, LineView, Said, Speaks, Stands, with_said}
-use Rattle.rounds.specs.Rounds.{Apart, AreSaid, AtEach, HasTurnAt, InRound, IsAt, IsForgotten, IsNowhere, IsSameSeat,
-    IsShown, SameAt, heard_with, said_on}
+use Rattle.rounds.specs.Rounds.{Apart, AreSaid, AtEach, HasTurnAt, InRound, IsAt, IsForgotten, IsNowhere, IsSameSeat}
+use Rattle.rounds.specs.Rounds.{IsShown, SameAt, heard_with, said_on}
 use Rattle.rounds.proofs.Lists.{all_set, each_at, each_from, each_set, get_other, get_set}
 use Rattle.rounds.proofs.Saying.{on_other, on_same, said_more}
 
@@ -82,7 +82,7 @@ module _ {S P T : Type 0} where
   -- those at the places now were there before, under their numbers
   pub apart_by : (old new : List (Option (LineView S P T)))
       → ((p : ℕ) (v : LineView S P T) → IsAt new p v
-          → (u : LineView S P T) × IsAt old p u × (u.connection ≡ v.connection)) → Apart old → Apart new
+      → (u : LineView S P T) × IsAt old p u × (u.connection ≡ v.connection)) → Apart old → Apart new
   apart_by old new before apart p q v w at_p at_q same =
       let (x, x_at, x_same) = before p v at_p in
       let (y, y_at, y_same) = before q w at_q in
@@ -150,12 +150,12 @@ module _ {S P T Q A : Type 0} (g : Speaks S P T Q A) where
       where
         by : (m : ℕ) → IsTold g.language (heard m)
             → ((nat_eq m v.connection ≡ true) × (m ≡ v.connection))
-                ⊎ ((nat_eq m v.connection ≡ false) × (m ≢ v.connection))
+            ⊎ ((nat_eq m v.connection ≡ false) × (m ≢ v.connection))
             → IsTold g.language (heard_with heard (round.said ++ s ∷ []) m)
         by m before (inl (_, here)) =
             subst (λ (m : ℕ). IsTold g.language (heard_with heard (round.said ++ s ∷ []) m)) (sym here)
             (subst (λ (xs : List (Said Q A)). IsTold g.language (with_said (heard v.connection) xs))
-                (sym (on_same v.connection round.said s is)) told)
+            (sym (on_same v.connection round.said s is)) told)
         by m before (inr (_, other)) =
             subst (λ (xs : List (Said Q A)). IsTold g.language (with_said (heard m) xs))
             (sym (on_other m round.said s (λ here. other (sym here ∙ is)))) (round.told m before)

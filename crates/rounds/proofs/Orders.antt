@@ -1,6 +1,6 @@
 -- The rounds of a history are one order.
-use Rattle.std.proofs.Common.{Option, None, Some, ◌≡◌, ◌≢◌, ◌⊎◌, ◌∙◌, ◌++◌, ℕ, true, false, List, [], ap, append-nil,
-    append_assoc, inl, inr, map, refl, subst, sym}
+use Rattle.std.proofs.Common.{Option, None, Some, ◌≡◌, ◌≢◌, ◌⊎◌, ◌∙◌, ◌++◌, ℕ, true, false, List, [], ap, append-nil}
+use Rattle.std.proofs.Common.{append_assoc, inl, inr, map, refl, subst, sym}
 use Rattle.std.specs.Prelude.{nat_eq}
 use Rattle.std.proofs.lemmas.Bool.Decides.{eqb_tells}
 use Rattle.std.proofs.lemmas.List.{map-append}

@@ -1,6 +1,6 @@
 -- How a history grows, and what is known behind it.
-use Rattle.std.proofs.Common.{◌≡◌, ◌≢◌, ◌⊎◌, ◌∙◌, ◌+◌, ◌<◌, ◌≤◌, ◌++◌, ◌∷◌, ℕ, true, false, List, [], Option, None,
-    Some, ap, arith, inl, inr, length, length-append, length-set, refl, set, subst, sym, take}
+use Rattle.std.proofs.Common.{◌≡◌, ◌≢◌, ◌⊎◌, ◌∙◌, ◌+◌, ◌<◌, ◌≤◌, ◌++◌, ◌∷◌, ℕ, true, false, List, [], Option, None}
+use Rattle.std.proofs.Common.{Some, ap, arith, inl, inr, length, length-append, length-set, refl, set, subst, sym, take}
 use Rattle.std.specs.Prelude.{IfSome, Result, Err, Ok, nat_eq, option_map, slice_get}
 use Rattle.std.proofs.lemmas.Bool.Decides.{eqb_tells}
 use Rattle.std.proofs.lemmas.Option.{slice_get_within}
@@ -8,14 +8,14 @@ use Rattle.desk.specs.Desk.{Snapshot}
 use Rattle.rounds.specs.Lines.{Heard, IsHeard, IsTold, LineView, Speaks, Stands, unheard, with_piece, with_written}
 use Rattle.rounds.specs.Rounds.{HasFailed, IsAt, IsLooked, IsRead, IsWritten, Loss, heard_on}
 use Rattle.rounds.specs.declared.phase.Phase.TheVariants.{Gone}
-use Rattle.rounds.specs.Histories.{AreRounds, History, IsHeardOn, IsReached, IsSeated, PlacesView, Visit, begun, came,
-    heard_in, visit_of, wrote}
+use Rattle.rounds.specs.Histories.{AreRounds, History, IsHeardOn, IsReached, IsSeated, PlacesView, Visit, begun, came}
+use Rattle.rounds.specs.Histories.{heard_in, visit_of, wrote}
 use Rattle.rounds.proofs.Lists.{all_set, get_end, get_front, get_joined, get_other, get_set, set_still}
 use Rattle.rounds.proofs.Saying.{with_none}
 use Rattle.rounds.proofs.OneTurn.{apart_by}
 use Rattle.rounds.proofs.Standings.{reads_wants, writes_there}
-use Rattle.rounds.proofs.Telling.{AreSettled, appends_kept, appends_none, appends_on, at_it, at_other, consumes_kept,
-    consumes_none, consumes_on, told_of, told_piece}
+use Rattle.rounds.proofs.Telling.{AreSettled, appends_kept, appends_none, appends_on, at_it, at_other, consumes_kept}
+use Rattle.rounds.proofs.Telling.{consumes_none, consumes_on, told_of, told_piece}
 
 -- ---- what is reached
 
@@ -69,14 +69,14 @@ module _ {S P T Q A : Type 0} (g : Speaks S P T Q A) (loss : Option Loss) (start
           (x : LineView S P T) → o ≡ Some x → IsSeated g visits (heard_in history) x)
           old.lines p (Some w)
           (λ x is. subst (λ (x : LineView S P T). IsSeated g visits (heard_in history) x)
-              (let same_x : w ≡ x = cc in same_x) seated_here)
+          (let same_x : w ≡ x = cc in same_x) seated_here)
           (λ k o other at_k x is. seated_there k x other (at_k ∙ ap Some is)) q (Some x) at_q x refl;
       apart = apart_by old.lines (set old.lines p (Some w)) before r.apart;
       there = λ n first is. let (q, x, at_q, number) = r.there n first is in there_at n q x at_q number (eqb_tells q p);
       gone = λ n first last is.
           subst (λ (k : Heard Q A). IsHeardOn g first last k)
           (sym (elsewhere n (λ here. still_there p v first last e
-              (subst (λ (m : ℕ). slice_get visits m ≡ Some (record { came = first; left = Some last })) here is))))
+          (subst (λ (m : ℕ). slice_get visits m ≡ Some (record { came = first; left = Some last })) here is))))
           (r.gone n first last is);
     }
       where
@@ -91,7 +91,7 @@ module _ {S P T Q A : Type 0} (g : Speaks S P T Q A) (loss : Option Loss) (start
 
         told_at : (n : ℕ) → n < length visits
             → ((nat_eq n v.connection ≡ true) × (n ≡ v.connection))
-                ⊎ ((nat_eq n v.connection ≡ false) × (n ≢ v.connection))
+            ⊎ ((nat_eq n v.connection ≡ false) × (n ≢ v.connection))
             → IsTold g.language (heard_in history n)
         told_at n lt (inl (_, here)) = subst (λ (m : ℕ). IsTold g.language (heard_in history m)) (sym here)
             (subst (λ (k : Heard Q A). IsTold g.language k) (sym here_is) (told (r.told v.connection (number_of p v e))))
@@ -112,7 +112,7 @@ module _ {S P T Q A : Type 0} (g : Speaks S P T Q A) (loss : Option Loss) (start
         seated_there k x other at_k =
             let was = r.seated k x at_k in
             let known : heard_in history x.connection ≡ heard_in r.history x.connection =
-                elsewhere x.connection (λ here. other (r.apart k p x v at_k e here)) in
+            elsewhere x.connection (λ here. other (r.apart k p x v at_k e here)) in
             record {
               came = was.came;
               visit = was.visit;
@@ -163,7 +163,7 @@ module _ {S P T Q A : Type 0} (g : Speaks S P T Q A) (loss : Option Loss) (start
       where
         by : (n : ℕ)
             → ((nat_eq n v.connection ≡ true) × (n ≡ v.connection))
-                ⊎ ((nat_eq n v.connection ≡ false) × (n ≢ v.connection))
+            ⊎ ((nat_eq n v.connection ≡ false) × (n ≢ v.connection))
             → heard_on v.connection (heard_in r.history v.connection) (heard_in r.history) n ≡ heard_in r.history n
         by n (inl (is, here)) = rw is (ap (λ (m : ℕ). heard_in r.history m) (sym here))
         by n (inr (is, other)) = rw is refl
@@ -176,7 +176,7 @@ module _ {S P T Q A : Type 0} (g : Speaks S P T Q A) (loss : Option Loss) (start
     reach_looked p (Some v) None e h = absurd h
     reach_looked p (Some v) (Some w) e (same, stands) =
         reach_still p v w e same.0 (λ first h on. subst (λ (t : T). IsHeardOn g first t h) (sym same.1) on)
-            (stands (heard_in r.history v.connection))
+        (stands (heard_in r.history v.connection))
 
     -- its stream has failed
     reach_failed : (p : ℕ) (v w : LineView S P T) → IsAt old.lines p v → v.phase ≢ Gone → HasFailed g v w
@@ -185,7 +185,7 @@ module _ {S P T Q A : Type 0} (g : Speaks S P T Q A) (loss : Option Loss) (start
         reach_still p v w e failed.connection
         (λ first h on. record {
           reads = consumes_kept _ _ _ _ on.reads failed.reads;
-          writes = appends_kept _ _ _ _ on.writes failed.writes
+          writes = appends_kept _ _ _ _ on.writes failed.writes;
         })
         (λ stands present. failed.stands (heard_in r.history v.connection) (stands there))
 
@@ -205,7 +205,7 @@ module _ {S P T Q A : Type 0} (g : Speaks S P T Q A) (loss : Option Loss) (start
         (told_piece g.language (heard_in r.history v.connection) bytes (is.wants wants).1)
         (λ first on. record {
           reads = consumes_on _ _ _ _ _ on.reads came_so.reads;
-          writes = appends_kept _ _ _ _ on.writes came_so.writes
+          writes = appends_kept _ _ _ _ on.writes came_so.writes;
         })
         (came_so.stands (heard_in r.history v.connection) is)
     reach_read (Err error) piece p None w e h = absurd h
@@ -228,7 +228,7 @@ module _ {S P T Q A : Type 0} (g : Speaks S P T Q A) (loss : Option Loss) (start
         (λ told. subst (λ (k : Heard Q A). IsTold g.language k) (with_none h) (told_of g settled w h [] is))
         (λ first on. record {
           reads = consumes_kept _ _ _ _ on.reads written.reads;
-          writes = appends_on _ _ _ _ _ on.writes written.writes
+          writes = appends_on _ _ _ _ _ on.writes written.writes;
         })
         (λ present. is)
     reach_written (Err error) settled p None w e h = absurd h
@@ -239,7 +239,7 @@ module _ {S P T Q A : Type 0} (g : Speaks S P T Q A) (loss : Option Loss) (start
     pub reach_seat : (p : ℕ) (w : LineView S P T) → slice_get old.lines p ≡ Some None → w.connection ≡ old.connections
         → IsTold g.language unheard → IsHeard g w unheard []
         → IsReached g loss start now (visits ++ visit_of w.stream ∷ [])
-            (record { lines = set old.lines p (Some w); connections = old.connections + 1 })
+        (record { lines = set old.lines p (Some w); connections = old.connections + 1 })
     reach_seat p w free is told stands = record {
       history = r.history;
       are_rounds = r.are_rounds;
@@ -250,7 +250,7 @@ module _ {S P T Q A : Type 0} (g : Speaks S P T Q A) (loss : Option Loss) (start
           (x : LineView S P T) → o ≡ Some x → IsSeated g more (heard_in r.history) x)
           old.lines p (Some w)
           (λ x e. subst (λ (x : LineView S P T). IsSeated g more (heard_in r.history) x)
-              (let same_x : w ≡ x = cc in same_x) seated_here)
+          (let same_x : w ≡ x = cc in same_x) seated_here)
           (λ k o other at_k x e. seated_there k x (at_k ∙ ap Some e)) q (Some x) at_q x refl;
       apart = λ a b v x at_a at_b same. apart_at a b v x same (eqb_tells a p) (eqb_tells b p) at_a at_b;
       there = λ n first e. there_at n first (get_joined visits (visit_of w.stream) _ n e);
@@ -268,7 +268,7 @@ module _ {S P T Q A : Type 0} (g : Speaks S P T Q A) (loss : Option Loss) (start
 
         told_at : (n : ℕ) → n < length visits + 1
             → ((nat_eq n (length visits) ≡ true) × (n ≡ length visits))
-                ⊎ ((nat_eq n (length visits) ≡ false) × (n ≢ length visits))
+            ⊎ ((nat_eq n (length visits) ≡ false) × (n ≢ length visits))
             → IsTold g.language (heard_in r.history n)
         told_at n lt (inl (_, last)) = subst (λ (k : Heard Q A). IsTold g.language k) (sym (r.new n (omega (arith, last)))) told
         told_at n lt (inr (_, other)) = r.told n (omega (arith, lt, other))
@@ -278,7 +278,7 @@ module _ {S P T Q A : Type 0} (g : Speaks S P T Q A) (loss : Option Loss) (start
           came = w.stream;
           visit =
               subst (λ (n : ℕ). slice_get more n ≡ Some (visit_of w.stream)) (sym number)
-                  (get_end visits (visit_of w.stream));
+              (get_end visits (visit_of w.stream));
           on = subst (λ (k : Heard Q A). IsHeardOn g w.stream w.stream k) (sym nothing)
               (record { reads = consumes_none (g.remaining w.stream); writes = appends_none (g.contents w.stream) });
           stands = λ there. subst (λ (k : Heard Q A). IsHeard g w k []) (sym nothing) stands;
@@ -291,7 +291,7 @@ module _ {S P T Q A : Type 0} (g : Speaks S P T Q A) (loss : Option Loss) (start
               came = was.came;
               visit = get_front visits (visit_of w.stream) (visit_of was.came) x.connection was.visit;
               on = was.on;
-              stands = was.stands
+              stands = was.stands;
             }
 
         -- the one who comes has a number of its own
@@ -302,7 +302,7 @@ module _ {S P T Q A : Type 0} (g : Speaks S P T Q A) (loss : Option Loss) (start
         it_is k x here e =
             let this : slice_get (set old.lines p (Some w)) p ≡ Some (Some w) = get_set old.lines p None (Some w) free in
             let that : slice_get (set old.lines p (Some w)) p ≡ Some (Some x) =
-                subst (λ (q : ℕ). slice_get (set old.lines p (Some w)) q ≡ Some (Some x)) here e in
+            subst (λ (q : ℕ). slice_get (set old.lines p (Some w)) q ≡ Some (Some x)) here e in
             cc
 
         it_was : (k : ℕ) (x : LineView S P T) → (k ≡ p → ⊥) → IsAt (set old.lines p (Some w)) k x → IsAt old.lines k x
@@ -315,27 +315,30 @@ module _ {S P T Q A : Type 0} (g : Speaks S P T Q A) (loss : Option Loss) (start
         apart_at a b v x same (inl (_, here)) (inl (_, there)) at_a at_b = here ∙ sym there
         apart_at a b v x same (inl (_, here)) (inr (_, other)) at_a at_b =
             absurd (new_number b x (it_was b x other at_b)
-                (sym same ∙ ap (λ (y : LineView S P T). y.connection) (sym (it_is a v here at_a))))
+            (sym same ∙ ap (λ (y : LineView S P T). y.connection) (sym (it_is a v here at_a))))
         apart_at a b v x same (inr (_, other)) (inl (_, there)) at_a at_b =
             absurd (new_number a v (it_was a v other at_a)
-                (same ∙ ap (λ (y : LineView S P T). y.connection) (sym (it_is b x there at_b))))
+            (same ∙ ap (λ (y : LineView S P T). y.connection) (sym (it_is b x there at_b))))
         apart_at a b v x same (inr (_, other)) (inr (_, others)) at_a at_b =
             r.apart a b v x (it_was a v other at_a) (it_was b x others at_b) same
 
         there_at : (n : ℕ) (first : T)
             → (slice_get visits n ≡ Some (visit_of first))
-                ⊎ ((visit_of first ≡ visit_of w.stream) × (n ≡ length visits))
+            ⊎ ((visit_of first ≡ visit_of w.stream) × (n ≡ length visits))
             → (q : ℕ) × (y : LineView S P T) × IsAt (set old.lines p (Some w)) q y × (y.connection ≡ n)
         there_at n first (inl e) =
-            let (q, x, at_q, number) = r.there n first e in
-            (q, x,
-                get_other old.lines p q (Some w)
-                    (λ here. let none = subst (λ (k : ℕ). IsAt old.lines k x) here at_q in absurd (cc)) ∙ at_q, number)
+            let (q, x, at_q, number) = r.there n first e in (
+              q,
+              x,
+              get_other old.lines p q (Some w)
+                  (λ here. let none = subst (λ (k : ℕ). IsAt old.lines k x) here at_q in absurd (cc)) ∙ at_q,
+              number,
+            )
         there_at n first (inr (_, at_end)) = (p, w, get_set old.lines p None (Some w) free, number ∙ sym at_end)
 
         gone_at : (n : ℕ) (first last : T)
             → (slice_get visits n ≡ Some (record { came = first; left = Some last }))
-                ⊎ ((record { came = first; left = Some last } ≡ visit_of w.stream) × (n ≡ length visits))
+            ⊎ ((record { came = first; left = Some last } ≡ visit_of w.stream) × (n ≡ length visits))
             → IsHeardOn g first last (heard_in r.history n)
         gone_at n first last (inl e) = r.gone n first last e
         gone_at n first last (inr (same, at_end)) =
@@ -345,7 +348,7 @@ module _ {S P T Q A : Type 0} (g : Speaks S P T Q A) (loss : Option Loss) (start
     pub reach_left : (p : ℕ) (v : LineView S P T) → IsAt old.lines p v
         → (first : T) × (slice_get visits v.connection ≡ Some (visit_of first))
         × IsReached g loss start now (set visits v.connection (record { came = first; left = Some v.stream }))
-            (record { lines = set old.lines p None; connections = old.connections })
+        (record { lines = set old.lines p None; connections = old.connections })
     reach_left p v e = (
       was.came,
       was.visit,
@@ -361,20 +364,23 @@ module _ {S P T Q A : Type 0} (g : Speaks S P T Q A) (loss : Option Loss) (start
             (Some x) at_q x refl;
         apart = apart_by old.lines (set old.lines p None)
             (λ q x at_q. all_set (λ k (o : Option (LineView S P T)).
-                (x : LineView S P T) → o ≡ Some x
-                → (u : LineView S P T) × IsAt old.lines k u × (u.connection ≡ x.connection))
+            (x : LineView S P T) → o ≡ Some x
+            → (u : LineView S P T) × IsAt old.lines k u × (u.connection ≡ x.connection))
             old.lines p None (λ x is. absurd (cc)) (λ k o other at_k x is. (x, at_k ∙ ap Some is, refl)) q (Some x) at_q
-                x refl) r.apart;
+            x refl) r.apart;
         there = λ n first is. all_set (λ k (u : Visit T). (first : T) → u ≡ visit_of first
             → (q : ℕ) × (y : LineView S P T) × IsAt (set old.lines p None) q y × (y.connection ≡ k))
             visits v.connection left_so
             (λ first is. let none : Some v.stream ≡ None = ap (λ (u : Visit T). u.left) is in absurd (cc))
-            (λ k u other at_k first is. let (q, x, at_q, number) = r.there k first (at_k ∙ ap Some is) in
-            (q, x,
-                get_other old.lines p q None
-                    (λ here. other (sym number
-                        ∙ ap (λ (y : LineView S P T). y.connection)
-                            (it_is x (subst (λ (m : ℕ). IsAt old.lines m x) here at_q)))) ∙ at_q, number))
+            (λ k u other at_k first is. let (q, x, at_q, number) = r.there k first (at_k ∙ ap Some is) in (
+              q,
+              x,
+              get_other old.lines p q None
+                  (λ here. other (sym number
+                  ∙ ap (λ (y : LineView S P T). y.connection)
+                  (it_is x (subst (λ (m : ℕ). IsAt old.lines m x) here at_q)))) ∙ at_q,
+              number,
+            ))
             n _ is first refl;
         gone = λ n first last is. all_set (λ k (u : Visit T).
             (first last : T) → u ≡ record { came = first; left = Some last }
@@ -419,26 +425,26 @@ module _ {S P T Q A : Type 0} (g : Speaks S P T Q A) (old : PlacesView (LineView
   -- who was at a place has left, if somebody was
   pub has_left : (x : Option (LineView S P T)) (o : Option T) → slice_get old.lines p ≡ Some x → o ≡ option_map (λ l. l.stream) x
       → IfSome o (λ stream.
-          (loss : Option Loss) (start now : Snapshot) (visits : List (Visit T)) → IsReached g loss start now visits old
+      (loss : Option Loss) (start now : Snapshot) (visits : List (Visit T)) → IsReached g loss start now visits old
       → (connection : ℕ) × (first : T) × (slice_get visits connection ≡ Some (visit_of first))
       × IsReached g loss start now (set visits connection (record { came = first; left = Some stream }))
-          (record { lines = set old.lines p None; connections = old.connections }))
+      (record { lines = set old.lines p None; connections = old.connections }))
   has_left None o e is =
       subst (λ (o : Option T). IfSome o
-          (λ stream.
-              (loss : Option Loss) (start now : Snapshot) (visits : List (Visit T))
-              → IsReached g loss start now visits old
+      (λ stream.
+      (loss : Option Loss) (start now : Snapshot) (visits : List (Visit T))
+      → IsReached g loss start now visits old
       → (connection : ℕ) × (first : T) × (slice_get visits connection ≡ Some (visit_of first))
       × IsReached g loss start now (set visits connection (record { came = first; left = Some stream }))
-          (record { lines = set old.lines p None; connections = old.connections }))) (sym is) tt
+      (record { lines = set old.lines p None; connections = old.connections }))) (sym is) tt
   has_left (Some v) o e is =
       subst (λ (o : Option T). IfSome o
-          (λ stream.
-              (loss : Option Loss) (start now : Snapshot) (visits : List (Visit T))
-              → IsReached g loss start now visits old
+      (λ stream.
+      (loss : Option Loss) (start now : Snapshot) (visits : List (Visit T))
+      → IsReached g loss start now visits old
       → (connection : ℕ) × (first : T) × (slice_get visits connection ≡ Some (visit_of first))
       × IsReached g loss start now (set visits connection (record { came = first; left = Some stream }))
-          (record { lines = set old.lines p None; connections = old.connections }))) (sym is)
+      (record { lines = set old.lines p None; connections = old.connections }))) (sym is)
       (λ loss start now visits r.
-          let (first, at, reached) = reach_left g loss start now visits old r p v e in
-          (v.connection, first, at, reached))
+      let (first, at, reached) = reach_left g loss start now visits old r p v e in
+      (v.connection, first, at, reached))

@@ -1,6 +1,6 @@
 -- How a service goes on.
-use Rattle.std.proofs.Common.{◌≡◌, ◌∷◌, ◌++◌, [], ◌∙◌, ◌<◌, ◌≤◌, ℕ, None, arith, ap, false, Err, length, List, Ok,
-    Option, Result, Some, refl, subst, sym, true}
+use Rattle.std.proofs.Common.{◌≡◌, ◌∷◌, ◌++◌, [], ◌∙◌, ◌<◌, ◌≤◌, ℕ, None, arith, ap, false, Err, length, List, Ok}
+use Rattle.std.proofs.Common.{Option, Result, Some, refl, subst, sym, true}
 use Rattle.std.specs.Prelude.{OnErr, OnOk, slice_get}
 use Rattle.std.proofs.lemmas.Option.{slice_get_within}
 use Rattle.keep.specs.declared.keep.Keep.{Ghosts}
@@ -24,7 +24,7 @@ module _ {C S P T Q A : Type 0} (g : Speaks S P T Q A) (c : Listening C T) (firs
   -- one came
   pub entered_more : (then : C) (stream : T) (more : PlacesView (LineView S P T)) → c.comes crowd stream then
       → ((visits : List (Visit T)) → IsReached g loss start now visits places
-          → IsReached g loss start now (visits ++ visit_of stream ∷ []) more)
+      → IsReached g loss start now (visits ++ visit_of stream ∷ []) more)
       → IsServing g c first loss start now (record { crowd = then; places = more })
   entered_more then stream more comes seats = record {
     doors = entered serving.doors stream;
@@ -39,7 +39,7 @@ module _ {C S P T Q A : Type 0} (g : Speaks S P T Q A) (c : Listening C T) (firs
   reached_more more goes = record {
     doors = serving.doors;
     pass = serving.pass;
-    reached = goes (visits_in serving.doors) serving.reached
+    reached = goes (visits_in serving.doors) serving.reached;
   }
 
 module _ {K C S P T Q A : Type 0} (g : Speaks S P T Q A) (c : Listening C T) (k : Ghosts K) (first : C) (start : Snapshot)
@@ -47,16 +47,16 @@ module _ {K C S P T Q A : Type 0} (g : Speaks S P T Q A) (c : Listening C T) (k 
   -- a round is held
   pub round_more : {R E : Type 0} (result : Result R E)
       → OnOk result ((loss : Option Loss) (start : Snapshot) (visits : List (Visit T))
-          → IsReached g loss start (snapshot_off old) visits places
+      → IsReached g loss start (snapshot_off old) visits places
       → IsReached g loss start (snapshot_off new) visits more)
       → OnErr result ((loss : Option Loss) (start : Snapshot) (visits : List (Visit T))
-          → IsReached g loss start (snapshot_off old) visits places
+      → IsReached g loss start (snapshot_off old) visits places
       → IsReached g (Some (lost_between (snapshot_off old) (snapshot_off new))) start (snapshot_off new) visits more)
       → new.keep.changes ≡ []
       → OnOk result (old.keep.stopped ≡ false → (new.keep.stopped ≡ false)
       × (k.is_honest new.keep.keep → IsStored (k.holds new.keep.keep) (k.leaves new.keep.keep) new.ledger))
       → OnErr result ((old.keep.stopped ≡ false) × (new.keep.stopped ≡ true)
-          × IsLeftBy k new.keep.keep (lost_between (snapshot_off old) (snapshot_off new)))
+      × IsLeftBy k new.keep.keep (lost_between (snapshot_off old) (snapshot_off new)))
       → (old.keep.stopped ≡ true → (new.ledger ≡ old.ledger) × (new.keep.stopped ≡ true) × (new.keep.keep ≡ old.keep.keep))
       → InService g c k first start old (record { crowd = crowd; places = places })
       → InService g c k first start new (record { crowd = crowd; places = more })
@@ -67,7 +67,7 @@ module _ {K C S P T Q A : Type 0} (g : Speaks S P T Q A) (c : Listening C T) (k 
       stored = λ going. (kept (not_true old.keep.stopped (λ halted. let still = (halts halted).1 in absurd (cc)))).1;
       left = λ halted.
           let before : old.keep.stopped ≡ true =
-              not_false old.keep.stopped (λ going. let still = (kept going).0 in absurd (cc)) in
+          not_false old.keep.stopped (λ going. let still = (kept going).0 in absurd (cc)) in
           let (l, is, by) = was.kept.left before in (l, is, subst (λ (x : K). IsLeftBy k x l) (sym (halts before).2) by);
     };
     serving = record {
@@ -95,12 +95,12 @@ module _ {K C S P T Q A : Type 0} (g : Speaks S P T Q A) (c : Listening C T) (k 
   -- it goes on between rounds
   pub between : (old new : HubView C (LineView S P T))
       → ((first : C) (loss : Option Loss) (start now : Snapshot) → IsServing g c first loss start now old
-          → IsServing g c first loss start now new)
+      → IsServing g c first loss start now new)
       → InService g c k first start desk old → InService g c k first start desk new
   between old new goes was = record {
     loss = was.loss;
     kept = was.kept;
-    serving = goes first was.loss start (snapshot_off desk) was.serving
+    serving = goes first was.loss start (snapshot_off desk) was.serving;
   }
 
   -- all have left, where nobody is at a place
@@ -132,7 +132,7 @@ module _ {K C S P T Q A : Type 0} (g : Speaks S P T Q A) (c : Listening C T) (k 
       by : (n : ℕ) (left : Option T) (visit : Visit T) → visit.left ≡ left
           → slice_get (visits_in was.serving.doors) n ≡ Some visit
           → (stream : T) × (visit.left ≡ Some stream)
-              × IsHeardBy g.remaining g.contents visit.came stream (heard_in was.serving.reached.history n)
+          × IsHeardBy g.remaining g.contents visit.came stream (heard_in was.serving.reached.history n)
       by n (Some stream) visit e at =
           (stream, e, was.serving.reached.gone n visit.came stream (at ∙ ap Some (λ i. record { came = visit.came; left = e i })))
       by n None visit e at =
@@ -153,7 +153,7 @@ module _ {K C S P T Q A : Type 0} (g : Speaks S P T Q A) (c : Listening C T) (k 
   -- before anybody has come
   pub before_all : desk.keep.stopped ≡ false → desk.keep.changes ≡ []
       → (desk.keep.changes ≡ [] → desk.keep.stopped ≡ false → k.is_honest desk.keep.keep
-          → IsStored (k.holds desk.keep.keep) (k.leaves desk.keep.keep) desk.ledger)
+      → IsStored (k.holds desk.keep.keep) (k.leaves desk.keep.keep) desk.ledger)
       → IsKept k None desk
   before_all going settled stored = record {
     settled = settled;

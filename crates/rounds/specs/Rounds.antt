@@ -1,6 +1,6 @@
 -- Rounds: one order of the questions of all connections.
-use Rattle.std.specs.Prelude.{◌≡◌, ◌≢◌, ◌<◌, ◌≤◌, ◌⊎◌, Bool, false, true, ℕ, List, [], ◌∷◌, ◌++◌, Option, None, Some,
-    Result, Err, Ok, if◌then◌else◌, length, nat_eq, slice_get, slice_index_or, take}
+use Rattle.std.specs.Prelude.{◌≡◌, ◌≢◌, ◌<◌, ◌≤◌, ◌⊎◌, Bool, false, true, ℕ, List, [], ◌∷◌, ◌++◌, Option, None, Some}
+use Rattle.std.specs.Prelude.{Result, Err, Ok, if◌then◌else◌, length, nat_eq, slice_get, slice_index_or, take}
 use Rattle.std.specs.Io.KnownBytes.{Appends, Consumes, Keeps}
 use Rattle.ledger.specs.Good.{Good}
 use Rattle.ledger.specs.Ledger.{Ledger}

@@ -1,6 +1,6 @@
 -- The answer of the select on `desk`, and the row that its tree holds.
-use Rattle.std.proofs.Common.{◌≡◌, ℤ, List, [], ◌∷◌, IsTrue, Option, Some, None, Ok, Err, Result, ap, map, refl, subst,
-    IsPermutation}
+use Rattle.std.proofs.Common.{◌≡◌, ℤ, List, [], ◌∷◌, IsTrue, Option, Some, None, Ok, Err, Result, ap, map, refl, subst}
+use Rattle.std.proofs.Common.{IsPermutation}
 use Rattle.std.specs.Prelude.{IfOk, IfSome, MatchOption}
 use Rattle.std.specs.List.{AllByRecursion}
 use Rattle.std.specs.List.Sorted.{IsStrictlySortedBy}
@@ -32,10 +32,10 @@ one_row : (version : ℤ) (tree answers : List Row) (row : DeskCells)
     → Stores table.Desk tree (row ∷ [])
 one_row version tree answers row same is =
     let shows : IsPermutation (map (stored table.Desk) tree) (columns table.Desk row ∷ []) =
-        subst (IsPermutation (map (stored table.Desk) tree)) is.same
-            (subst (λ l. IsPermutation l (map (shown table.Desk) answers))
-                (map-map (shown table.Desk) (selected table.Desk) tree)
-                (IsPermutation-map (shown table.Desk) _ _ same)) in
+    subst (IsPermutation (map (stored table.Desk) tree)) is.same
+    (subst (λ l. IsPermutation l (map (shown table.Desk) answers))
+    (map-map (shown table.Desk) (selected table.Desk) tree)
+    (IsPermutation-map (shown table.Desk) _ _ same)) in
     let P = λ (c : Row). IsTrue (is_int (column c 0)) in
     let one : AllByRecursion P (columns table.Desk row ∷ []) = (refl, tt) in
     record {
@@ -43,9 +43,9 @@ one_row version tree answers row same is =
       sorted = alone row;
       numbers =
           all_unmap P (stored table.Desk) tree
-              (recursion_from_All P (map (stored table.Desk) tree)
-                  (All-permutation P (columns table.Desk row ∷ []) (map (stored table.Desk) tree)
-                      (IsPermutation-sym _ _ shows) (All-from_recursion P (columns table.Desk row ∷ []) one)));
+          (recursion_from_All P (map (stored table.Desk) tree)
+          (All-permutation P (columns table.Desk row ∷ []) (map (stored table.Desk) tree)
+          (IsPermutation-sym _ _ shows) (All-from_recursion P (columns table.Desk row ∷ []) one)));
     }
 
 -- rows of the tree that are one row of that version are what is answered
@@ -55,7 +55,7 @@ answered : (version : ℤ) (tree answers : List Row) (row : DeskCells)
 answered version tree answers row same are is = record {
   same =
       ap (map (shown table.Desk)) (one_permutation (columns table.Desk row) answers
-          (IsPermutation-trans _ _ _ (IsPermutation-sym _ _ are.same) same));
+      (IsPermutation-trans _ _ _ (IsPermutation-sym _ _ are.same) same));
   is_version = is;
 }
 
@@ -65,7 +65,7 @@ module _ (version : ℤ) (old new : State) (answers : List Row)
   abbrev Told : Result (Option DeskRow) Error → Type 0
   Told r =
       IfOk r (λ found. MatchOption found (¬ ((row : DeskCells) × IsOneAnswer version answers row))
-          (λ row. IsOneAnswer version answers (desk_cells row)))
+      (λ row. IsOneAnswer version answers (desk_cells row)))
 
   pub version_if : (r : Result (Option DeskRow) Error) → Told r
       → IfOk r (λ found. IfSome found (λ row. IsVersion version (desk_cells row)))
@@ -75,15 +75,15 @@ module _ (version : ℤ) (old new : State) (answers : List Row)
 
   pub found_if : (r : Result (Option DeskRow) Error) → Told r
       → IfOk r
-          (λ found. IfSome found (λ row. Reads old new (λ trees. Stores table.Desk (trees 0) (desk_cells row ∷ []))))
+      (λ found. IfSome found (λ row. Reads old new (λ trees. Stores table.Desk (trees 0) (desk_cells row ∷ []))))
   found_if (Ok (Some row)) h = λ clean. (same clean, one_row version _ _ (desk_cells row) (rows clean) h)
   found_if (Ok None) h = tt
   found_if (Err e) h = tt
 
   pub none_if : (r : Result (Option DeskRow) Error) → Told r
       → IfOk r (λ found.
-          found ≡ None
-          → Reads old new (λ trees. (xs : List DeskCells) → Stores table.Desk (trees 0) xs → ¬ IsOneRow version xs))
+      found ≡ None
+      → Reads old new (λ trees. (xs : List DeskCells) → Stores table.Desk (trees 0) xs → ¬ IsOneRow version xs))
   none_if (Ok None) h = λ none clean. (
     same clean,
     λ xs are one.

@@ -1,6 +1,6 @@
 -- What a statement INSERT .. VALUES of one row ON CONFLICT (key) DO NOTHING does, for a table with no reference and no counter.
-use Rattle.std.proofs.Common.{◌≡◌, ◌≢◌, inl, inr, ℕ, List, [], ◌∷◌, ◌/◌, Bool, true, false, Some, None, Option, Ok, ap,
-    length, refl, slice_get}
+use Rattle.std.proofs.Common.{◌≡◌, ◌≢◌, inl, inr, ℕ, List, [], ◌∷◌, ◌/◌, Bool, true, false, Some, None, Option, Ok, ap}
+use Rattle.std.proofs.Common.{length, refl, slice_get}
 use Rattle.std.specs.List.{AllByRecursion}
 use Rattle.sqlite.specs.Order.{Row}
 use Rattle.sqlite.specs.Term.{Term}
@@ -73,7 +73,7 @@ module _ (limit : Option ℕ) (mode : Mode) (params : Row) (schema : Schema) (at
         let same : w.trees ≡ db = ap (λ (it : Written). it.trees) (same_value h) in
         record {
           made = inr (record { was = s.0; there = s.1; has_key = s.2; rows = ap (λ (t : Trees). t table.tree) same });
-          others = as_they_were schema.tables table.tree db w.trees same
+          others = as_they_were schema.tables table.tree db w.trees same;
         }
 
     judged : (verdict : Option Refusal) → Judged task Abort (clause ∷ []) new db verdict (Ok w) → Is

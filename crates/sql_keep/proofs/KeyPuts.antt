@@ -1,14 +1,14 @@
 -- A row that is put in by its key, as a permutation.
-use Rattle.std.proofs.Common.{◌≡◌, Bool, true, not, cond, List, [], ◌∷◌, map, filter, refl, sym, ap, ◌∙◌, Ordering,
-    Less, Equal, Greater, is_eq, IsPermutation, subst}
+use Rattle.std.proofs.Common.{◌≡◌, Bool, true, not, cond, List, [], ◌∷◌, map, filter, refl, sym, ap, ◌∙◌, Ordering}
+use Rattle.std.proofs.Common.{Less, Equal, Greater, is_eq, IsPermutation, subst}
 use Rattle.std.specs.List.{AllByRecursion}
 use Rattle.std.specs.Cmp.{IsTotalOrder}
 use Rattle.std.specs.Ordering.{ordering_reverse, match_ordering}
-use Rattle.std.proofs.lemmas.List.Sorted.{IsPermutation-refl, IsPermutation-cons, IsPermutation-trans,
-    IsPermutation-middle, IsPermutation-map, IsPermutation-sym}
+use Rattle.std.proofs.lemmas.List.Sorted.{IsPermutation-refl, IsPermutation-cons, IsPermutation-trans}
+use Rattle.std.proofs.lemmas.List.Sorted.{IsPermutation-middle, IsPermutation-map, IsPermutation-sym}
 use Rattle.sqlite.specs.Order.{Row}
-use Rattle.sqlite_keyed.proofs.ListLemmas.{all_weaker, filter_all, filter-map, filter_same, IsPermutation-filter,
-    IsPermutation-same}
+use Rattle.sqlite_keyed.proofs.ListLemmas.{all_weaker, filter_all, filter-map, filter_same, IsPermutation-filter}
+use Rattle.sqlite_keyed.proofs.ListLemmas.{IsPermutation-same}
 use Rattle.std.specs.List.Sorted.{IsStrictlySortedBy}
 use Rattle.ledger.specs.Changes.{put_row}
 use Rattle.sql_keep.specs.StoreContent.{AreRows}
@@ -49,14 +49,14 @@ module _ {X : Type 0} (cmp : X → X → Ordering) (total : IsTotalOrder cmp) wh
     where
       go : (o : Ordering) → cmp y x ≡ o → IsPermutation (put_by cmp ys x) (x ∷ others x ys)
           → IsPermutation (match_ordering o (y ∷ put_by cmp ys x) (x ∷ ys) (x ∷ y ∷ ys))
-              (x ∷ cond (not (is_eq o)) (y ∷ others x ys) (others x ys))
+          (x ∷ cond (not (is_eq o)) (y ∷ others x ys) (others x ys))
       go Less e more = IsPermutation-trans _ _ _ (IsPermutation-cons y _ _ more) (IsPermutation-middle (y ∷ []) x _)
       go Equal e more =
           IsPermutation-same _ _ (ap (λ l. x ∷ l)
-              (sym (kept x ys (all_weaker _ (λ z. cmp x z ≡ Less) (λ z h. sym (total.congr y x z e) ∙ h) ys up.0))))
+          (sym (kept x ys (all_weaker _ (λ z. cmp x z ≡ Less) (λ z h. sym (total.congr y x z e) ∙ h) ys up.0))))
       go Greater e more =
           IsPermutation-same _ _ (ap (λ l. x ∷ y ∷ l)
-              (sym (kept x ys (all_weaker _ (λ z. cmp x z ≡ Less) (λ z h. total.trans x y z (above x y e) h) ys up.0))))
+          (sym (kept x ys (all_weaker _ (λ z. cmp x z ≡ Less) (λ z h. total.trans x y z (above x y e) h) ys up.0))))
 
   -- the rows after one that has a key is put in place of those that have it
   module _ (shows : Row → Row) (cells : X → Row) (x : X) (same : Row → Bool)
@@ -68,14 +68,14 @@ module _ {X : Type 0} (cmp : X → X → Ordering) (total : IsTotalOrder cmp) wh
         IsPermutation-trans _ _ _ (IsPermutation-map shows _ _ put)
         (IsPermutation-trans _ _ _
         (IsPermutation-same (map shows (new ∷ filter (λ r. not (same (shows r))) rows))
-            (cells x ∷ filter (λ c. not (same c)) (map shows rows)) first)
+        (cells x ∷ filter (λ c. not (same c)) (map shows rows)) first)
         (IsPermutation-trans _ _ _
         (IsPermutation-cons (cells x) _ _ (IsPermutation-filter (λ c. not (same c)) _ _ are.same))
         (IsPermutation-trans _ _ _
         (IsPermutation-same (cells x ∷ filter (λ c. not (same c)) (map cells xs)) (map cells (x ∷ others x xs)) second)
         (IsPermutation-map cells _ _
-            (IsPermutation-sym _ _ (subst (λ l. IsPermutation l (x ∷ others x xs)) (sym (put_is cmp total x xs))
-                (put_permutes x xs are.sorted)))))))
+        (IsPermutation-sym _ _ (subst (λ l. IsPermutation l (x ∷ others x xs)) (sym (put_is cmp total x xs))
+        (put_permutes x xs are.sorted)))))))
       where
         first : map shows (new ∷ filter (λ r. not (same (shows r))) rows) ≡ cells x ∷ filter (λ c. not (same c)) (map shows rows)
         first =
@@ -85,5 +85,5 @@ module _ {X : Type 0} (cmp : X → X → Ordering) (total : IsTotalOrder cmp) wh
         second : cells x ∷ filter (λ c. not (same c)) (map cells xs) ≡ map cells (x ∷ others x xs)
         second =
             ap (λ l. cells x ∷ l) (filter-map (λ c. not (same c)) cells xs
-                ∙ ap (map cells)
-                    (filter_same (λ y. not (same (cells y))) (λ y. not (is_eq (cmp y x))) (λ y. ap not (tells y)) xs))
+            ∙ ap (map cells)
+            (filter_same (λ y. not (same (cells y))) (λ y. not (is_eq (cmp y x))) (λ y. ap not (tells y)) xs))

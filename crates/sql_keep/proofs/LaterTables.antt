@@ -1,6 +1,6 @@
 -- The rows of an older version in the tables of the newest: those that later versions have brought have none.
-use Rattle.std.proofs.Common.{◌≡◌, ◌∙◌, ◌<◌, ◌≤◌, ◌++◌, ◌⊎◌, Bool, false, true, inl, inr, arith, ℕ, zero, suc, List, [],
-    ap, map, nat_le, refl, subst, sym}
+use Rattle.std.proofs.Common.{◌≡◌, ◌∙◌, ◌<◌, ◌≤◌, ◌++◌, ◌⊎◌, Bool, false, true, inl, inr, arith, ℕ, zero, suc, List, []}
+use Rattle.std.proofs.Common.{ap, map, nat_le, refl, subst, sym}
 use Rattle.std.specs.List.Sorted.{IsStrictlySortedBy}
 use Rattle.sqlite.specs.Effect.{Database}
 use Rattle.sqlite.specs.Order.{Row}
@@ -35,7 +35,7 @@ unfolding IsStrictlySortedBy
 none t rows is = record {
   same = IsPermutation-same _ _ (ap (map (stored t)) is);
   sorted = tt;
-  numbers = subst HaveNumbers (sym is) tt
+  numbers = subst HaveNumbers (sym is) tt;
 }
 
 no_rows : (t : TableName) → rows_of t no_content ≡ []
@@ -54,7 +54,7 @@ not_earlier t = grind arith
 pub nothing : (trees : Trees) → HasRowsOf 0 trees no_content
 nothing trees = record {
   rows = λ t early. absurd (let some = not_earlier t in omega (arith, early, some));
-  none = λ t late. no_rows t
+  none = λ t late. no_rows t;
 }
 
 -- each version's tables and those that came later are the tables of the newest
@@ -72,13 +72,13 @@ module _ (v : ℕ) (old new : Database) (adds : AddsTables (tables_of v) (tables
       by true is =
           let early : since t ≤ v = upto-true (since t) v is in
           subst (λ rows. Stores t rows (rows_of t x))
-              (sym (of_each (λ u. new.trees u.tree ≡ old.trees u.tree) (schema_of v).tables (declared t) adds.others
-                  (in_version v t early))) (has.rows t early)
+          (sym (of_each (λ u. new.trees u.tree ≡ old.trees u.tree) (schema_of v).tables (declared t) adds.others
+          (in_version v t early))) (has.rows t early)
       by false is =
           let late : v < since t = upto-false (since t) v is in
           subst (Stores t (new.trees (declared t).tree)) (sym (has.none t late))
-              (none t _
-                  (of_each (λ u. new.trees (declared u).tree ≡ []) (tables_after v) t adds.empty (is_late v t late)))
+          (none t _
+          (of_each (λ u. new.trees (declared u).tree ≡ []) (tables_after v) t adds.empty (is_late v t late)))
 
   listed : v < newest
       → (tables_after v ≡ []) ⊎ Lists (new.trees catalog_tree) (schema_with (tables_of v ++ tables_after v))
@@ -95,5 +95,5 @@ module _ (v : ℕ) (old new : Database) (adds : AddsTables (tables_of v) (tables
         schema_is = adds.schema_is ∙ all;
         content =
             content_now new.trees x (subst (Lists (new.trees catalog_tree)) all (listed late adds.lists))
-                (rows_later x has)
+            (rows_later x has);
       }

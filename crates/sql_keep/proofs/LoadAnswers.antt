@@ -47,13 +47,13 @@ module _ {R : Type 0} (t : TableName) (cells : R → Cells t) where
   loaded tree answers rows same is sorted = record {
     same =
         subst (IsPermutation (map (stored t) tree)) (read answers rows is)
-            (subst (λ l. IsPermutation l (map (shown t) answers)) (as_stored tree)
-                (IsPermutation-map (shown t) _ _ same));
+        (subst (λ l. IsPermutation l (map (shown t) answers)) (as_stored tree)
+        (IsPermutation-map (shown t) _ _ same));
     sorted = sorted;
     numbers = all_weaker (λ r. IsTrue (is_int (column (selected t r) (rowid_at t)))) (λ r. IsTrue (is_int (rowid r)))
         (λ r h. subst (λ v. IsTrue (is_int v)) (number t r) h) tree
         (all_unmap (λ a. IsTrue (is_int (column a (rowid_at t)))) (selected t) tree
         (recursion_from_All _ _ (All-permutation (λ a. IsTrue (is_int (column a (rowid_at t)))) answers
-            (map (selected t) tree) (IsPermutation-sym _ _ same)
-            (All-from_recursion _ answers (are_numbers answers rows is)))));
+        (map (selected t) tree) (IsPermutation-sym _ _ same)
+        (All-from_recursion _ answers (are_numbers answers rows is)))));
   }

@@ -1,6 +1,6 @@
 -- What the statements that make tables do.
-use Rattle.std.proofs.Common.{arith, ◌≡◌, ◌⊎◌, ◌<◌, ◌≤◌, ◌+◌, inl, inr, ℕ, zero, suc, false, get_or, length, map, refl,
-    take, List, [], ◌∷◌, ◌++◌, Ok, Err, Result, None, sym, ap, subst, ◌∙◌}
+use Rattle.std.proofs.Common.{arith, ◌≡◌, ◌⊎◌, ◌<◌, ◌≤◌, ◌+◌, inl, inr, ℕ, zero, suc, false, get_or, length, map, refl}
+use Rattle.std.proofs.Common.{take, List, [], ◌∷◌, ◌++◌, Ok, Err, Result, None, sym, ap, subst, ◌∙◌}
 use Rattle.std.specs.Prelude.{OnOk}
 use Rattle.std.proofs.lemmas.List.{append-nil, append_assoc, take_more}
 use Rattle.std.specs.List.{AllByRecursion as Each}
@@ -69,10 +69,12 @@ module _ (t : TableName) (text : List ℕ) (means : MakesTable t text) where
         lists = inr (subst (Lists (new.now.trees catalog_tree)) schema w.sound.lists);
         others =
             subst (λ (d : Database). KeepsRows prior.tables old.now.trees d.trees) (sym now)
-                (subst (λ s. KeepsRows s.tables old.now.trees first.0.trees) is made.others);
-        empty =
-            (ap (λ n. new.now.trees n) (sym (next_is t)) ∙ ap (λ (d : Database). d.trees (next_tree prior)) now
-                ∙ subst (λ s. first.0.trees (next_tree s) ≡ []) is made.empty, tt);
+            (subst (λ s. KeepsRows s.tables old.now.trees first.0.trees) is made.others);
+        empty = (
+          ap (λ n. new.now.trees n) (sym (next_is t)) ∙ ap (λ (d : Database). d.trees (next_tree prior)) now
+              ∙ subst (λ s. first.0.trees (next_tree s) ≡ []) is made.empty,
+          tt,
+        );
       }
 
   pub added_table : (old new : State) (r : Result ℕ Error) → ExecutesInside 0 text [] old new r
@@ -81,7 +83,7 @@ module _ (t : TableName) (text : List ℕ) (means : MakesTable t text) where
   added_table old new (Ok count) h = record {
     mode = h.1.mode;
     committed = h.1.committed_is;
-    is = λ is. adds_table old new count is h.0
+    is = λ is. adds_table old new count is h.0;
   }
 
 -- ---- one more
@@ -96,7 +98,7 @@ adds_none first db is = record {
   schema_is = is ∙ ap schema_with (sym (append-nil first));
   lists = inl refl;
   others = keeps_itself (schema_with first).tables db.trees;
-  empty = tt
+  empty = tt;
 }
 
 -- the first tables keep their rows through both
@@ -117,7 +119,7 @@ pub adds_more : (first more : List TableName) (t : TableName) (a b c : Database)
     → AddsTables (first ++ more) (t ∷ []) b c → AddsTables first (more ++ t ∷ []) a c
 adds_more first more t a b c one two =
     let joined : schema_with ((first ++ more) ++ t ∷ []) ≡ schema_with (first ++ (more ++ t ∷ [])) =
-        ap schema_with (append_assoc first more (t ∷ [])) in
+    ap schema_with (append_assoc first more (t ∷ [])) in
     record {
       schema_is = two.schema_is ∙ joined;
       lists = inr (subst (Lists (c.trees catalog_tree)) joined (listed two.lists));
@@ -166,7 +168,7 @@ module _ (old mid new : State) (v k : ℕ) (late : v ≤ newest) where
       let some : k < length (tables_after v) = subst (λ (tables : List TableName). k < length tables) are few in
       let prior = prior_is v late k some in
       let more : take (k + 1) (tables_after v) ≡ take k (tables_after v) ++ t ∷ [] =
-          take_more (tables_after v) k table.Desk some in
+      take_more (tables_after v) k table.Desk some in
       let step : Next (tables_after v) new.now = subst (λ (tables : List TableName). Next tables new.now) are two.is in
       record {
         mode = two.mode;
@@ -174,8 +176,8 @@ module _ (old mid new : State) (v k : ℕ) (late : v ≤ newest) where
         is = λ has.
             let first = one.is has in
             let next =
-                subst (λ first. AddsTables first (t ∷ []) mid.now new.now) prior
-                    (step (first.schema_is ∙ ap schema_with (sym prior))) in
+            subst (λ first. AddsTables first (t ∷ []) mid.now new.now) prior
+            (step (first.schema_is ∙ ap schema_with (sym prior))) in
             subst (λ tables. AddsTables (tables_of v) tables old.now new.now) (sym more)
-                (adds_more (tables_of v) (take k (tables_after v)) t old.now mid.now new.now first next);
+            (adds_more (tables_of v) (take k (tables_after v)) t old.now mid.now new.now first next);
       }

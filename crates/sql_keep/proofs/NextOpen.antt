@@ -28,7 +28,7 @@ use Rattle.sql_keep.specs.StoreContent.{Holds, HoldsOf, IsContentOf, LeavesOnly}
 pub holds_content : (v : ℕ) (db : Database) (x : Content) → IsSound db.schema db.trees → IsContentOf v db.trees x → HoldsOf v db x
 holds_content v db x sound has = record {
   schema_is = lists_once (db.trees catalog_tree) db.schema (schema_of v) sound.lists has.lists;
-  content = has
+  content = has;
 }
 
 -- The files hold what a stop could leave of this store. Then an open finds one of the contents that it could leave.
@@ -40,14 +40,14 @@ found_again it numbered sound left may these only opened db found =
     ∥∥₁_map (next_run it numbered sound left may opened found) (λ may_be.
     let has = only opened.committed.trees may_be in
     let r : ((x : Content) × Holds opened.committed x × IsAmong these x) =
-        (has.0, holds_content newest opened.committed has.0 db has.1, has.2) in
+    (has.0, holds_content newest opened.committed has.0 db has.1, has.2) in
     r)
 
 pub may_after : {D : Type 0} {g : Ghosts D} (it : FileStore D g) (log db : D) (image : Image) → (log, db) ≡ files it
     → AreClean g log db → outcomes g log db image → (state it).may_leave image
 may_after {g = g} it log db image same clean may =
     may_leave_is it.pool image (subst (λ p. AreClean g p.0 p.1) same clean)
-        (subst (λ p. outcomes g p.0 p.1 image) same may)
+    (subst (λ p. outcomes g p.0 p.1 image) same may)
 
 each_is : (P : Content → Type 0) (these : List Content) (x : Content) → AllByRecursion P these → IsAmong these x → P x
 each_is P [] x all none = absurd none

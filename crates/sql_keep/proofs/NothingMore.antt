@@ -14,7 +14,7 @@ put_then_nothing old mid new changes first second =
     record {
       is_open = second.is_open;
       settled = second.settled;
-      is = λ x held. second.is (with_changes changes x) (first.is x held)
+      is = λ x held. second.is (with_changes changes x) (first.is x held);
     }
 
 pub survives_nothing : (old mid new : State) (changes : List Change) → (HasCleanDisk mid → Committed old mid changes)
@@ -29,7 +29,7 @@ pub made_then_nothing : (x : Content) (mid new : State) → IsSettled (λ db. Ho
 made_then_nothing x mid new first second = record {
   is_open = second.is_open;
   settled = second.settled;
-  is = second.is x first.is
+  is = second.is x first.is;
 }
 
 pub survives_made : (x : Content) (old mid new : State) → (HasCleanDisk mid → IsSettled (λ db. Holds db x) mid)
@@ -37,7 +37,7 @@ pub survives_made : (x : Content) (old mid new : State) → (HasCleanDisk mid �
     → Survives old new (λ trees. IsContent trees x)
 survives_made x old mid new first before behind =
     survives_then old mid new _ _ _ (λ _ trees is. is)
-        (λ clean trees is. is x (first (omega (arith, clean, behind.clean))).is) before behind
+    (λ clean trees is. is x (first (omega (arith, clean, behind.clean))).is) before behind
 
 -- what a proof reads where nothing more is put in
 pub ruleset nothing_more = (put_then_nothing, survives_nothing, made_then_nothing, survives_made)

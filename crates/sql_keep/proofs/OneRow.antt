@@ -1,6 +1,6 @@
 -- What a statement INSERT .. VALUES of one row ON CONFLICT does is what it does with that row, for a table with no reference and no counter.
-use Rattle.std.proofs.Common.{◌≡◌, ℕ, ℤ, List, [], ◌∷◌, Bool, true, false, not, Some, None, Option, Ok, refl, sym, ap,
-    subst, ◌∙◌, ◌/◌, length, slice_get, ◌&&◌}
+use Rattle.std.proofs.Common.{◌≡◌, ℕ, ℤ, List, [], ◌∷◌, Bool, true, false, not, Some, None, Option, Ok, refl, sym, ap}
+use Rattle.std.proofs.Common.{subst, ◌∙◌, ◌/◌, length, slice_get, ◌&&◌}
 use Rattle.sqlite.specs.Order.{Row}
 use Rattle.sqlite.specs.Term.{Term}
 use Rattle.sqlite_schema.specs.declared.schema.Table.{Table}
@@ -44,7 +44,7 @@ module _ (limit : Option ℕ) (mode : Mode) (params : Row) (schema : Schema) (at
       let same : w ≡ _ = same_value wrote.2 in
       let edit = edit_of db table [] Given 0 (new ∷ []) in
       let a : Applies schema mode.keys db edit w.trees =
-          rw same (one_step schema mode.keys db wrote.0 edit (idle (taken_by db edit) edit.news) wrote.1) in
+      rw same (one_step schema mode.keys db wrote.0 edit (idle (taken_by db edit) edit.news) wrote.1) in
       let b = subst (λ n. Applies schema mode.keys db (record { table = table; gone = []; news = n ∷ [] }) w.trees) steady a in
       record { added = record { none = none; fresh = freed _ _ b.fresh; rows = b.rows }; others = b.tables }
 
@@ -78,8 +78,8 @@ module _ (limit : Option ℕ) (mode : Mode) (params : Row) (schema : Schema) (at
           let tried = went counter.2 in
           let counted = went tried.2 in
           let same : w.trees ≡ tried.0.0.trees =
-              ap (λ (it : Written). it.trees) (same_value counted.2)
-              ∙ counts tried.0.0.trees counted.0 counter.0 tried.0.1 counted.1 in
+          ap (λ (it : Written). it.trees) (same_value counted.2)
+          ∙ counts tried.0.0.trees counted.0 counter.0 tried.0.1 counted.1 in
           subst Is (sym same) (each rows.0 (rows.1.1 ∙ reads) _ tried.0 tried.1)
 
     pub puts_one : (text : List ℕ) (db : Database) (has : db.schema ≡ schema) (tally : Tally) (after : Database)
@@ -92,14 +92,15 @@ module _ (limit : Option ℕ) (mode : Mode) (params : Row) (schema : Schema) (at
           keys = mode.keys;
           schema = schema;
           table = t;
-          params = params
+          params = params;
         }) mode None (InsertOr at Abort (Values terms width) clauses) db.trees) (slice_get schema.tables at)
-            (Ok (tally, after)) =
+        (Ok (tally, after)) =
         subst (λ s. Does limit mode params (record db { schema = s }) text None
-            (InsertOr at Abort (Values terms width) clauses) (Ok (tally, after))) has h in
+        (InsertOr at Abort (Values terms width) clauses) (Ok (tally, after))) has h in
         let ran : OnRows task mode None (InsertOr at Abort (Values terms width) clauses) db.trees (Ok (tally, after)) =
-            rw is at own in
+        rw is at own in
         let done = went ran in
-        let now = ap (λ (p : Tally × Database). p.1) (same_value (went (went done.2).2).2) in
-        (ap (λ (d : Database). d.schema) now,
-            subst Is (sym (ap (λ (d : Database). d.trees) now)) (inserts db.trees tries done.0 done.1))
+        let now = ap (λ (p : Tally × Database). p.1) (same_value (went (went done.2).2).2) in (
+          ap (λ (d : Database). d.schema) now,
+          subst Is (sym (ap (λ (d : Database). d.trees) now)) (inserts db.trees tries done.0 done.1),
+        )

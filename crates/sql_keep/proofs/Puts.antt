@@ -26,12 +26,12 @@ use Rattle.sql_keep.proofs.Upserts.{PutsIntoTable, puts_into}
 -- where the statement has put them in, the transaction goes on
 upserted : (text : List ℕ) (columns : Row) (changes : List Change) (old new : State)
     → ((count : ℕ) → Executes text columns old new (Ok count) → (x : Content) → Holds old.now x
-        → Holds new.now (with_changes changes x))
+    → Holds new.now (with_changes changes x))
     → (r : Result ℕ Error) → ExecutesInside 0 text columns old new r → OnOk r (PutsIn old new changes)
 upserted text columns changes old new holds (Ok count) h = record {
   mode = h.1.mode;
   committed = h.1.committed_is;
-  is = holds count h.0
+  is = holds count h.0;
 }
 upserted text columns changes old new holds (Err e) h = tt
 
@@ -68,8 +68,8 @@ rows_put (change.Kept row) table.Kept old new x puts was = puts.own x.kept was
 rows_put (change.Firm row) table.Firm old new x puts was = puts.own x.firms was
 rows_put c t old new x puts was =
     subst (λ rows. Stores t rows (rows_of t x))
-        (sym (of_each (λ u. u.tree ≢ (declared (table_of c)).tree → new.trees u.tree ≡ old.trees u.tree)
-            desk_schema.tables (declared t) puts.others (is_among t) (λ e. omega (arith, e)))) was
+    (sym (of_each (λ u. u.tree ≢ (declared (table_of c)).tree → new.trees u.tree ≡ old.trees u.tree)
+    desk_schema.tables (declared t) puts.others (is_among t) (λ e. omega (arith, e)))) was
 
 pub holds_put : (c : Change) (old new : Database) (x : Content) → PutsIntoTable (table_of c) (cells_of c) old new
     → Holds old x → Holds new (with_changes (c ∷ []) x)
@@ -77,7 +77,7 @@ holds_put c old new x puts held = record {
   schema_is = puts.schema_is;
   content =
       content_now new.trees (with_changes (c ∷ []) x) puts.lists
-          (λ t. rows_put c t old new x puts (held.content.has.rows t (is_now t)));
+      (λ t. rows_put c t old new x puts (held.content.has.rows t (is_now t)));
 }
 
 -- what the statement of a row's table does
@@ -85,8 +85,8 @@ pub row_upserted : (c : Change) (text : List ℕ) → PutsRow (table_of c) text 
     → ExecutesInside 0 text (columns (table_of c) (cells_of c)) old new r → OnOk r (PutsIn old new (c ∷ []))
 row_upserted c text means old new = upserted text (columns (table_of c) (cells_of c)) (c ∷ []) old new (λ count h x held.
     holds_put c old.now new.now x
-        (puts_into (table_of c) text means old new (cells_of c) count held.schema_is h (rows_of (table_of c) x)
-            (held.content.has.rows (table_of c) (is_now (table_of c)))) held)
+    (puts_into (table_of c) text means old new (cells_of c) count held.schema_is h (rows_of (table_of c) x)
+    (held.content.has.rows (table_of c) (is_now (table_of c)))) held)
 
 -- ---- rows put in one after another
 

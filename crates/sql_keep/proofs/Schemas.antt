@@ -55,7 +55,7 @@ pub of_a_version : {T : Type 0} (schema : Schema) (v : ℕ) (answer : Result T K
     → HasNames schema → 1 ≤ v → v ≤ newest → schema ≡ schema_of v → TellsOtherSchema schema answer is_left
 of_a_version schema v answer is_left names some late is = record {
   nameless = λ none. absurd (none names);
-  other = λ _ none. absurd (none (v, some, late, is))
+  other = λ _ none. absurd (none (v, some, late, is));
 }
 
 -- the rows of a table lie where the version has it
@@ -70,7 +70,7 @@ pub is_of_version : (db : Database) (v : ℕ) (row : DeskCells) → 1 ≤ v → 
     → Stores table.Desk (db.trees desk_table.tree) (row ∷ []) → row.version ≡ pos v → IsOfVersion v db
 is_of_version db v row some is are version =
     let there : (t : TableName) → since t ≤ v → IsAmong db.schema.tables (declared t) =
-        λ t early. subst (λ (s : Schema). IsAmong s.tables (declared t)) (sym is) (in_version v t early) in
+    λ t early. subst (λ (s : Schema). IsAmong s.tables (declared t)) (sym is) (in_version v t early) in
     record {
       desk = (row, (desk_table.tree, there table.Desk some, are), version);
       tables = λ t early. ((declared t).tree, there t early, tt);
@@ -84,5 +84,5 @@ holds_one_row db zero x row held one version =
     absurd (let none = sym (held.content.has.none table.Desk (omega arith)) ∙ one in cc)
 holds_one_row db (suc v) x row held one version =
     is_of_version db (suc v) row (omega arith) held.schema_is
-        (subst (Stores table.Desk (db.trees desk_table.tree)) one (held.content.has.rows table.Desk (omega arith)))
-        version
+    (subst (Stores table.Desk (db.trees desk_table.tree)) one (held.content.has.rows table.Desk (omega arith)))
+    version

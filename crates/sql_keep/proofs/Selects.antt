@@ -1,6 +1,6 @@
 -- What the selects answer: each stored row once, and nothing is changed.
-use Rattle.std.proofs.Common.{arith, ◌≡◌, ◌∙◌, List, [], ◌∷◌, ℕ, Ok, Err, Result, refl, sym, ap, ap₂, ◌≤◌, subst, map,
-    IsPermutation}
+use Rattle.std.proofs.Common.{arith, ◌≡◌, ◌∙◌, List, [], ◌∷◌, ℕ, Ok, Err, Result, refl, sym, ap, ap₂, ◌≤◌, subst, map}
+use Rattle.std.proofs.Common.{IsPermutation}
 use Rattle.std.specs.Prelude.{Vec, OnOk, IfOk, flat_map}
 use Rattle.std.specs.declared.alloc.Global.{Global}
 use Rattle.std.proofs.lemmas.List.Sorted.{IsPermutation-map, IsPermutation-trans}
@@ -25,7 +25,7 @@ use Rattle.keep.specs.declared.table_row.TableName.{TableName}
 
 shown_each : (query : Query) (rows : List Row)
     → map (λ (p : Output). p.1) (map (output query) (flat_map (λ r. ([] ∷ r ∷ []) ∷ []) rows))
-        ≡ map (λ r. eval_all query.project ([] ∷ r ∷ [])) rows
+    ≡ map (λ r. eval_all query.project ([] ∷ r ∷ [])) rows
 shown_each query [] = refl
 shown_each query (r ∷ rows) = ap (λ l. eval_all query.project ([] ∷ r ∷ []) ∷ l) (shown_each query rows)
 
@@ -55,13 +55,13 @@ module _ (t : TableName) (schema : Schema) (text : List ℕ) (lists : ListsTable
       let got = reads_as text [] old new schema has _ lists.command lists.plain lists.aside rows h in
       let a : IsAnswer query (overlay old.now.trees []) [] rows = got.answer Null in
       let staged : a.staged ≡ flat_map (λ r. ([] ∷ r ∷ []) ∷ []) (tree old.now.trees) =
-          a.grouped ∙ ap (λ rows. flat_map (λ (r : Row). ([] ∷ r ∷ []) ∷ []) rows) (own t old.now.trees) in
+      a.grouped ∙ ap (λ rows. flat_map (λ (r : Row). ([] ∷ r ∷ []) ∷ []) rows) (own t old.now.trees) in
       let kept : map (λ (p : Output). p.1) a.kept ≡ map (selected t) (tree old.now.trees) =
-          ap (map (λ (p : Output). p.1)) (a.distinct ∙ ap (map (output query)) staged)
-          ∙ shown_each query (tree old.now.trees) ∙ map_is _ _ (project_is t) (tree old.now.trees) in
+      ap (map (λ (p : Output). p.1)) (a.distinct ∙ ap (map (output query)) staged)
+      ∙ shown_each query (tree old.now.trees) ∙ map_is _ _ (project_is t) (tree old.now.trees) in
       IsPermutation-trans _ _ _ (IsPermutation-same _ _ (sym kept))
-          (IsPermutation-trans _ _ _ (IsPermutation-map (λ (p : Output). p.1) _ _ a.same)
-              (IsPermutation-same _ _ (sym a.shown)))
+      (IsPermutation-trans _ _ _ (IsPermutation-map (λ (p : Output). p.1) _ _ a.same)
+      (IsPermutation-same _ _ (sym a.shown)))
 
   shown_same : (old new : State) (rows : List Row) → old.now.schema ≡ schema → Shown text [] old new rows → IsUnchanged old new
   unfolding Shown
@@ -88,7 +88,7 @@ module _ (t : TableName) (schema : Schema) (text : List ℕ) (lists : ListsTable
       → Survives old new (λ _. ¬ (old.now.schema ≡ schema))
   survives_if old new =
       survives_weaker old new _ _
-          (λ _ db commits has. never_commits text [] old db (plain_if old.now.schema has) commits)
+      (λ _ db commits has. never_commits text [] old db (plain_if old.now.schema has) commits)
 
 -- of each version that has the table
 module _ (t : TableName) (text : List ℕ) (lists : (v : ℕ) → since t ≤ v → v ≤ newest → ListsTable (schema_of v) t text) where
@@ -108,4 +108,4 @@ module _ (t : TableName) (text : List ℕ) (lists : (v : ℕ) → since t ≤ v 
       → Survives before after (CommitsShowing text [] before) → Survives before after (λ _. ⊥)
   survives before after is =
       survives_weaker before after _ _
-          (λ _ db commits. never_commits text [] before db (plain before.now.schema is) commits)
+      (λ _ db commits. never_commits text [] before db (plain before.now.schema is) commits)

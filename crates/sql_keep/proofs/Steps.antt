@@ -15,7 +15,7 @@ survives_itself s P = record {
   counts = omega arith;
   limit = refl;
   closes = λ clean h. inl h;
-  crash = λ clean db h. inl h
+  crash = λ clean db h. inl h;
 }
 
 -- one read after another
@@ -34,5 +34,5 @@ pub reads_only : (a b c : State) → Survives b c (λ _. ¬ (b.now.schema ≡ de
     → Survives a b (λ _. ¬ (a.now.schema ≡ desk_schema)) → Survives a c (λ _. ¬ (a.now.schema ≡ desk_schema))
 reads_only a b c second same first =
     survives_then a b c _ _ _ (λ _ db h. h)
-        (λ clean db other has.
-            other (ap (λ d. d.schema) (same (omega (arith, clean, second.clean)) has).0.now_is ∙ has)) first second
+    (λ clean db other has.
+    other (ap (λ d. d.schema) (same (omega (arith, clean, second.clean)) has).0.now_is ∙ has)) first second

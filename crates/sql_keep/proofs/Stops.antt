@@ -1,6 +1,6 @@
 -- What a stop leaves of a store that is settled, and of one after a commit that may have failed.
-use Rattle.std.proofs.Common.{◌≡◌, ◌∙◌, Bool, ap₂, arith, false, inl, inr, is_err, true, List, [], ◌∷◌, Err, Result, ap,
-    refl, subst, sym}
+use Rattle.std.proofs.Common.{◌≡◌, ◌∙◌, Bool, ap₂, arith, false, inl, inr, is_err, true, List, [], ◌∷◌, Err, Result, ap}
+use Rattle.std.proofs.Common.{refl, subst, sym}
 use Rattle.std.specs.Prelude.{IsTrue}
 use Rattle.sqlite.specs.Effect.{Database}
 use Rattle.sqlite.specs.Held.{Held, state}
@@ -45,7 +45,7 @@ leaves_either old new changes x survives clean held alone trees left = elim (sur
 pub stopped_over : {S T E : Type 0} (r : Result T E) (fault : E) (connection was : Held S) (stopped : Bool)
     → stopped ≡ is_err r → r ≡ Err fault → connection ≡ was
     → let now : Keeper S = record { connection = connection; stopped = stopped } in
-        now ≡ record { connection = was; stopped = true }
+    now ≡ record { connection = was; stopped = true }
 stopped_over {S} r fault connection was stopped told is same =
     ap₂ (λ (c : Held S) (b : Bool). let k : Keeper S = record { connection = c; stopped = b } in k) same (told ∙ ap is_err is)
 
@@ -92,7 +92,7 @@ module _ {S : Type 0} (g : Ghosts S) (old last new : Held S) where
   committed Is made h = record {
     is_open = h.is_open;
     settled = h.committed_is ∙ sym h.now_is;
-    is = subst Is (sym h.now_is) made.is
+    is = subst Is (sym h.now_is) made.is;
   }
 
   -- or a stop leaves what was before
@@ -102,5 +102,5 @@ module _ {S : Type 0} (g : Ghosts S) (old last new : Held S) where
       → Survives (state g old) (state g new) P
   survives_commit P made first second =
       survives_then (state g old) (state g last) (state g new) _ _ P (λ _ trees none. absurd none)
-          (λ clean trees is. subst P (sym is) (made (omega (arith, clean, second.clean))))
-          (survives_begin g old (state g last) _ first) second
+      (λ clean trees is. subst P (sym is) (made (omega (arith, clean, second.clean))))
+      (survives_begin g old (state g last) _ first) second

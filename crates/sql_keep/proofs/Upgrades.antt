@@ -1,6 +1,6 @@
 -- What an upgrade does: the tables of later versions are made beside the others, and the row of `desk` is put in.
-use Rattle.std.proofs.Common.{◌≡◌, ◌∙◌, ◌<◌, ◌≤◌, Ok, Err, Result, ℕ, List, [], ◌∷◌, IsTrue, ap, arith, pos, map, refl,
-    subst, sym}
+use Rattle.std.proofs.Common.{◌≡◌, ◌∙◌, ◌<◌, ◌≤◌, Ok, Err, Result, ℕ, List, [], ◌∷◌, IsTrue, ap, arith, pos, map, refl}
+use Rattle.std.proofs.Common.{subst, sym}
 use Rattle.std.proofs.lemmas.Cmp.{int_cmp_total, tied_itself}
 use Rattle.std.specs.Prelude.{OnOk}
 use Rattle.sqlite.specs.Effect.{Database}
@@ -28,7 +28,7 @@ use Rattle.sql_keep.proofs.Schemas.{is_of, is_of_version, rows_there}
 -- the tables are made, and then the row is put in
 pub raises_in : (a b c : State) (v : ℕ) (row : DeskRow) → v < newest → a.now.schema ≡ schema_of v → Survives b c (λ _. ⊥)
     → (HasCleanDisk b → IsTrue a.in_transaction
-        → Makes (λ db. a.now.schema ≡ schema_of v → AddsTables (tables_of v) (tables_after v) a.now db) a b)
+    → Makes (λ db. a.now.schema ≡ schema_of v → AddsTables (tables_of v) (tables_after v) a.now db) a b)
     → (HasCleanDisk c → IsTrue b.in_transaction → PutsIn b c (change.Desk row ∷ [])) → HasCleanDisk c
     → IsTrue a.in_transaction → Makes (IsRaised v row a.now) a c
 raises_in a b c v row old has second make put clean begun =
@@ -37,7 +37,7 @@ raises_in a b c v row old has second make put clean begun =
     record {
       mode = more.mode;
       committed = more.committed ∙ made.committed;
-      is = λ x rows. more.is x (holds_later v a.now b.now (made.is has) old x rows)
+      is = λ x rows. more.is x (holds_later v a.now b.now (made.is has) old x rows);
     }
 
 -- ---- the row of the older version is replaced
@@ -51,13 +51,13 @@ module _ (db : Database) (v : ℕ) (old : v < newest) (some : 1 ≤ v) (is_schem
   rows_of_v : (x : Content) → HoldsOld db x → HasRowsOf v db.trees x
   rows_of_v x held =
       subst (λ w. HasRowsOf w db.trees x)
-          (one_schema db.schema held.0 v (omega (arith, held.1.1)) (omega (arith, old)) held.2.schema_is is_schema)
-          held.2.content.has
+      (one_schema db.schema held.0 v (omega (arith, held.1.1)) (omega (arith, old)) held.2.schema_is is_schema)
+      held.2.content.has
 
   same_row : (x : Content) → HoldsOld db x → put_row desk_cmp (desk_cells row) x.desk ≡ map raised x.desk
   same_row x held =
       let one : x.desk ≡ was ∷ [] =
-          rows_once table.Desk (db.trees 0) (was ∷ []) x.desk are ((rows_of_v x held).rows table.Desk some) in
+      rows_once table.Desk (db.trees 0) (was ∷ []) x.desk are ((rows_of_v x held).rows table.Desk some) in
       (λ i. put_row desk_cmp (is i) (one i)) ∙ replaced was (raised was) refl ∙ sym (ap (map raised) one)
 
   with_it : (x : Content) → HoldsOld db x → with_row row x ≡ upgraded x
@@ -94,7 +94,7 @@ module _ (start mid new : State) (v : ℕ) (old : v < newest) (some : 1 ≤ v) (
         settled = raised.settled;
         whole =
             whole_now start.now v old some has (desk_cells was) row is (read clean).1 new.now
-                (subst (λ db. IsRaised v row db new.now) same raised.is);
+            (subst (λ db. IsRaised v row db new.now) same raised.is);
       }
 
   pub survives_upgrade : Survives start mid (λ _. ⊥) → Survives start new (AreUpgraded start.now)
@@ -104,7 +104,7 @@ module _ (start mid new : State) (v : ℕ) (old : v < newest) (some : 1 ≤ v) (
         was = was_old clean;
         whole =
             whole_in start.now v old some has (desk_cells was) row is (read clean).1 db
-                (subst (λ now. AreRaised v row now db) (read clean).0.0.now_is made);
+            (subst (λ now. AreRaised v row now db) (read clean).0.0.now_is made);
       })
       first second
 
@@ -117,7 +117,7 @@ not_old db v late is none old =
     let row = old.2.desk.0 in
     let same : old.0 ≡ v = is_of db old.0 v late is (omega (arith, old.1.1)) old.2 in
     none (row ∷ []) (rows_there db v table.Desk (λ rows. Stores table.Desk rows (row ∷ [])) is old.2.desk.1)
-        (row, refl, subst (λ v. IsVersion (pos v) row) same old.2.desk.2)
+    (row, refl, subst (λ v. IsVersion (pos v) row) same old.2.desk.2)
 
 pub not_current : (db : Database) (x : Content) → db.schema ≡ desk_schema
     → ((rows : List DeskCells) → Stores table.Desk (db.trees 0) rows → ¬ IsOneRow (pos newest) rows) → HasTables db x
@@ -137,7 +137,7 @@ pub settled_new : {U E : Type 0} (old : Database) (new : State) (row : DeskRow) 
 settled_new old new row (Ok done) is h = record {
   is_open = h.is_open;
   settled = h.settled;
-  is = subst (Holds new.now) (is_new row is) (h.is no_content (nothing old.trees))
+  is = subst (Holds new.now) (is_new row is) (h.is no_content (nothing old.trees));
 }
 settled_new old new row (Err e) is h = tt
 
@@ -145,4 +145,4 @@ pub survives_new : (old new : State) (row : DeskRow) → desk_cells row ≡ new_
     → Survives old new (AreRaised 0 row old.now) → Survives old new (λ trees. IsContent trees new_content)
 survives_new old new row is has =
     survives_weaker old new _ _
-        (λ _ trees made. subst (IsContent trees) (is_new row is) (made has no_content (nothing old.now.trees)))
+    (λ _ trees made. subst (IsContent trees) (is_new row is) (made has no_content (nothing old.now.trees)))

@@ -1,7 +1,7 @@
 -- What a statement INSERT .. VALUES of one row ON CONFLICT (key) DO UPDATE does, for a table with no reference and no counter.
-use Rattle.std.proofs.Common.{◌≡◌, inl, inr, ℕ, ℤ, pos, negsuc, List, [], ◌∷◌, ◌++◌, map, filter, flat_map, cond, Bool,
-    true, false, not, Some, None, Option, Ok, refl, sym, ap, subst, ◌∙◌, ◌/◌, length, slice_get, ◌&&◌, IsTrue,
-    IsPermutation, true≢false, arith, drop}
+use Rattle.std.proofs.Common.{◌≡◌, inl, inr, ℕ, ℤ, pos, negsuc, List, [], ◌∷◌, ◌++◌, map, filter, flat_map, cond, Bool}
+use Rattle.std.proofs.Common.{true, false, not, Some, None, Option, Ok, refl, sym, ap, subst, ◌∙◌, ◌/◌, length}
+use Rattle.std.proofs.Common.{slice_get, ◌&&◌, IsTrue, IsPermutation, true≢false, arith, drop}
 use Rattle.std.specs.List.{list_all}
 use Rattle.std.specs.Ordering.{is_eq}
 use Rattle.std.proofs.lemmas.Cmp.{tied_itself}
@@ -66,12 +66,12 @@ numbered_given rows (n ∷ news) = ap (λ l. n ∷ l) (numbered_given (put_row n
 
 matched : (p : Row → Bool) (given : Row) (q : Query) (rows : List Row)
     → map (λ (o : Output). o.1) (map (output q) (flat_map (λ r. cond (p r) ((given ∷ r ∷ []) ∷ []) []) rows))
-        ≡ map (λ r. eval_all q.project (given ∷ r ∷ [])) (filter p rows)
+    ≡ map (λ r. eval_all q.project (given ∷ r ∷ [])) (filter p rows)
 matched p given q [] = refl
 matched p given q (r ∷ rows) =
     elim (p r) as (λ b. map (λ (o : Output). o.1)
-        (map (output q)
-            (cond b ((given ∷ r ∷ []) ∷ []) [] ++ flat_map (λ r. cond (p r) ((given ∷ r ∷ []) ∷ []) []) rows))
+    (map (output q)
+    (cond b ((given ∷ r ∷ []) ∷ []) [] ++ flat_map (λ r. cond (p r) ((given ∷ r ∷ []) ∷ []) []) rows))
     ≡ map (λ r. eval_all q.project (given ∷ r ∷ [])) (cond b (r ∷ filter p rows) (filter p rows)))
     [ true ↦ ap (λ l. eval_all q.project (given ∷ r ∷ []) ∷ l) (matched p given q rows) | false ↦ matched p given q rows ]
 
@@ -92,7 +92,7 @@ false_unless false h = refl
 has_permuted : {X : Type 0} (xs ys : List X) (x : X) → IsPermutation xs ys → Has ys x → Has xs x
 has_permuted xs ys x same h =
     all_has (Has xs) ys x (recursion_from_All (Has xs) ys
-        (All-permutation (Has xs) xs ys same (All-from_recursion (Has xs) xs (all_from (Has xs) xs (λ e k. k))))) h
+    (All-permutation (Has xs) xs ys same (All-from_recursion (Has xs) xs (all_from (Has xs) xs (λ e k. k))))) h
 
 module _ (limit : Option ℕ) (mode : Mode) (params : Row) (schema : Schema) (at : ℕ) (table : Table)
     (is : slice_get schema.tables at ≡ Some table)
@@ -152,14 +152,14 @@ module _ (limit : Option ℕ) (mode : Mode) (params : Row) (schema : Schema) (at
       let staged : a.staged ≡ flat_map (λ r. cond (test r) ((given new there ∷ r ∷ []) ∷ []) []) (db table.tree) =
       a.grouped ∙ ap (flat_map (λ r. cond (test r) ((given new there ∷ r ∷ []) ∷ []) [])) (low db) in
       let kept : map (λ (o : Output). o.1) a.kept
-          ≡ map (λ r. rowid r ∷ set_row new there r) (filter (has_rowid id) (db table.tree)) =
+      ≡ map (λ r. rowid r ∷ set_row new there r) (filter (has_rowid id) (db table.tree)) =
       ap (map (λ (o : Output). o.1)) (a.distinct ∙ ap (map (output query)) staged)
       ∙ matched test (given new there) query (db table.tree)
       ∙ ap (map (λ r. rowid r ∷ set_row new there r))
-          (filter_same test (has_rowid id) (λ r. passes new there r id known) (db table.tree)) in
+      (filter_same test (has_rowid id) (λ r. passes new there r id known) (db table.tree)) in
       IsPermutation-trans _ _ _ (IsPermutation-same _ _ (sym kept))
-          (IsPermutation-trans _ _ _ (IsPermutation-map (λ (o : Output). o.1) _ _ a.same)
-              (IsPermutation-same _ _ (sym a.shown)))
+      (IsPermutation-trans _ _ _ (IsPermutation-map (λ (o : Output). o.1) _ _ a.same)
+      (IsPermutation-same _ _ (sym a.shown)))
 
   -- a row that is updated keeps its rowid, so a second one of the same rowid would be refused
   module _ (new : Row) (db : Trees) (was : Row) (id : ℤ) (known : rowid was ≡ Int id)
@@ -186,16 +186,16 @@ module _ (limit : Option ℕ) (mode : Mode) (params : Row) (schema : Schema) (at
         → are_fresh left (numbered Given left (map (λ s. cast_row table (drop 1 s)) rows)) ≡ true → length rows ≡ 1
     only [] perm left fresh =
         absurd (none_there was before found_there
-            (sym (length-map before made) ∙ sym (length_permutation (map made before) [] perm)))
+        (sym (length-map before made) ∙ sym (length_permutation (map made before) [] perm)))
     only (a ∷ []) perm left fresh = refl
     only (a ∷ b ∷ more) perm left fresh =
         let free = freed _ _ (later_freed _ _ fresh) in
         let first = id_of (a ∷ b ∷ more) perm a (inl refl) in
         let second = id_of (a ∷ b ∷ more) perm b (inr (inl refl)) in
         let tied : is_eq (value_cmp (rowid (cast_row table (drop 1 a))) (rowid (cast_row table (drop 1 b)))) ≡ true =
-            rw (first, second) (ap is_eq (tied_itself value_cmp_total (Int id))) in
+        rw (first, second) (ap is_eq (tied_itself value_cmp_total (Int id))) in
         absurd (true≢false (sym (some_from (λ r. is_eq (value_cmp (rowid r) (rowid (cast_row table (drop 1 b)))))
-            (put_row (cast_row table (drop 1 a)) left) (cast_row table (drop 1 a)) (has_put _ left) tied) ∙ free))
+        (put_row (cast_row table (drop 1 a)) left) (cast_row table (drop 1 a)) (has_put _ left) tied) ∙ free))
 
   resolves : (new : Row) (db : Trees) (w : Written) (keyed : HaveNumbers (db table.tree)) (cells was : Row)
       (there : Has (db table.tree) was) (has_key : conflicts (Some target) schema.indexes table new was ≡ true)
@@ -208,22 +208,22 @@ module _ (limit : Option ℕ) (mode : Mode) (params : Row) (schema : Schema) (at
       let edit = edit_of db table (ids_of rows) Given 1 rows in
       let same : w.trees ≡ wrote.0 = ap (λ (it : Written). it.trees) (same_value wrote.2) in
       let a : Applies schema mode.keys db edit w.trees =
-          subst (Applies schema mode.keys db edit) (sym same)
-              (one_step schema mode.keys db wrote.0 edit (idle (taken_by db edit) edit.news) wrote.1) in
+      subst (Applies schema mode.keys db edit) (sym same)
+      (one_step schema mode.keys db wrote.0 edit (idle (taken_by db edit) edit.news) wrote.1) in
       let id = id_in (rowid was) in
       let known = int_is (rowid was) (all_has (λ s. IsTrue (is_int (rowid s))) (db table.tree) was keyed there) in
       let perm = answered db new (rowid was ∷ []) id known rows queried.1 in
       let once = only new db was id known keyed there rows perm (without_all (db table.tree) (ids_of rows)) a.fresh in
       let alone : filter (has_rowid id) (db table.tree) ≡ was ∷ [] =
-          one_element _ was (found_there new db was id known keyed there)
-              (sym (length-map _ _) ∙ sym (length_permutation _ rows perm) ∙ once) in
+      one_element _ was (found_there new db was id known keyed there)
+      (sym (length-map _ _) ∙ sym (length_permutation _ rows perm) ∙ once) in
       let exact : rows ≡ (rowid was ∷ set_row new (rowid was ∷ []) was) ∷ [] =
       one_permutation _ rows
-          (subst (λ l. IsPermutation (map (λ r. rowid r ∷ set_row new (rowid was ∷ []) r) l) rows) alone perm) in
+      (subst (λ l. IsPermutation (map (λ r. rowid r ∷ set_row new (rowid was ∷ []) r) l) rows) alone perm) in
       let b = subst (λ l. Applies schema mode.keys db (edit_of db table (ids_of l) Given 1 l) w.trees) exact a in
       let c =
-          subst (λ n. Applies schema mode.keys db (record { table = table; gone = id ∷ []; news = n ∷ [] }) w.trees)
-              remakes b in
+      subst (λ n. Applies schema mode.keys db (record { table = table; gone = id ∷ []; news = n ∷ [] }) w.trees)
+      remakes b in
       record {
         made =
             inr (record {
@@ -232,9 +232,9 @@ module _ (limit : Option ℕ) (mode : Mode) (params : Row) (schema : Schema) (at
               has_key = has_key;
               alone = alone;
               fresh = freed _ _ c.fresh;
-              rows = c.rows
+              rows = c.rows;
             });
-        others = c.tables
+        others = c.tables;
       }
 
   -- what the SET list has to make of the row that has the key
@@ -264,12 +264,12 @@ module _ (limit : Option ℕ) (mode : Mode) (params : Row) (schema : Schema) (at
       where
         meets : (found : List Row) → AreConflicts (Some target) schema.indexes table (db table.tree) new found
             → Meets task (Upserts task Abort new db []) new db (record { target = Some target; update = Some program })
-                found (Ok w) → Upserted schema table target new db w.trees cells
+            found (Ok w) → Upserted schema table target new db w.trees cells
         meets [] are h = clears new steady w (λ r r_in. false_unless _ (λ e. are.complete r r_in e)) h.0 h.2
         meets (x ∷ more) are h =
             let s = are.sound x (inl refl) in
             resolves new db w keyed cells s.0 s.1 s.2 (remakes s.0 s.1 s.2)
-                (subst (λ t. Updates task program (given new t) db (Ok w)) s.3 h)
+            (subst (λ t. Updates task program (given new t) db (Ok w)) s.3 h)
 
         judged : (verdict : Option Refusal) → Judged task Abort clauses new db verdict (Ok w)
             → Upserted schema table target new db w.trees cells

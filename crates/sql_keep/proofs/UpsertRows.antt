@@ -1,12 +1,12 @@
 -- The rows of a tree after an upsert.
-use Rattle.std.proofs.Common.{◌||◌, ◌≡◌, ◌≤◌, inl, inr, ℕ, Bool, true, false, not, cond, List, [], ◌∷◌, map, filter,
-    length, Some, refl, sym, ap, ◌∙◌, subst, arith, IsTrue, Ordering, Less, Equal, Greater, is_eq, true≢false,
-    IsPermutation}
+use Rattle.std.proofs.Common.{◌||◌, ◌≡◌, ◌≤◌, inl, inr, ℕ, Bool, true, false, not, cond, List, [], ◌∷◌, map, filter}
+use Rattle.std.proofs.Common.{length, Some, refl, sym, ap, ◌∙◌, subst, arith, IsTrue, Ordering, Less, Equal, Greater}
+use Rattle.std.proofs.Common.{is_eq, true≢false, IsPermutation}
 use Rattle.std.specs.Cmp.{IsTotalOrder}
 use Rattle.std.specs.Ordering.{ordering_reverse, match_ordering}
 use Rattle.std.proofs.lemmas.List.{length-map}
-use Rattle.std.proofs.lemmas.List.Sorted.{IsPermutation-refl, IsPermutation-cons, IsPermutation-middle,
-    IsPermutation-trans, IsPermutation-sym, length_permutation, All-permutation}
+use Rattle.std.proofs.lemmas.List.Sorted.{IsPermutation-refl, IsPermutation-cons, IsPermutation-middle}
+use Rattle.std.proofs.lemmas.List.Sorted.{IsPermutation-trans, IsPermutation-sym, length_permutation, All-permutation}
 use Rattle.std.proofs.lemmas.List.Elements.{recursion_from_All, All-from_recursion}
 use Rattle.sqlite.specs.Order.{Row, value_cmp}
 use Rattle.sqlite_trees.specs.Tree.{Trees, rowid, has_rowid, without_rowid, put_row}
@@ -19,8 +19,8 @@ use Rattle.sqlite_rules.specs.Keys.{conflicts}
 use Rattle.sqlite_rules.specs.Edit.{id_in, is_taken}
 use Rattle.sqlite_rules.proofs.ListLemmas.{all_has, all_from, has_filtered, has_kept}
 use Rattle.sqlite_rules.proofs.ProbeLemmas.{has_mapped, mapped_has}
-use Rattle.sqlite_keyed.proofs.ListLemmas.{all_weaker, all-filter, filter_all, filter_none, filter-map, filter_same,
-    IsPermutation-filter, IsPermutation-same}
+use Rattle.sqlite_keyed.proofs.ListLemmas.{all_weaker, all-filter, filter_all, filter_none, filter-map, filter_same}
+use Rattle.sqlite_keyed.proofs.ListLemmas.{IsPermutation-filter, IsPermutation-same}
 use Rattle.std.specs.List.Sorted.{IsStrictlySortedBy}
 use Rattle.ledger.specs.Changes.{put_row as put_by_key}
 use Rattle.sql_keep.specs.StoreContent.{AreRows, HaveNumbers}
@@ -43,7 +43,7 @@ put_fresh new (r ∷ rows) free = go (value_cmp (rowid r) (rowid new)) free (put
 pub has_permuted : (xs ys : List Row) (x : Row) → IsPermutation xs ys → Has ys x → Has xs x
 has_permuted xs ys x same h =
     all_has (Has xs) ys x (recursion_from_All (Has xs) ys
-        (All-permutation (Has xs) xs ys same (All-from_recursion (Has xs) xs (all_from (Has xs) xs (λ e k. k))))) h
+    (All-permutation (Has xs) xs ys same (All-from_recursion (Has xs) xs (all_from (Has xs) xs (λ e k. k))))) h
 
 filter_like : (p q : Row → Bool) (rows : List Row) → ((r : Row) → Has rows r → p r ≡ q r) → filter p rows ≡ filter q rows
 filter_like p q [] like = refl
@@ -91,9 +91,9 @@ module _ {X : Type 0} (cmp : X → X → Ordering) (total : IsTotalOrder cmp) wh
       go Greater e more = more
       go Equal e more =
           let none : filter (λ y. is_eq (cmp y x)) ys ≡ [] =
-              filter_none (λ y. is_eq (cmp y x)) ys
-                  (all_weaker _ (λ z. is_eq (cmp z x) ≡ false) (λ z h. below_apart x z (sym (total.congr y x z e) ∙ h))
-                      ys up.0) in
+          filter_none (λ y. is_eq (cmp y x)) ys
+          (all_weaker _ (λ z. is_eq (cmp z x) ≡ false) (λ z h. below_apart x z (sym (total.congr y x z e) ∙ h))
+          ys up.0) in
           rw none (omega arith)
 
   module _ (shows : Row → Row) (cells : X → Row) (x : X) (same : Row → Bool)
@@ -102,7 +102,7 @@ module _ {X : Type 0} (cmp : X → X → Ordering) (total : IsTotalOrder cmp) wh
     pub once : (rows : List Row) (xs : List X) → AreRows cmp shows cells rows xs → length (filter (λ r. same (shows r)) rows) ≤ 1
     once rows xs are =
         let a : length (filter same (map shows rows)) ≡ length (filter (λ r. same (shows r)) rows) =
-            ap length (filter-map same shows rows) ∙ length-map (filter (λ r. same (shows r)) rows) shows in
+        ap length (filter-map same shows rows) ∙ length-map (filter (λ r. same (shows r)) rows) shows in
         let b : length (filter same (map cells xs)) ≡ length (filter (λ y. is_eq (cmp y x)) xs) =
         ap length (filter-map same cells xs) ∙ length-map (filter (λ y. same (cells y)) xs) cells
         ∙ ap length (filter_same (λ y. same (cells y)) (λ y. is_eq (cmp y x)) tells xs) in
@@ -114,8 +114,8 @@ module _ {X : Type 0} (cmp : X → X → Ordering) (total : IsTotalOrder cmp) wh
         → same (shows r) ≡ true → (y : X) × (shows r ≡ cells y) × (is_eq (cmp y x) ≡ true)
     shown_key rows xs are r there is =
         let shown =
-            has_permuted (map cells xs) (map shows rows) (shows r) (IsPermutation-sym _ _ are.same)
-                (mapped_has shows rows r there) in
+        has_permuted (map cells xs) (map shows rows) (shows r) (IsPermutation-sym _ _ are.same)
+        (mapped_has shows rows r there) in
         let y = has_mapped cells xs (shows r) shown in
         (y.0, y.2, sym (tells y.0) ∙ ap same (sym y.2) ∙ is)
 
@@ -129,36 +129,36 @@ module _ {X : Type 0} (cmp : X → X → Ordering) (total : IsTotalOrder cmp) wh
     rows_upserted schema table target new old next kept xs meant shown remade are h = elim h.made [
       | inl a ↦
           let none =
-              all_from (λ r. not (same (shows r)) ≡ true) (old table.tree)
-                  (λ r there. ap not (sym (meant r there) ∙ a.none r there)) in
+          all_from (λ r. not (same (shows r)) ≡ true) (old table.tree)
+          (λ r there. ap not (sym (meant r there) ∙ a.none r there)) in
           let left : filter (λ r. not (same (shows r))) (old table.tree) ≡ old table.tree = filter_all _ (old table.tree) none in
           rows_put cmp total shows cells x same tells (old table.tree) (next table.tree) new xs shown
           (IsPermutation-trans _ _ _ (IsPermutation-same _ _ a.rows)
-              (IsPermutation-trans _ _ _ (put_fresh new _ a.fresh)
-                  (IsPermutation-same _ _ (ap (λ l. new ∷ l) (sym left))))) are
+          (IsPermutation-trans _ _ _ (put_fresh new _ a.fresh)
+          (IsPermutation-same _ _ (ap (λ l. new ∷ l) (sym left))))) are
       | inr a ↦
           let id = id_in (rowid a.was) in
           let is = sym (meant a.was a.there) ∙ a.has_key in
           let by_key : filter (λ r. same (shows r)) (old table.tree) ≡ a.was ∷ [] =
-              one_at_most _ a.was (has_kept _ (old table.tree) a.was a.there is) (once (old table.tree) xs are) in
+          one_at_most _ a.was (has_kept _ (old table.tree) a.was a.there is) (once (old table.tree) xs are) in
           let goes = λ (r : Row) (there : Has (old table.tree) r) (e : has_rowid id r ≡ true).
           subst (λ s. same (shows s) ≡ true)
-              (sym (only_one a.was r
-                  (subst (λ l. Has l r) a.alone (has_kept (has_rowid id) (old table.tree) r there e)))) is in
+          (sym (only_one a.was r
+          (subst (λ l. Has l r) a.alone (has_kept (has_rowid id) (old table.tree) r there e)))) is in
           let has : has_rowid id a.was ≡ true =
-              (has_filtered (has_rowid id) (old table.tree) a.was
-                  (subst (λ l. Has l a.was) (sym a.alone) (inl refl))).1 in
+          (has_filtered (has_rowid id) (old table.tree) a.was
+          (subst (λ l. Has l a.was) (sym a.alone) (inl refl))).1 in
           let comes = λ (r : Row) (there : Has (old table.tree) r) (e : same (shows r) ≡ true).
           subst (λ s. has_rowid id s ≡ true)
-              (sym (only_one a.was r
-                  (subst (λ l. Has l r) by_key (has_kept (λ r. same (shows r)) (old table.tree) r there e)))) has in
+          (sym (only_one a.was r
+          (subst (λ l. Has l r) by_key (has_kept (λ r. same (shows r)) (old table.tree) r there e)))) has in
           let left : without_rowid id (old table.tree) ≡ filter (λ r. not (same (shows r))) (old table.tree) =
           filter_like _ _ (old table.tree) (λ r there. ap not (alike_if _ _ (goes r there) (comes r there))) in
           rows_put cmp total shows cells x same tells (old table.tree) (next table.tree) (rowid a.was ∷ kept) xs
           (remade a.was a.there is)
           (IsPermutation-trans _ _ _ (IsPermutation-same _ _ a.rows)
-              (IsPermutation-trans _ _ _ (put_fresh _ _ a.fresh)
-                  (IsPermutation-same _ _ (ap (λ l. (rowid a.was ∷ kept) ∷ l) left)))) are
+          (IsPermutation-trans _ _ _ (put_fresh _ _ a.fresh)
+          (IsPermutation-same _ _ (ap (λ l. (rowid a.was ∷ kept) ∷ l) left)))) are
     ]
 
 -- the rows of the table after the upsert

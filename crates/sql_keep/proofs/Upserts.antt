@@ -1,7 +1,7 @@
 -- What the upserts do: the table of the row has it by its key, and the other tables have their rows.
-use Rattle.std.proofs.Common.{arith, ◌≡◌, ◌∙◌, ◌/◌, ◌+◌, inl, inr, ℕ, ℤ, suc, zero, Bool, true, false, ◌&&◌, ◌||◌, List,
-    [], ◌∷◌, ◌++◌, Some, None, Ok, Option, drop, length, map, refl, sym, ap, ap₂, subst, is_eq, take, IsTrue, Ordering,
-    Equal, Greater, Less}
+use Rattle.std.proofs.Common.{arith, ◌≡◌, ◌∙◌, ◌/◌, ◌+◌, inl, inr, ℕ, ℤ, suc, zero, Bool, true, false, ◌&&◌, ◌||◌, List}
+use Rattle.std.proofs.Common.{[], ◌∷◌, ◌++◌, Some, None, Ok, Option, drop, length, map, refl, sym, ap, ap₂, subst}
+use Rattle.std.proofs.Common.{is_eq, take, IsTrue, Ordering, Equal, Greater, Less}
 use Rattle.std.specs.List.{AllByRecursion}
 use Rattle.std.specs.Prelude.{◌≢◌, slice_get}
 use Rattle.std.proofs.lemmas.Cmp.{int_ranked, tied_itself}
@@ -169,7 +169,7 @@ one_column v w h = bare _ ∙ h
 two_columns : (v w y z : Value) → equal (first_key plain_order).collation v w ≡ is_eq (value_cmp v w)
     → equal (first_key plain_order).collation y z ≡ is_eq (value_cmp y z)
     → (equal (first_key plain_order).collation v w && (equal (first_key plain_order).collation y z && true))
-        ≡ (is_eq (value_cmp v w) && is_eq (value_cmp y z))
+    ≡ (is_eq (value_cmp v w) && is_eq (value_cmp y z))
 two_columns v w y z h k = ap (λ b. equal (first_key plain_order).collation v w && b) (bare _) ∙ (λ i. h i && k i)
 
 by_int : (v : Value) (n : ℤ) → equal (first_key plain_order).collation v (Int n) ≡ is_eq (value_cmp v (Int n))
@@ -185,13 +185,13 @@ meant table.Desk rows x r = or_none _ ∙ one_column (column r 0) (Int x.one) (b
 meant table.Field rows x r =
     or_none _
     ∙ two_columns (column r 1) (Text x.branch) (column r 2) (Text x.article) (by_text (column r 1) x.branch)
-        (by_text (column r 2) x.article)
+    (by_text (column r 2) x.article)
 meant table.Move rows x r = or_none _ ∙ one_column (column r 0) (Int x.place) (by_int (column r 0) x.place)
 meant table.Orders rows x r = or_none _ ∙ one_column (column r 0) (Int x.number) (by_int (column r 0) x.number)
 meant table.Line rows x r =
     or_none _
     ∙ two_columns (column r 1) (Int x.number) (column r 2) (Int x.nr) (by_int (column r 1) x.number)
-        (by_int (column r 2) x.nr)
+    (by_int (column r 2) x.nr)
 meant table.Kept rows x r = or_none _ ∙ one_column (column r 1) (Text x.reqkey) (by_text (column r 1) x.reqkey)
 meant table.Firm rows x r = or_none _ ∙ one_column (column r 0) (Int x.number) (by_int (column r 0) x.number)
 
@@ -207,7 +207,7 @@ key_columns table.Orders x y e = ap (λ n. Int n ∷ []) (int_ranked y.number x.
 key_columns table.Line x y e =
     let both = both_equal _ _ e in
     ap₂ (λ a b. Int a ∷ Int b ∷ []) (int_ranked y.number x.number Equal (sym both.0))
-        (int_ranked y.nr x.nr Equal (sym both.1))
+    (int_ranked y.nr x.nr Equal (sym both.1))
 key_columns table.Kept x y e = ap (λ t. Text t ∷ []) (same_text y.reqkey x.reqkey e)
 key_columns table.Firm x y e = ap (λ n. Int n ∷ []) (int_ranked y.number x.number Equal (sym e))
 
@@ -231,15 +231,15 @@ remade (Some place) count key c = Null ∷ drop 1 c
 
 remade_is : (t : TableName) (x : Cells t)
     → remade (declared t).key (length (declared t).primary) (take (length (declared t).primary) (columns t x))
-        (columns t x) ≡ kept t x
+    (columns t x) ≡ kept t x
 remade_is t x = grind arith
 
 -- what the SET list makes of it
 set_is : (t : TableName) (x : Cells t) (new was : Row)
     → eval_all (col 1 0 ∷ set_terms (declared t)) ((columns t x ++ rowid was ∷ shown_new (declared t) new) ∷ was ∷ [])
-        ≡ rowid was
-            ∷ remade (declared t).key (length (declared t).primary) (take (length (declared t).primary) (stored t was))
-                (columns t x)
+    ≡ rowid was
+    ∷ remade (declared t).key (length (declared t).primary) (take (length (declared t).primary) (stored t was))
+    (columns t x)
 set_is t x new was = grind arith
 
 again : (t : TableName) (x : Cells t) (was : Row)
@@ -262,7 +262,7 @@ record Facts (t : TableName) : Type 0 where
   low : (trees : Trees) → overlay trees [] (declared t).tree ≡ trees (declared t).tree
   reads : (x : Cells t)
       → value_rows (stamped (declared t) (columns t x)) (width t) (length (terms t) / width t) (terms t)
-          ≡ source t x ∷ []
+      ≡ source t x ∷ []
   placed : (x : Cells t) (v : Value) (more : Row) → column (columns t x ++ v ∷ more) (length (declared t).columns) ≡ v
 
 facts : (t : TableName) → Facts t
@@ -272,7 +272,7 @@ facts t = record {
   idle = λ mode gone news. grind arith;
   low = λ trees. grind arith;
   reads = λ x. grind arith;
-  placed = λ x v more. grind arith
+  placed = λ x v more. grind arith;
 }
 
 -- rows among which it is stay as they are where it is put in
@@ -285,7 +285,7 @@ module _ {X : Type 0} (cmp : X → X → Ordering) (total : IsTotalOrder cmp) (x
       rw equal (ap (λ z. z ∷ ys) e)
   stays (y ∷ ys) (inr more) sorted =
       let after : cmp x y ≡ Greater =
-          total.antisymm x y ∙ ap ordering_reverse (all_has (λ z. cmp y z ≡ Less) ys x sorted.0 more) in
+      total.antisymm x y ∙ ap ordering_reverse (all_has (λ z. cmp y z ≡ Less) ys x sorted.0 more) in
       rw after (ap (λ zs. y ∷ zs) (stays ys more sorted.1))
 
 -- ---- a row put into its table
@@ -316,10 +316,10 @@ module _ (t : TableName) (text : List ℕ) (means : PutsRow t text) (old new : S
   -- a row that has the key gets the other columns
   updates : upsert t
       ≡ InsertOr (length (before t)) Abort (Values (terms t) (width t))
-          (record {
-            target = Some (declared t).primary;
-            update = Some (record { lets = []; body = updated (declared t) })
-          } ∷ [])
+      (record {
+        target = Some (declared t).primary;
+        update = Some (record { lets = []; body = updated (declared t) });
+      } ∷ [])
       → (xs : List (Cells t)) → Stores t tree xs → PutsIntoTable t x old.now new.now
   updates is xs are =
       let f = facts t in
@@ -330,19 +330,19 @@ module _ (t : TableName) (text : List ℕ) (means : PutsRow t text) (old new : S
       (statement_of text (understood desk_schema text)) old.now has w.tally new.now are.numbers (kept t x) settled
       (λ was there conflict.
       let same_key =
-          sym (meant t tree x was)
-          ∙ subst (λ r. conflicts (Some (declared t).primary) desk_schema.indexes (declared t) r was ≡ true) in_place
-              conflict in
+      sym (meant t tree x was)
+      ∙ subst (λ r. conflicts (Some (declared t).primary) desk_schema.indexes (declared t) r was ≡ true) in_place
+      conflict in
       ap (cast_row (declared t)) (set_is t x (with_rowid Chosen tree (cast_row (declared t) (source t x))) was
-          ∙ ap (λ k. rowid was ∷ remade (declared t).key (length (declared t).primary) k (columns t x))
-              (has_key t tree x xs are was there same_key) ∙ ap (λ c. rowid was ∷ c) (remade_is t x))
+      ∙ ap (λ k. rowid was ∷ remade (declared t).key (length (declared t).primary) k (columns t x))
+      (has_key t tree x xs are was there same_key) ∙ ap (λ c. rowid was ∷ c) (remade_is t x))
       ∙ steady t (rowid was) x (subst (λ v. cast Integer v ≡ v) (sym (number_is t tree x xs are was there same_key))
-          (cast_int (id_in (rowid was)))))
+      (cast_int (id_in (rowid was)))))
       (subst (λ c. Does old.step_limit (mode_of old) (columns t x) old.now
-          (statement_of text (understood desk_schema text)) None c (Ok (w.tally, new.now))) is w.changed) in
+      (statement_of text (understood desk_schema text)) None c (Ok (w.tally, new.now))) is w.changed) in
       let put : Upserted desk_schema (declared t) (declared t).primary (fresh t tree x) trees new.now.trees (kept t x) =
-          subst (λ r. Upserted desk_schema (declared t) (declared t).primary r trees new.now.trees (kept t x)) in_place
-              done.1 in
+      subst (λ r. Upserted desk_schema (declared t) (declared t).primary r trees new.now.trees (kept t x)) in_place
+      done.1 in
       record {
         schema_is = done.0;
         lists = subst (Lists (new.now.trees catalog_tree)) done.0 w.sound.lists;
@@ -356,7 +356,7 @@ module _ (t : TableName) (text : List ℕ) (means : PutsRow t text) (old new : S
   -- where the key is all, a row that has it stays
   left : upsert t
       ≡ InsertOr (length (before t)) Abort (Values (terms t) (width t))
-          (record { target = Some (declared t).primary; update = None } ∷ [])
+      (record { target = Some (declared t).primary; update = None } ∷ [])
       → ((r : Row) → take (length (declared t).primary) (stored t r) ≡ stored t r)
       → take (length (declared t).primary) (columns t x) ≡ columns t x → PutsIntoTable t x old.now new.now
   left is stored_all columns_all =
@@ -366,9 +366,9 @@ module _ (t : TableName) (text : List ℕ) (means : PutsRow t text) (old new : S
       f.uncounted (f.idle (mode_of old)) (terms t) (width t) (source t x) (f.reads x) (declared t).primary
       (statement_of text (understood desk_schema text)) old.now has w.tally new.now settled
       (subst (λ c. Does old.step_limit (mode_of old) (columns t x) old.now
-          (statement_of text (understood desk_schema text)) None c (Ok (w.tally, new.now))) is w.changed) in
+      (statement_of text (understood desk_schema text)) None c (Ok (w.tally, new.now))) is w.changed) in
       let put : Inserted desk_schema (declared t) (declared t).primary (fresh t tree x) trees new.now.trees =
-          subst (λ r. Inserted desk_schema (declared t) (declared t).primary r trees new.now.trees) in_place done.1 in
+      subst (λ r. Inserted desk_schema (declared t) (declared t).primary r trees new.now.trees) in_place done.1 in
       record {
         schema_is = done.0;
         lists = subst (Lists (new.now.trees catalog_tree)) done.0 w.sound.lists;
@@ -384,9 +384,9 @@ module _ (t : TableName) (text : List ℕ) (means : PutsRow t text) (old new : S
       is_there ys are was there is =
           let shown = subst (Has (map (stored t) tree)) (shown_same ys are was there is) (mapped_has (stored t) tree was there) in
           let found =
-              has_mapped (columns t) ys (columns t x)
-                  (has_permuted (map (columns t) ys) (map (stored t) tree) (columns t x)
-                      (IsPermutation-sym _ _ are.same) shown) in
+          has_mapped (columns t) ys (columns t x)
+          (has_permuted (map (columns t) ys) (map (stored t) tree) (columns t x)
+          (IsPermutation-sym _ _ are.same) shown) in
           let same : found.0 ≡ x = sym (there_and_back t found.0) ∙ ap (from_columns t) (sym found.2) ∙ there_and_back t x in
           subst (Has ys) same found.1
 
@@ -402,7 +402,7 @@ module _ (t : TableName) (text : List ℕ) (means : PutsRow t text) (old new : S
         | inr a ↦
             let there = is_there ys are a.was a.there (sym (meant t tree x a.was) ∙ a.has_key) in
             subst (λ rows. Stores t rows (put_row (key_cmp t) x ys)) (sym a.rows)
-                (subst (Stores t tree) (sym (stays (key_cmp t) (key_cmp_total t) x ys there are.sorted)) are)
+            (subst (Stores t tree) (sym (stays (key_cmp t) (key_cmp_total t) x ys there are.sorted)) are)
       ]
 
 -- what the statement does

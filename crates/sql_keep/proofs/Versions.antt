@@ -1,6 +1,6 @@
 -- Which tables a version has, and which schema is that of which version.
-use Rattle.std.proofs.Common.{◌≡◌, ◌<◌, ◌≤◌, ◌∙◌, Bool, false, true, if◌then◌else◌, inl, inr, ℕ, zero, suc, List, [],
-    ◌∷◌, ap, arith, filter, get_or, length, map, nat_eq, nat_le, nat_lt, refl, subst, sym}
+use Rattle.std.proofs.Common.{◌≡◌, ◌<◌, ◌≤◌, ◌∙◌, Bool, false, true, if◌then◌else◌, inl, inr, ℕ, zero, suc, List, []}
+use Rattle.std.proofs.Common.{◌∷◌, ap, arith, filter, get_or, length, map, nat_eq, nat_le, nat_lt, refl, subst, sym}
 use Rattle.std.specs.List.{AllByRecursion as Each, Any}
 use Rattle.sqlite.specs.Schema.{Schema}
 use Rattle.sqlite.specs.Table.{Table}
@@ -100,7 +100,7 @@ abbrev by_letter : ℕ → TableName
 by_letter letter =
     if nat_eq letter 115 then table.Desk
     else (if nat_eq letter 101 then table.Field
-        else (if nat_eq letter 118 then table.Move else (if nat_eq letter 100 then table.Orders
+    else (if nat_eq letter 118 then table.Move else (if nat_eq letter 100 then table.Orders
     else (if nat_eq letter 110 then table.Line else (if nat_eq letter 112 then table.Kept else table.Firm)))))
 
 by_its_letter : (t : TableName) → by_letter (get_or (declared t).name 2 0) ≡ t
@@ -121,7 +121,7 @@ is_since v t found is among =
     let u = from_map declared (tables_of v) found among in
     let same : u.0 ≡ t = alike u.0 t (sym (ap (λ (t : Table). t.name) u.2) ∙ is) in
     let early : nat_le (since t) v ≡ true =
-        subst (λ t. nat_le (since t) v ≡ true) same (chosen (λ t. nat_le (since t) v) all_tables u.0 u.1) in
+    subst (λ t. nat_le (since t) v ≡ true) same (chosen (λ t. nat_le (since t) v) all_tables u.0 u.1) in
     (upto-true (since t) v early, u.2 ∙ ap declared same)
 
 -- a table lies in the schema of a version where it says

@@ -1,7 +1,7 @@
 -- How SQL keeps the tables of a desk, of each version. For one table more, each definition here gets a line more, and
 -- the schema the table's declaration.
-use Rattle.std.specs.Prelude.{ℕ, ◌≡◌, ◌<◌, ◌≤◌, List, [], ◌∷◌, ◌++◌, ◌-◌, Option, None, Some, flat_map, length, map,
-    nat_le, nat_lt}
+use Rattle.std.specs.Prelude.{ℕ, ◌≡◌, ◌<◌, ◌≤◌, List, [], ◌∷◌, ◌++◌, ◌-◌, Option, None, Some, flat_map, length, map}
+use Rattle.std.specs.Prelude.{nat_le, nat_lt}
 use Rattle.std.specs.List.{filter, range_with_len}
 use Rattle.sqlite.specs.declared.types.Value.TheVariants.{Int, Text}
 use Rattle.sqlite.specs.Order.{Row, bytes, column}
@@ -10,8 +10,8 @@ use Rattle.sqlite_rules.specs.Edit.{id_in}
 use Rattle.sqlite.specs.Schema.{Schema}
 use Rattle.keep.specs.Content.{newest}
 use Rattle.keep.specs.TableRows.{Cells}
-use Rattle.sql_keep.specs.Schema.{desk_table, field_table, firm_table, key_indexes, kept_table, line_table, move_table,
-    orders_table}
+use Rattle.sql_keep.specs.Schema.{desk_table, field_table, firm_table, key_indexes, kept_table, line_table, move_table}
+use Rattle.sql_keep.specs.Schema.{orders_table}
 use Rattle.keep.specs.declared.table_row.TableName.{TableName}
 use Rattle.keep.specs.declared.table_row.TableName.TheVariants as table
 

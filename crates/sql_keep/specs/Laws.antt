@@ -1,7 +1,7 @@
 -- What a keeper over SQLite proves about itself, as every keeper does. What the laws of an implementation need must
 -- stand in `specs`; so these proofs are here.
-use Rattle.std.proofs.Common.{◌≡◌, ◌≤◌, ◌∙◌, ◌-◌, ℕ, nat_eq, if◌then◌else◌, get_or, length, inl, inr, zero, suc, [],
-    ◌∷◌, List, map, ap, arith, refl, subst, sym}
+use Rattle.std.proofs.Common.{◌≡◌, ◌≤◌, ◌∙◌, ◌-◌, ℕ, nat_eq, if◌then◌else◌, get_or, length, inl, inr, zero, suc, []}
+use Rattle.std.proofs.Common.{◌∷◌, List, map, ap, arith, refl, subst, sym}
 use Rattle.std.specs.List.{Any}
 use Rattle.std.proofs.Math.Logic.{∥∥₁_map}
 use Rattle.sqlite.specs.Order.{Row}

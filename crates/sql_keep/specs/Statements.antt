@@ -1,6 +1,6 @@
 -- What the texts of a table's statements mean. How SQLite reads a text over a schema is computed.
-use Rattle.std.specs.Prelude.{◌≡◌, ◌+◌, ◌-◌, ◌++◌, ℕ, List, [], ◌∷◌, false, Option, None, Some, Ok, codes, length, map,
-    negsuc, pos}
+use Rattle.std.specs.Prelude.{◌≡◌, ◌+◌, ◌-◌, ◌++◌, ℕ, List, [], ◌∷◌, false, Option, None, Some, Ok, codes, length, map}
+use Rattle.std.specs.Prelude.{negsuc, pos}
 use Rattle.std.specs.List.{range_with_len}
 use Rattle.sqlite.specs.Change.{created}
 use Rattle.sqlite.specs.Command.{Command}
@@ -108,7 +108,7 @@ upsert t = let table = declared t in
     InsertOr (length (before t)) Abort (Values (new_terms table.key (length table.columns)) (length table.columns + 1))
     (record {
       target = Some table.primary;
-      update = update_of table (range_with_len 0 (length table.columns - length table.primary))
+      update = update_of table (range_with_len 0 (length table.columns - length table.primary));
     } ∷ [])
 
 -- over the schema of a desk, the text puts a row in by the key of the table

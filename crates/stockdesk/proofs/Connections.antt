@@ -1,6 +1,6 @@
 -- Connections, served one after the other, and the line that tells their port.
-use Rattle.std.proofs.Common.{◌≡◌, ◌≤◌, ◌∙◌, ◌+◌, Err, IfErr, IfOk, ℕ, List, [], ◌∷◌, ◌++◌, Ok, Option, Result, arith,
-    false, inl, inr, length, refl, subst, sym, true, true≢false}
+use Rattle.std.proofs.Common.{◌≡◌, ◌≤◌, ◌∙◌, ◌+◌, Err, IfErr, IfOk, ℕ, List, [], ◌∷◌, ◌++◌, Ok, Option, Result, arith}
+use Rattle.std.proofs.Common.{false, inl, inr, length, refl, subst, sym, true, true≢false}
 use Rattle.std.specs.Io.KnownBytes.{Appends, Keeps}
 use Rattle.std.proofs.KnownBytes.{Appends-kept, Appends-nil}
 use Rattle.std.proofs.lemmas.List.{length-append, take_all}
@@ -19,8 +19,8 @@ use Rattle.stockdesk.specs.Outside.{Listening}
 
 module _ (end old new : DeskState)
     (turn : (parts : List Part) (kinds : List AnswerKind) → new.is_stopped ≡ true
-        → (new.is_honest → StopsDesk http new parts kinds) → end.is_honest
-        → StopsDesk http (as_stood end (snapshot new)) parts kinds) where
+    → (new.is_honest → StopsDesk http new parts kinds) → end.is_honest
+    → StopsDesk http (as_stood end (snapshot new)) parts kinds) where
   abbrev whole_as : (s : Streams) → EndsWhole http old new s
       → EndsWhole http (as_stood end (snapshot old)) (as_stood end (snapshot new)) s
   whole_as s e = record {
@@ -90,20 +90,28 @@ goes_before end (s ∷ streams) old new going (mid, before, one, rest) = before
 module _ (was end : DeskState) where
   is_again : (s : Streams) (old new : Snapshot) → new.is_stopped ≡ false → IsServed was old s new → IsServed end old s new
   is_again s old new going (inl (served, whole, tells)) =
-      inl (served,
-          whole_as end (as_stood was old) (as_stood was new)
-              (λ parts kinds halted. absurd (true≢false (sym halted ∙ going))) s whole, tells)
+      inl (
+        served,
+        whole_as end (as_stood was old) (as_stood was new)
+            (λ parts kinds halted. absurd (true≢false (sym halted ∙ going))) s whole,
+        tells,
+      )
   is_again s old new going (inr (fault, e)) =
-      inr (fault,
-          cut_as end (as_stood was old) (as_stood was new)
-              (λ parts kinds halted. absurd (true≢false (sym halted ∙ going))) fault s e)
+      inr (
+        fault,
+        cut_as end (as_stood was old) (as_stood was new)
+            (λ parts kinds halted. absurd (true≢false (sym halted ∙ going))) fault s e,
+      )
 
   are_again : (streams : List Streams) (old new : Snapshot) → new.is_stopped ≡ false → AreServed was old streams new
       → AreServed end old streams new
   are_again [] old new going same = same
-  are_again (s ∷ streams) old new going (mid, before, one, rest) =
-      (mid, before, is_again s old mid (goes_before was streams mid new going rest) one,
-          are_again streams mid new going rest)
+  are_again (s ∷ streams) old new going (mid, before, one, rest) = (
+    mid,
+    before,
+    is_again s old mid (goes_before was streams mid new going rest) one,
+    are_again streams mid new going rest,
+  )
 
 -- ---- one connection more
 
@@ -148,10 +156,12 @@ module _ {N R W : Type 0} (g : Listening N R W) where
       → mid.is_stopped ≡ false → ServesFrom count was first mid old now → Passes g now s new → IsServed end mid s last
       → ServesFrom (count + 1) end first last old new
   serves_one count s was end first mid last old now new going (streams, size, are, come) pass one =
-      let more = length-append streams (s ∷ []) in
-      (streams ++ s ∷ [], omega (arith, size, more),
-          served_on end streams s first mid last (are_again was end streams first mid going are) going one,
-          passed_on streams s old now new come pass)
+      let more = length-append streams (s ∷ []) in (
+        streams ++ s ∷ [],
+        omega (arith, size, more),
+        served_on end streams s first mid last (are_again was end streams first mid going are) going one,
+        passed_on streams s old now new come pass,
+      )
 
   -- those so far
   pub serves_so_far : (count most : ℕ) (end : DeskState) (first last : Snapshot) (old now : N) → count ≤ most
@@ -163,10 +173,14 @@ module _ {N R W : Type 0} (g : Listening N R W) where
 -- ---- the port
 
 pub port_whole : (W w : Option (List ℕ)) → PortTold W w → PortBegun W w
-port_whole W w (port, (is, writes)) =
-    (port, length (listening_line port), is, omega arith,
-        subst (λ (t : List ℕ). Appends W w t)
-            (sym (take_all (length (listening_line port)) (listening_line port) (omega arith))) writes)
+port_whole W w (port, (is, writes)) = (
+  port,
+  length (listening_line port),
+  is,
+  omega arith,
+  subst (λ (t : List ℕ). Appends W w t)
+      (sym (take_all (length (listening_line port)) (listening_line port) (omega arith))) writes,
+)
 
 pub port_unwritten : (W w : Option (List ℕ)) → Keeps W w → PortBegun W w
 port_unwritten W w kept = (0, 0, omega arith, omega arith, Appends-kept _ _ _ _ (Appends-nil W) kept)

@@ -1,13 +1,13 @@
 -- Many connections at once: how their service ends, and what is found after it.
-use Rattle.std.proofs.Common.{◌≡◌, ◌≤◌, ◌⊎◌, ◌∙◌, ◌++◌, Bool, Err, IfErr, List, None, Ok, OnErr, OnOk, Option, Result,
-    Some, ap, false, inl, inr, refl, subst, sym, true, true≢false, ℕ}
+use Rattle.std.proofs.Common.{◌≡◌, ◌≤◌, ◌⊎◌, ◌∙◌, ◌++◌, Bool, Err, IfErr, List, None, Ok, OnErr, OnOk, Option, Result}
+use Rattle.std.proofs.Common.{Some, ap, false, inl, inr, refl, subst, sym, true, true≢false, ℕ}
 use Rattle.ledger.specs.Good.{Good}
 use Rattle.ledger.specs.Ledger.{Ledger}
 use Rattle.ledger.specs.Rows.{Content}
 use Rattle.keep.specs.declared.keep.Keep.{Ghosts}
 use Rattle.desk.specs.Deferred.{DeferredView, snapshot_off}
-use Rattle.desk.specs.Desk.{DeskState, DeskView, Goes, IsStored, LeavesEither, Snapshot, StaysStored, TellsStop,
-    desk_state, going_at, snapshot}
+use Rattle.desk.specs.Desk.{DeskState, DeskView, Goes, IsStored, LeavesEither, Snapshot, StaysStored, TellsStop}
+use Rattle.desk.specs.Desk.{desk_state, going_at, snapshot}
 use Rattle.desk.specs.Headline.{LeavesRowsOf}
 use Rattle.desk.proofs.FoundAfter.{either_left, stored_left}
 use Rattle.rounds.specs.Histories.{AreRounds, order_of}
@@ -29,19 +29,25 @@ module _ {G T : Type 0} (g : Gathering G T) (first last : G) (count : ℕ) (old 
     (start : old ≡ going_at at) where
   -- where no round was lost, what was said leads to what is shown
   found_shown : HasMet http g.remaining g.contents g.doors None first last count old shown → IsFoundAfterMany at shown.ledger
-  found_shown met =
-      (order_of met.history, shown,
-          subst (λ (s : Snapshot). AreSaid http s (order_of met.history) shown) start
-              (one_order http None old met.history shown met.are_rounds), refl)
+  found_shown met = (
+    order_of met.history,
+    shown,
+    subst (λ (s : Snapshot). AreSaid http s (order_of met.history) shown) start
+        (one_order http None old met.history shown met.are_rounds),
+    refl,
+  )
 
   module _ (loss : Loss) (met : HasMet http g.remaining g.contents g.doors (Some loss) first last count old shown) where
     cut : IsCutOnce http loss old (order_of met.history) shown
     cut = one_order http (Some loss) old met.history shown met.are_rounds
 
     found_before : IsFoundAfterMany at loss.before
-    found_before =
-        (cut.before, cut.mid, subst (λ (s : Snapshot). AreSaid http s cut.before cut.mid) start cut.are_before,
-            ap (λ (l : Loss). l.before) cut.left)
+    found_before = (
+      cut.before,
+      cut.mid,
+      subst (λ (s : Snapshot). AreSaid http s cut.before cut.mid) start cut.are_before,
+      ap (λ (l : Loss). l.before) cut.left,
+    )
 
     found_behind : IsFoundAfterMany at loss.behind
     found_behind = (
@@ -64,7 +70,7 @@ many_of : {G T : Type 0} (g : Gathering G T) (first last : G) (count : ℕ) (hol
 many_of g first last count holds old new shown went good honest stored None met (same, going) =
     stored_left new.ledger (IsFoundAfterMany old.ledger) holds new.leaves good
     (subst (λ (B : Ledger). IsFoundAfterMany old.ledger B) (sym (ap (λ (s : Snapshot). s.ledger) same))
-        (found_shown g first last count (snapshot old) shown old.ledger (began old went) met))
+    (found_shown g first last count (snapshot old) shown old.ledger (began old went) met))
     (stored (ap (λ (s : Snapshot). s.is_stopped) same ∙ going))
 many_of g first last count holds old new shown went good honest stored (Some loss) met (halted, inl (same, either)) =
     either_left loss.before loss.behind (IsFoundAfterMany old.ledger) new.leaves
@@ -73,7 +79,7 @@ many_of g first last count holds old new shown went good honest stored (Some los
 many_of g first last count holds old new shown went good honest stored (Some loss) met (halted, inr (at, goes)) =
     stored_left new.ledger (IsFoundAfterMany old.ledger) holds new.leaves good
     (subst (λ (B : Ledger). IsFoundAfterMany old.ledger B) (sym at)
-        (found_before g first last count (snapshot old) shown old.ledger (began old went) loss met))
+    (found_before g first last count (snapshot old) shown old.ledger (began old went) loss met))
     (stored goes)
 
 -- a stop leaves the ledger behind what was said, or that before the round that was lost
@@ -156,8 +162,8 @@ module _ {K G T : Type 0} (k : Ghosts K) (g : Gathering G T) (first last : G) (I
     met_from : (served : HasServed http g.remaining g.contents g.doors k first last count off end) → Met served.loss
     met_from served =
         subst (λ (s : Snapshot).
-            HasMet http g.remaining g.contents g.doors served.loss first last count s (snapshot_off end)) start
-            served.met
+        HasMet http g.remaining g.contents g.doors served.loss first last count s (snapshot_off end)) start
+        served.met
       where
         start : snapshot_off off ≡ snapshot (desk_state k desk)
         start = λ i. record { ledger = ledger_is i; is_stopped = (stopped_is ∙ sym was) i }
@@ -198,12 +204,12 @@ module _ {K G T : Type 0} (k : Ghosts K) (g : Gathering G T) (first last : G) (c
     untouched = λ halted. absurd (true≢false (sym halted ∙ was));
     good = is;
     stored = stored;
-    honest = honest
+    honest = honest;
   }
 
   told_stop : (fault : Fault) → (fault ≡ Fault.Store → stops ≡ true) → (stops ≡ true → fault ≡ Fault.Store) → (A : Ledger)
       → TellsStop (failed fault ≡ Err Fault.Store) (desk_state k desk)
-          (desk_state k (record { ledger = A; keep = end.keep.keep }))
+      (desk_state k (record { ledger = A; keep = end.keep.keep }))
   told_stop fault stopped told A = record {
     stopped = λ e. sym stops_is ∙ stopped (let same = e in cc same);
     going = λ other. by stops refl other;
@@ -218,13 +224,13 @@ module _ {K G T : Type 0} (k : Ghosts K) (g : Gathering G T) (first last : G) (c
       → (told ≡ Err Fault.Store → stops ≡ true) → OnErr told (stops ≡ true → told ≡ Err Fault.Store)
       → OnOk ended ((end.keep.stopped ≡ false) × HasServed http g.remaining g.contents g.doors k first last connections off end)
       → OnErr ended ((count : ℕ) × (count ≤ connections)
-          × HasServed http g.remaining g.contents g.doors k first last count off end)
+      × HasServed http g.remaining g.contents g.doors k first last count off end)
       → Ends k (end.keep.keep, told) desk (Meets g first (λ count loss. (count ≡ connections) × (loss ≡ None)))
-          (λ fault old new. IsCrowdFault fault × Meets g first (λ count loss. count ≤ connections) old new)
+      (λ fault old new. IsCrowdFault fault × Meets g first (λ count loss. count ≤ connections) old new)
   crowd_ends (Ok done) (Ok all) whole cut fault store still served part =
       let (A, is, stored, meets) =
-          closed_going k g first last (λ count loss. (count ≡ connections) × (loss ≡ None)) desk off end ledger_is
-              stopped_is was good going connections (refl, refl) served.0 served.1 in (
+      closed_going k g first last (λ count loss. (count ≡ connections) × (loss ≡ None)) desk off end ledger_is
+      stopped_is was good going connections (refl, refl) served.0 served.1 in (
         A,
         record {
           whole = meets;
@@ -238,8 +244,8 @@ module _ {K G T : Type 0} (k : Ghosts K) (g : Gathering G T) (first last : G) (c
   crowd_ends (Ok done) (Err e) whole cut fault store still served part = absurd cut
   crowd_ends (Err why) (Err e) whole cut fault store still served (count, few, has) =
       let (A, is, stored, meets) =
-          closed k g first last (λ count loss. count ≤ connections) desk off end ledger_is stopped_is was good going
-              count (λ loss. few) has in (
+      closed k g first last (λ count loss. count ≤ connections) desk off end ledger_is stopped_is was good going
+      count (λ loss. few) has in (
         A,
         record {
           whole = tt;

@@ -1,6 +1,6 @@
 -- What is found after a session.
-use Rattle.std.proofs.Common.{◌≡◌, ◌≢◌, ◌⊎◌, ◌∙◌, ◌++◌, ℕ, Bool, false, true, true≢false, List, [], ◌∷◌, Some, Result,
-    Ok, Err, IfErr, OnOk, ap, arith, refl, subst, sym}
+use Rattle.std.proofs.Common.{◌≡◌, ◌≢◌, ◌⊎◌, ◌∙◌, ◌++◌, ℕ, Bool, false, true, true≢false, List, [], ◌∷◌, Some, Result}
+use Rattle.std.proofs.Common.{Ok, Err, IfErr, OnOk, ap, arith, refl, subst, sym}
 use Rattle.std.proofs.Math.Logic.{inl, inr}
 use Rattle.std.proofs.KnownBytes.{Appends-kept, Appends-nil, Consumes-kept, Consumes-nil}
 use Rattle.words.specs.declared.command.Request.{Request}
@@ -58,7 +58,7 @@ module _ (end : DeskState) where
       by later false e = later e
       by later true e =
           subst (λ (s : Snapshot). StopsNow s.ledger) (sym (none_behind mid new streams e more))
-              (one_stops old mid s going e honest one)
+          (one_stops old mid s going e honest one)
 
   -- of the desk at the end only what is said of the disk matters
   as_first : (A : Ledger) (b : Bool) (streams : List Streams) (old new : Snapshot) → AreServed end old streams new
@@ -88,25 +88,31 @@ service_left count holds old new went good honest (streams, few, served) stored 
     by : (b : Bool) → new.is_stopped ≡ b → LeavesRowsOf new.leaves (IsFoundAfterService count (first_of old new))
     by false e =
         stored_left new.ledger (IsFoundAfterService count (first_of old new)) holds new.leaves good
-            (snapshot new, some, inl refl) (stored e)
+        (snapshot new, some, inl refl) (stored e)
     by true e =
         let (r, accepted, either) = last_stops new (snapshot old) (snapshot new) streams went e honest served in
         either_left new.ledger (accept new.ledger r) (IsFoundAfterService count (first_of old new)) new.leaves
-            (snapshot new, some, inl refl) (snapshot new, some, inr (e, r, accepted, refl)) either
+        (snapshot new, some, inl refl) (snapshot new, some, inr (e, r, accepted, refl)) either
 
 -- ---- where nothing is done
 
 module _ (first : DeskState) (s : Streams) (silent : IsSilent s) where
   no_items : (most : ℕ)
       → Writes s.writer_old s.writer_new (λ written. IsFoundAfterItems most first.ledger [] written first.ledger)
-  no_items most =
-      ([], Appends-kept _ _ _ _ (Appends-nil s.writer_old) silent.1,
-          found_told most first.ledger [] first.ledger [] [] [] refl (refl, refl))
+  no_items most = (
+    [],
+    Appends-kept _ _ _ _ (Appends-nil s.writer_old) silent.1,
+    found_told most first.ledger [] first.ledger [] [] [] refl (refl, refl),
+  )
 
   pub nothing_found : (work : Work) → IsFoundAfterWork work first s first.ledger
-  nothing_found Script =
-      ([], [], Consumes-kept _ _ _ _ (Consumes-nil s.reader_old) silent.0,
-          record { ended = []; rest = Some []; feeds = (refl, refl); all = refl }, no_items 1)
+  nothing_found Script = (
+    [],
+    [],
+    Consumes-kept _ _ _ _ (Consumes-nil s.reader_old) silent.0,
+    record { ended = []; rest = Some []; feeds = (refl, refl); all = refl },
+    no_items 1,
+  )
   nothing_found (Requests kind csv together) = ([], no_items (most_together together))
   nothing_found (Sheet of) = refl
   nothing_found (Serve service) = (record { ledger = first.ledger; is_stopped = false }, ([], omega arith, refl), inl refl)
@@ -126,15 +132,16 @@ module _ {C L R W G T : Type 0} (out : Outside C L R W G T) (old new : DeskState
   done_left : (work : Work) → new.is_stopped ≡ false → WorkDone out work old new s → LeavesRowsOf new.leaves (Found work)
   done_left Script going ends = only_last Script going (found_whole old.ledger new.ledger s (text_written old new s ends))
   done_left (Requests kind csv together) going (kept, (requests, its, answered)) =
-      only_last (Requests kind csv together) going
-          (requests,
-              found_all (most_together together) old.ledger (items_of requests) new.ledger s.writer_old s.writer_new
-                  answered)
+      only_last (Requests kind csv together) going (
+        requests,
+        found_all (most_together together) old.ledger (items_of requests) new.ledger s.writer_old s.writer_new
+            answered,
+      )
   done_left (Sheet of) going (kept, same, sheet) = only_last (Sheet of) going same
   done_left (ServeAtOnce service at_once) going (kept, all) = many_left holds old new went good honest all.meets stored
   done_left (Serve service) going (kept, all) =
       service_left service.connections holds old new went good honest
-          (all.streams, omega (arith, all.as_many), all.served) stored
+      (all.streams, omega (arith, all.as_many), all.served) stored
 
   found_same : (work : Work) → IsSilent s → new.ledger ≡ old.ledger → Found work new.ledger
   found_same work silent same = subst (λ (A : Ledger). Found work A) (sym same) (nothing_found (first_of old new) s silent work)
@@ -144,13 +151,13 @@ module _ {C L R W G T : Type 0} (out : Outside C L R W G T) (old new : DeskState
     work_cut_left Script (cause, told, ends) = ends_cut_left old new holds good went honest stored cause s ends
     work_cut_left (Requests kind csv together) (reads, inl (inl is, same, writes), blames) =
         only_last (Requests kind csv together) (going (λ e. cc))
-            (found_same (Requests kind csv together) (reads, writes) same)
+        (found_same (Requests kind csv together) (reads, writes) same)
     work_cut_left (Requests kind csv together) (reads, inl (inr (inl is), same, writes), blames) =
         only_last (Requests kind csv together) (going (λ e. cc))
-            (found_same (Requests kind csv together) (reads, writes) same)
+        (found_same (Requests kind csv together) (reads, writes) same)
     work_cut_left (Requests kind csv together) (reads, inl (inr (inr (number, is)), same, writes), blames) =
         only_last (Requests kind csv together) (going (λ e. cc))
-            (found_same (Requests kind csv together) (reads, writes) same)
+        (found_same (Requests kind csv together) (reads, writes) same)
     work_cut_left (Requests kind csv together) (reads, inr (requests, its, (cause, told, (cut, writes))), blames) =
         left_as new.leaves
         (IsFoundAfterItems (most_together together) old.ledger (items_of requests) (cut.lines ++ cut.begun))
@@ -161,13 +168,13 @@ module _ {C L R W G T : Type 0} (out : Outside C L R W G T) (old new : DeskState
     work_cut_left (Sheet of) (reads, same, inr (is, begun)) = only_last (Sheet of) (going (λ e. cc)) same
     work_cut_left (Serve service) (reads, inl (inl is, begun, same)) =
         only_last (Serve service) (going (λ e. cc))
-            (record { ledger = old.ledger; is_stopped = false }, ([], omega arith, refl), inl same)
+        (record { ledger = old.ledger; is_stopped = false }, ([], omega arith, refl), inl same)
     work_cut_left (Serve service) (reads, inl (inr (inl is), begun, same)) =
         only_last (Serve service) (going (λ e. cc))
-            (record { ledger = old.ledger; is_stopped = false }, ([], omega arith, refl), inl same)
+        (record { ledger = old.ledger; is_stopped = false }, ([], omega arith, refl), inl same)
     work_cut_left (Serve service) (reads, inl (inr (inr is), begun, same)) =
         only_last (Serve service) (going (λ e. cc))
-            (record { ledger = old.ledger; is_stopped = false }, ([], omega arith, refl), inl same)
+        (record { ledger = old.ledger; is_stopped = false }, ([], omega arith, refl), inl same)
     work_cut_left (ServeAtOnce service at_once) (reads, inl (inl is, begun, same)) =
         only_last (ServeAtOnce service at_once) (going (λ e. cc)) ([], going_at old.ledger, refl, same)
     work_cut_left (ServeAtOnce service at_once) (reads, inl (inr (inl is), begun, same)) =

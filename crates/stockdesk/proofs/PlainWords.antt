@@ -1,14 +1,14 @@
 -- What `clap` makes of words of which some are no options, whatever they are.
-use Rattle.std.proofs.Common.{◌≡◌, ◌≢◌, [], ◌∷◌, ◌==◌, ◌&&◌, List, None, Option, Some, ℕ, Bool, false, true, refl, ap,
-    ap₂, sym, ◌∙◌, fold, map}
+use Rattle.std.proofs.Common.{◌≡◌, ◌≢◌, [], ◌∷◌, ◌==◌, ◌&&◌, List, None, Option, Some, ℕ, Bool, false, true, refl, ap}
+use Rattle.std.proofs.Common.{ap₂, sym, ◌∙◌, fold, map}
 use Rattle.std.proofs.lemmas.Bool.{ne_eqb}
 use Rattle.std.specs.Str.{bytes_eq}
 use Rattle.std.specs.List.{list_all}
 use Rattle.clap.specs.Lexer.{long_of, short_of}
 use Rattle.clap.specs.Simple.{Shape}
 use Rattle.clap.specs.Takes.{default_passes, is_valid, level_passes, settle_passes, step_passes, turn_passes, walk_passes}
-use Rattle.clap.specs.Walk.{Held, Names, Row, Rule, Step, Text, Waiting, Walk, after_step, finished, idle, nothing_held,
-    option, plain_word, positional, rows_after, walk, walk_from, walked, word_met}
+use Rattle.clap.specs.Walk.{Held, Names, Row, Rule, Step, Text, Waiting, Walk, after_step, finished, idle, nothing_held}
+use Rattle.clap.specs.Walk.{option, plain_word, positional, rows_after, walk, walk_from, walked, word_met}
 use Rattle.stockdesk.specs.Tasks.{IsNoOption}
 
 -- ---- one word
@@ -50,14 +50,35 @@ turns s w word going before plain = by w.waiting refl
   where
     by : (waiting : Waiting) → w.waiting ≡ waiting → turn_passes s [] w word ≡ passes_plainly s w word
     by idle is =
-        rw (going, before, met s.rules w.waiting w.position word w.held plain, is, no_dashes word plain,
-            no_long word plain, no_short word plain) refl
+        rw (
+          going,
+          before,
+          met s.rules w.waiting w.position word w.held plain,
+          is,
+          no_dashes word plain,
+          no_long word plain,
+          no_short word plain,
+        ) refl
     by (option id) is =
-        rw (going, before, met s.rules w.waiting w.position word w.held plain, is, no_dashes word plain,
-            no_long word plain, no_short word plain) refl
+        rw (
+          going,
+          before,
+          met s.rules w.waiting w.position word w.held plain,
+          is,
+          no_dashes word plain,
+          no_long word plain,
+          no_short word plain,
+        ) refl
     by positional is =
-        rw (going, before, met s.rules w.waiting w.position word w.held plain, is, no_dashes word plain,
-            no_long word plain, no_short word plain) refl
+        rw (
+          going,
+          before,
+          met s.rules w.waiting w.position word w.held plain,
+          is,
+          no_dashes word plain,
+          no_long word plain,
+          no_short word plain,
+        ) refl
 
 -- ---- many words, each with whether it is no option, whatever it is
 
@@ -96,7 +117,7 @@ unfolding walk_passes
 passes s w [] fit = refl
 passes s w ((true, word) ∷ rest) (going, before, plain, more) =
     ap₂ (λ (b : Bool) (v : Walk). b && walk_passes s [] v (words_of rest)) (turns s w word going before plain)
-        (steps s.rules w word going before plain)
+    (steps s.rules w word going before plain)
     ∙ ap (λ (b : Bool). passes_plainly s w word && b) (passes s (plainly s.rules w word) rest more)
 passes s w ((false, word) ∷ rest) fit =
     ap (λ (b : Bool). turn_passes s [] w word && b) (passes s (walked s.rules [] w word) rest fit)
@@ -118,13 +139,13 @@ level_over s marked =
     let end = (walk_over s.rules start marked).held in
     passes_over s start marked
     && (settle_passes s.rules s.args_override_self end
-        && (list_all default_passes s.rules && is_valid s (finished s.rules end) false))
+    && (list_all default_passes s.rules && is_valid s (finished s.rules end) false))
 
 pub are_taken : (s : Shape) (marked : Marked) → Fit s.rules start marked
     → level_passes s [] nothing_held (words_of marked) false ≡ level_over s marked
 are_taken s marked fit =
     ap₂ (λ (b : Bool) (w : Walk).
-        b
-        && (settle_passes s.rules s.args_override_self w.held
-            && (list_all default_passes s.rules && is_valid s (finished s.rules w.held) false)))
+    b
+    && (settle_passes s.rules s.args_override_self w.held
+    && (list_all default_passes s.rules && is_valid s (finished s.rules w.held) false)))
     (passes s start marked fit) (walks s.rules start marked fit)

@@ -1,6 +1,6 @@
 -- What a session has read and written.
-use Rattle.std.proofs.Common.{◌≡◌, ◌≢◌, ◌⊎◌, ◌∙◌, [], ◌∷◌, Bool, Err, IfErr, List, ℕ, Ok, OnErr, OnOk, Option, Result,
-    Some, ap, arith, false, refl, subst, sym, true, true≢false}
+use Rattle.std.proofs.Common.{◌≡◌, ◌≢◌, ◌⊎◌, ◌∙◌, [], ◌∷◌, Bool, Err, IfErr, List, ℕ, Ok, OnErr, OnOk, Option, Result}
+use Rattle.std.proofs.Common.{Some, ap, arith, false, refl, subst, sym, true, true≢false}
 use Rattle.std.proofs.Math.Logic.{inl, inr}
 use Rattle.std.proofs.KnownBytes.{Appends-kept, Appends-nil, Consumes-kept, Consumes-nil, Keeps-refl}
 use Rattle.std.proofs.lemmas.Result.{IfErr-at_err}
@@ -21,8 +21,9 @@ use Rattle.desk.proofs.Faults.{other_error}
 use Rattle.desk.proofs.LineAnswers.{cut_told, text_written}
 use Rattle.desk.proofs.SomeText.{text_from}
 use Rattle.stockdesk.specs.Runs.{AnswersLines, AnswersText, BeginsText}
-use Rattle.stockdesk.specs.Sessions.{IsBadFile, IsNoDesk, IsToldAs, IsUnbegun, OpensAndDoes, HoldsOnly, ScriptCut,
-    Session, SessionCut, SessionInPart, SessionWhole, StillHolds, desk_left, session_in, session_on}
+use Rattle.stockdesk.specs.Sessions.{IsBadFile, IsNoDesk, IsToldAs, IsUnbegun, OpensAndDoes, HoldsOnly, ScriptCut}
+use Rattle.stockdesk.specs.Sessions.{Session, SessionCut, SessionInPart, SessionWhole, StillHolds, desk_left}
+use Rattle.stockdesk.specs.Sessions.{session_in, session_on}
 use Rattle.stockdesk.specs.declared.session.Fault.{Fault}
 
 rows_new : IsRowsOf new_ledger new_content
@@ -44,7 +45,7 @@ nothing_read A s (reads, writes) = record {
   text = record {
     items = [];
     are_items = record { ended = []; rest = Some []; feeds = (refl, refl); all = refl };
-    replies = (refl, refl)
+    replies = (refl, refl);
   };
   prompt = record {
     before = [];
@@ -116,7 +117,7 @@ module _ {K : Type 0} (on : Session K) (r : Result (Unit {0}) Fault) (first : De
     (rows : on.ghosts.is_honest on.keep → (x : Content) → on.held x → IsRowsOf first.ledger x)
     (stop : TellsStop (r ≡ Err Fault.Store) (desk_state on.ghosts first) (desk_left on last))
     (stored : on.ghosts.stopped on.keep ≡ false → on.ghosts.is_honest on.keep
-        → IsStored (on.ghosts.holds on.keep) (on.ghosts.leaves on.keep) last) where
+    → IsStored (on.ghosts.holds on.keep) (on.ghosts.leaves on.keep) last) where
   -- all was done on a desk
   pub whole_by : OnOk r (Done (desk_state on.ghosts first) (desk_left on last)) → OnOk r (SessionWhole on Done)
   whole_by = by r refl
@@ -128,7 +129,7 @@ module _ {K : Type 0} (on : Session K) (r : Result (Unit {0}) Fault) (first : De
           record {
             on = record { first = first; last = last; began = began; good = good; rows = rows; done = ends };
             going = going;
-            kept = stored going
+            kept = stored going;
           }
       by (Err fault) is ends = tt
 
@@ -137,7 +138,7 @@ module _ {K : Type 0} (on : Session K) (r : Result (Unit {0}) Fault) (first : De
       → IfErr r (λ f. ¬ IsNoDesk f) → SessionCut on fault Done
   cut_by fault is ends desk =
       let going : fault ≢ Fault.Store → on.ghosts.stopped on.keep ≡ false =
-          λ other. stop.going (other_error r fault Fault.Store is other) ∙ began in
+      λ other. stop.going (other_error r fault Fault.Store is other) ∙ began in
       record {
         on = record { first = first; last = last; began = began; good = good; rows = rows; done = ends };
         desk = IfErr-at_err (λ f. ¬ IsNoDesk f) is desk;
@@ -153,7 +154,7 @@ pub cut_begins : (fault : Fault) (old new : DeskState) (s : Streams) → Good ol
     → ScriptCut fault old new s → BeginsText old.ledger s
 cut_begins fault old new s good going (cause, told, ends) =
     let (unwritten, last, text) =
-        text_from cause old new ends.read ends.written ends.questions good ends.are_questions ends.cut in
+    text_from cause old new ends.read ends.written ends.questions good ends.are_questions ends.cut in
     let began : snapshot old ≡ going_at old.ledger = ap (λ (b : Bool). record { ledger = old.ledger; is_stopped = b }) going in
     record {
       read = ends.read;
@@ -175,18 +176,19 @@ module _ {K : Type 0} (on : Session K) (s : Streams) (honest : on.ghosts.is_hone
   from_new Done begun Is h = subst Is (is_new begun.first.ledger begun.good (begun.rows honest new_content new)) h
 
   pub runs_whole : SessionWhole on (λ old new. EndsWhole lines old new s) → AnswersText new_ledger s
-  runs_whole all =
-      (all.on.last,
-          from_new _ all.on (λ A. WritesText A all.on.last s)
-              (text_written (desk_state on.ghosts all.on.first) (desk_left on all.on.last) s all.on.done))
+  runs_whole all = (
+    all.on.last,
+    from_new _ all.on (λ A. WritesText A all.on.last s)
+        (text_written (desk_state on.ghosts all.on.first) (desk_left on all.on.last) s all.on.done),
+  )
 
   module _ (fault : Fault) where
     pub runs_part : SessionInPart on fault (IsSilent s) (λ old new. ScriptCut fault old new s) → BeginsText new_ledger s
     runs_part (inl (refused, silent)) = nothing_read new_ledger s silent
     runs_part (inr cut) =
         from_new _ cut.on (λ A. BeginsText A s)
-            (cut_begins fault (desk_state on.ghosts cut.on.first) (desk_left on cut.on.last) s cut.on.good cut.on.began
-                cut.on.done)
+        (cut_begins fault (desk_state on.ghosts cut.on.first) (desk_left on cut.on.last) s cut.on.good cut.on.began
+        cut.on.done)
 
     pub runs_so_far : SessionInPart on fault (IsSilent s) (λ old new. ScriptCut fault old new s) → fault ≡ Fault.Read
         → AnswersLines new_ledger s
@@ -205,7 +207,7 @@ module _ {K : Type 0} (on : Session K) (s : Streams) (honest : on.ghosts.is_hone
           feeds = feeds;
           replies =
               cut_told cause (desk_state on.ghosts cut.on.first) (desk_left on cut.on.last) ends.questions ends.written
-                  ends.cut (λ e. let both = sym e ∙ told.read.0 is in cc both);
+              ends.cut (λ e. let both = sym e ∙ told.read.0 is in cc both);
         })
 
     -- a new desk is a desk, and not damaged
@@ -233,7 +235,7 @@ module _ {K : Type 0} (g : Ghosts K) (keep : K) (was : Content → Type 0) (open
     began = s.began;
     good = s.good;
     rows = λ honest x there. s.rows honest x (opens.held (back honest) x there);
-    done = s.done
+    done = s.done;
   }
 
   pub starts_whole : (AllDone : DeskState → DeskState → Type 0) → SessionWhole (session_on g opened keep) AllDone

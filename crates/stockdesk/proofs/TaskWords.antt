@@ -1,6 +1,7 @@
 -- What `clap` makes of the words for a task.
-use Rattle.std.proofs.Common.{◌≡◌, ◌<◌, ◌∙◌, ◌&&◌, ◌^◌, [], ◌∷◌, arith, Bool, Bor, IfSome, IsSome, IsTrue, List, None,
-    Option, Some, ap, codes, decimal, false, get_or, length, refl, subst, suc, sym, true, true≢false, zero, ℕ}
+use Rattle.std.proofs.Common.{◌≡◌, ◌<◌, ◌∙◌, ◌&&◌, ◌^◌, [], ◌∷◌, arith, Bool, Bor, IfSome, IsSome, IsTrue, List, None}
+use Rattle.std.proofs.Common.{Option, Some, ap, codes, decimal, false, get_or, length, refl, subst, suc, sym, true}
+use Rattle.std.proofs.Common.{true≢false, zero, ℕ}
 use Rattle.std.specs.List.{list_all}
 use Rattle.std.specs.Int.NonZero.{non_zero_usize_get}
 use Rattle.std.specs.declared.num.NonZeroUsize.{NonZeroUsize}
@@ -11,9 +12,9 @@ use Rattle.clap.specs.Takes.{level_passes}
 use Rattle.clap.specs.Walk.{nothing_held, rows_after}
 use Rattle.clap.proofs.OnLiterals.{clap_on_literals}
 use Rattle.escrow.specs.Codes.{IsArticle, IsBranch, is_branch_byte}
-use Rattle.stockdesk.specs.Tasks.{AreWordsFor, Asks, AsksFor, AsksForWork, AsksTogether, IsFew, IsNoOption, IsToAsk,
-    IsWorkToAsk, Takes, TakesOn, TakesWork, article, bounds, command_of, deliveries, init, orders, run, serve, sheet,
-    stockdesk, task_words, together_words, upgrade, work_words}
+use Rattle.stockdesk.specs.Tasks.{AreWordsFor, Asks, AsksFor, AsksForWork, AsksTogether, IsFew, IsNoOption, IsToAsk}
+use Rattle.stockdesk.specs.Tasks.{IsWorkToAsk, Takes, TakesOn, TakesWork, article, bounds, command_of, deliveries, init}
+use Rattle.stockdesk.specs.Tasks.{orders, run, serve, sheet, stockdesk, task_words, together_words, upgrade, work_words}
 use Rattle.stockdesk.specs.declared.at_once.AtOnce.{AtOnce}
 use Rattle.stockdesk.specs.declared.loopback.Service.{Service}
 use Rattle.stockdesk.specs.declared.requests.Kind.{Kind}
@@ -63,8 +64,12 @@ gives : (name command : Text) (s : Shape) (marked : Marked) (task : Task)
     → Fit (leaf s).rules start marked → level_over (leaf s) marked ≡ true → AsksFor command (rows_over (leaf s) marked) task
     → Gives (name ∷ command ∷ words_of marked) task
 gives name command s marked task enters passes fit taken asks = (
-  (command, rows_over (leaf s) marked,
-      enters ∙ ap (λ (rows : List Row). Some (command, rows)) (are_rows (leaf s) marked fit), asks),
+  (
+    command,
+    rows_over (leaf s) marked,
+    enters ∙ ap (λ (rows : List Row). Some (command, rows)) (are_rows (leaf s) marked fit),
+    asks,
+  ),
   passes ∙ ap (λ (b : Bool). b && true) (are_taken (leaf s) marked fit ∙ taken),
 )
 
@@ -86,13 +91,13 @@ gives_requests : (kind : Kind) (together : Option NonZeroUsize) (name : Text) (p
 unfolding clap_on_literals
 gives_requests Orders None name path csv p c few =
     gives name (codes "orders") orders.top (two path.now csv.now) (InFile path (Requests Orders csv None)) refl refl
-        (refl, refl, p, (refl, refl, c, tt)) refl (refl, (refl, refl, refl))
+    (refl, refl, p, (refl, refl, c, tt)) refl (refl, (refl, refl, refl))
 gives_requests Deliveries None name path csv p c few =
     gives name (codes "deliveries") deliveries.top (two path.now csv.now) (InFile path (Requests Deliveries csv None))
-        refl refl (refl, refl, p, (refl, refl, c, tt)) refl (refl, (refl, refl, refl))
+    refl refl (refl, refl, p, (refl, refl, c, tt)) refl (refl, (refl, refl, refl))
 gives_requests Bounds None name path csv p c few =
     gives name (codes "bounds") bounds.top (two path.now csv.now) (InFile path (Requests Bounds csv None)) refl refl
-        (refl, refl, p, (refl, refl, c, tt)) refl (refl, (refl, refl, refl))
+    (refl, refl, p, (refl, refl, c, tt)) refl (refl, (refl, refl, refl))
 gives_requests Orders (Some most) name path csv p c (some, few) =
     let n : IsNoOption (decimal (non_zero_usize_get most)) = number_word (non_zero_usize_get most) (omega (arith, few)) in
     gives name (codes "orders") orders.top (many_together path.now csv.now most)
@@ -121,11 +126,21 @@ gives_service name path service p (is_port, some, many) =
     let port : IsNoOption (decimal service.port) = number_word service.port (omega (arith, is_port)) in
     let connections : IsNoOption (decimal service.connections) = number_word service.connections (omega (arith, many)) in
     gives name (codes "serve") serve.top (of_service path.now service) (InFile path (Serve service)) refl refl
-    (refl, refl, p, (refl, refl, port, (refl, refl, connections, tt))) refl
-    (refl,
-        (refl, refl, refl,
-            (decimal service.port, decimal service.connections, refl, refl,
-                record { port_is = refl; connections_are = refl; is_port = is_port; some = some; not_many = many })))
+    (refl, refl, p, (refl, refl, port, (refl, refl, connections, tt))) refl (
+      refl,
+      (
+        refl,
+        refl,
+        refl,
+        (
+          decimal service.port,
+          decimal service.connections,
+          refl,
+          refl,
+          record { port_is = refl; connections_are = refl; is_port = is_port; some = some; not_many = many },
+        ),
+      ),
+    )
 
 abbrev clients_marked : Option NonZeroUsize → Marked
 clients_marked None = []
@@ -141,13 +156,13 @@ gives_service_at_once : (name : Text) (path : Bor Text) (service : Service) (tog
     (clients : Option NonZeroUsize) → IsNoOption path.now
     → IsWorkToAsk (ServeAtOnce service (record { together = together; clients = clients }))
     → Gives (name ∷ work_words path.now (ServeAtOnce service (record { together = together; clients = clients })))
-        (InFile path (ServeAtOnce service (record { together = together; clients = clients })))
+    (InFile path (ServeAtOnce service (record { together = together; clients = clients })))
 unfolding clap_on_literals
 gives_service_at_once name path service together None p ((is_port, some, many), (some_together, few_together), few_clients) =
     let port : IsNoOption (decimal service.port) = number_word service.port (omega (arith, is_port)) in
     let connections : IsNoOption (decimal service.connections) = number_word service.connections (omega (arith, many)) in
     let few : IsNoOption (decimal (non_zero_usize_get together)) =
-        number_word (non_zero_usize_get together) (omega (arith, few_together)) in
+    number_word (non_zero_usize_get together) (omega (arith, few_together)) in
     let at_once : AtOnce = record { together = together; clients = None } in
     gives name (codes "serve") serve.top (of_service_at_once path.now service at_once None)
     (InFile path (ServeAtOnce service at_once)) refl refl
@@ -155,10 +170,18 @@ gives_service_at_once name path service together None p ((is_port, some, many), 
       refl,
       (
         refl,
-        (decimal (non_zero_usize_get together), refl,
-            record { together_is = (together, refl, refl, few_together); clients_are = refl }),
-        (decimal service.port, decimal service.connections, refl, refl,
-            record { port_is = refl; connections_are = refl; is_port = is_port; some = some; not_many = many }),
+        (
+          decimal (non_zero_usize_get together),
+          refl,
+          record { together_is = (together, refl, refl, few_together); clients_are = refl },
+        ),
+        (
+          decimal service.port,
+          decimal service.connections,
+          refl,
+          refl,
+          record { port_is = refl; connections_are = refl; is_port = is_port; some = some; not_many = many },
+        ),
       ),
     )
 gives_service_at_once name path service together (Some most) p
@@ -166,9 +189,9 @@ gives_service_at_once name path service together (Some most) p
     let port : IsNoOption (decimal service.port) = number_word service.port (omega (arith, is_port)) in
     let connections : IsNoOption (decimal service.connections) = number_word service.connections (omega (arith, many)) in
     let few : IsNoOption (decimal (non_zero_usize_get together)) =
-        number_word (non_zero_usize_get together) (omega (arith, few_together)) in
+    number_word (non_zero_usize_get together) (omega (arith, few_together)) in
     let clients : IsNoOption (decimal (non_zero_usize_get most)) =
-        number_word (non_zero_usize_get most) (omega (arith, few_clients)) in
+    number_word (non_zero_usize_get most) (omega (arith, few_clients)) in
     let at_once : AtOnce = record { together = together; clients = Some most } in
     gives name (codes "serve") serve.top (of_service_at_once path.now service at_once (Some most))
     (InFile path (ServeAtOnce service at_once)) refl refl
@@ -176,13 +199,21 @@ gives_service_at_once name path service together (Some most) p
       refl,
       (
         refl,
-        (decimal (non_zero_usize_get together), refl,
-            record {
-              together_is = (together, refl, refl, few_together);
-              clients_are = (most, refl, refl, few_clients)
-            }),
-        (decimal service.port, decimal service.connections, refl, refl,
-            record { port_is = refl; connections_are = refl; is_port = is_port; some = some; not_many = many }),
+        (
+          decimal (non_zero_usize_get together),
+          refl,
+          record {
+            together_is = (together, refl, refl, few_together);
+            clients_are = (most, refl, refl, few_clients);
+          },
+        ),
+        (
+          decimal service.port,
+          decimal service.connections,
+          refl,
+          refl,
+          record { port_is = refl; connections_are = refl; is_port = is_port; some = some; not_many = many },
+        ),
       ),
     )
 
@@ -192,17 +223,17 @@ gives_task (Init path) name p =
     gives name (codes "init") init.top (one path.now) (Init path) refl refl (refl, refl, p, tt) refl (refl, refl)
 gives_task (Upgrade path) name p =
     gives name (codes "upgrade") upgrade.top (one path.now) (Upgrade path) refl refl (refl, refl, p, tt) refl
-        (refl, refl)
+    (refl, refl)
 gives_task InMemory name p = gives name (codes "run") run.top [] InMemory refl refl tt refl (refl, refl)
 gives_task (InFile path Script) name (p, ok) =
     gives name (codes "run") run.top (one path.now) (InFile path Script) refl refl (refl, refl, p, tt) refl (refl, refl)
 gives_task (InFile path (Requests kind csv together)) name (p, (c, few)) = gives_requests kind together name path csv p c few
 gives_task (InFile path (Sheet (Branch branch))) name (p, form) =
     gives name (codes "sheet") sheet.top (two path.now branch) (InFile path (Sheet (Branch branch))) refl refl
-        (refl, refl, p, (refl, refl, branch_word branch form, tt)) refl (refl, (refl, refl))
+    (refl, refl, p, (refl, refl, branch_word branch form, tt)) refl (refl, (refl, refl))
 gives_task (InFile path (Sheet (Article code))) name (p, form) =
     gives name (codes "article") article.top (two path.now code) (InFile path (Sheet (Article code))) refl refl
-        (refl, refl, p, (refl, refl, article_word code form, tt)) refl (refl, (refl, refl))
+    (refl, refl, p, (refl, refl, article_word code form, tt)) refl (refl, (refl, refl))
 gives_task (InFile path (Serve service)) name (p, ok) = gives_service name path service p ok
 gives_task (InFile path (ServeAtOnce service at_once)) name (p, ok) =
     gives_service_at_once name path service at_once.together at_once.clients p ok

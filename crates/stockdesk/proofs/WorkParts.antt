@@ -79,7 +79,7 @@ module _ {C L R W G T : Type 0} (out : Outside C L R W G T) (fault : Fault) (old
         RepliesAll old.ledger (items_of cut.answered ++ items_of cut.last) out cut.behind)
         (sym (append_assoc cut.lines cut.begun cut.unwritten))
         (replies_joined (items_of cut.answered) (items_of cut.last) old.ledger cut.before cut.behind cut.lines
-            (cut.begun ++ cut.unwritten) cut.replies cut.rest);
+        (cut.begun ++ cut.unwritten) cut.replies cut.rest);
     writes = writes;
   }
 
@@ -123,9 +123,11 @@ module _ {C L R W G T : Type 0} (out : Outside C L R W G T) (fault : Fault) (old
 
 module _ {K C L R W G T : Type 0} (out : Outside C L R W G T) (on : Session K) (s : Streams) where
   pub works_whole : (work : Work) → WorkWhole out on work s → DoesWork work s
-  works_whole Script all =
-      (all.on.first.ledger, all.on.good,
-          (all.on.last, text_written (desk_state on.ghosts all.on.first) (desk_left on all.on.last) s all.on.done))
+  works_whole Script all = (
+    all.on.first.ledger,
+    all.on.good,
+    (all.on.last, text_written (desk_state on.ghosts all.on.first) (desk_left on all.on.last) s all.on.done),
+  )
   works_whole (Requests kind csv together) all =
       (all.on.done.0, (all.on.first.ledger, all.on.last, all.on.done.1.0, all.on.good, all.on.done.1.2))
   works_whole (Sheet of) all = (all.on.done.0, (all.on.first.ledger, all.on.good, all.on.done.2))
@@ -137,7 +139,7 @@ module _ {K C L R W G T : Type 0} (out : Outside C L R W G T) (on : Session K) (
     works_in_part (inl (refused, silent)) = works_nothing work s silent
     works_in_part (inr cut) =
         cut_in_part out fault (desk_state on.ghosts cut.on.first) (desk_left on cut.on.last) s work cut.on.good
-            cut.on.began cut.on.done
+        cut.on.began cut.on.done
 
     -- where nothing is begun, nothing is read or written
     pub works_untouched : WorkInPart out on work fault s → IsUnbegun fault → IsSilent s

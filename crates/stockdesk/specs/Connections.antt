@@ -1,6 +1,6 @@
 -- What connections see of a desk, and what they do to it.
-use Rattle.std.specs.Prelude.{◌≡◌, ◌<◌, ◌≤◌, ◌⊎◌, ◌^◌, false, true, ℕ, List, [], ◌∷◌, ◌++◌, None, Option, Some, codes,
-    decimal, length, take}
+use Rattle.std.specs.Prelude.{◌≡◌, ◌<◌, ◌≤◌, ◌⊎◌, ◌^◌, false, true, ℕ, List, [], ◌∷◌, ◌++◌, None, Option, Some, codes}
+use Rattle.std.specs.Prelude.{decimal, length, take}
 use Rattle.std.specs.Io.KnownBytes.{Appends}
 use Rattle.ledger.specs.Answers.{IsAccepted}
 use Rattle.ledger.specs.Ledger.{Ledger}

@@ -1,6 +1,6 @@
 -- What answers tell of their kinds, and of how the desk stands.
-use Rattle.std.proofs.Common.{◌≡◌, ◌≢◌, ◌∙◌, Bool, true, false, true≢false, ℕ, List, [], ◌∷◌, Option, Some, None,
-    MatchOption, MatchBool, ap, arith, length, refl, sym}
+use Rattle.std.proofs.Common.{◌≡◌, ◌≢◌, ◌∙◌, Bool, true, false, true≢false, ℕ, List, [], ◌∷◌, Option, Some, None}
+use Rattle.std.proofs.Common.{MatchOption, MatchBool, ap, arith, length, refl, sym}
 use Rattle.std.specs.List.{AllByRecursion as Each}
 use Rattle.serde_json.proofs.OnLiterals.{serde_json_on_literals}
 use Rattle.serde_json.specs.Data.{Data}
@@ -93,7 +93,7 @@ memory≢stopped e = let size : 18 ≡ 19 = ap (λ (a : Answer). length a.body) 
 abbrev RepliesIf : Snapshot → Ask → Bool → Answer → Snapshot → Type 0
 RepliesIf old ask b answer new =
     MatchBool b ((answer ≡ reply_of_stopped ask) × (new ≡ old))
-        (AnswersAsk old.ledger ask answer new.ledger × (new.is_stopped ≡ false))
+    (AnswersAsk old.ledger ask answer new.ledger × (new.is_stopped ≡ false))
 
 plain_stays : (old : Snapshot) (ask : Ask) (answer : Answer) (new : Snapshot) → old.is_stopped ≡ true
     → RepliesAt old ask answer new → new.is_stopped ≡ true
@@ -155,9 +155,10 @@ pub stopped_told : (parts : List Part) (kinds : List AnswerKind) (answers : List
     → AreAnswers http old parts kinds answers new
     → new.is_stopped ≡ false → Each (λ answer. answer ≢ stopped_answer) answers
 stopped_told [] [] [] old new h e = tt
-stopped_told (part ∷ parts) (kind ∷ kinds) (answer ∷ answers) old new (mid, first, more) e =
-    (part_tells old part kind answer mid first (going_before parts kinds answers mid new more e),
-        stopped_told parts kinds answers mid new more e)
+stopped_told (part ∷ parts) (kind ∷ kinds) (answer ∷ answers) old new (mid, first, more) e = (
+  part_tells old part kind answer mid first (going_before parts kinds answers mid new more e),
+  stopped_told parts kinds answers mid new more e,
+)
 stopped_told [] [] (answer ∷ answers) old new h e = absurd h
 stopped_told [] (kind ∷ kinds) answers old new h e = absurd h
 stopped_told (part ∷ parts) [] answers old new h e = absurd h

@@ -33,7 +33,7 @@ SpellsSome text = (c : Command) × IsInRange c × (text ≡ spelling c)
 spelled_decided : (text : List ℕ) → Decided (SpellsSome text)
 spelled_decided text =
     decided_by to from (decided_both (decided_in_range (command_of (words_of text)))
-        (decided_word text (spelling (command_of (words_of text)))))
+    (decided_word text (spelling (command_of (words_of text)))))
   where
     to : IsInRange (command_of (words_of text)) × (text ≡ spelling (command_of (words_of text))) → SpellsSome text
     to h = (command_of (words_of text), h.0, h.1)
@@ -41,8 +41,8 @@ spelled_decided text =
     from : SpellsSome text → IsInRange (command_of (words_of text)) × (text ≡ spelling (command_of (words_of text)))
     from (d, range, e) =
         let same : d ≡ command_of (words_of text) =
-            sym (command_of-command_words d range)
-            ∙ ap command_of (sym (words-command d range) ∙ ap words_of (sym e)) in
+        sym (command_of-command_words d range)
+        ∙ ap command_of (sym (words-command d range) ∙ ap words_of (sym e)) in
         (subst IsInRange same range, e ∙ ap spelling same)
 
 -- the value is a request's object
@@ -52,7 +52,7 @@ IsSomeObject value = (r : Request) × IsObjectOf r value
 object_decided : (value : Data) → Decided (IsSomeObject value)
 object_decided (object (member p (string c) (member q (string k) no_members))) =
     decided_by to from (decided_both (decided_both (decided_word p (codes "command")) (decided_word q (codes "key")))
-        (decided_both (decided_key k) (spelled_decided c)))
+    (decided_both (decided_key k) (spelled_decided c)))
   where
     to : ((p ≡ codes "command") × (q ≡ codes "key")) × (IsKey k × SpellsSome c)
         → IsSomeObject (object (member p (string c) (member q (string k) no_members)))

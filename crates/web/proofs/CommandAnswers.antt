@@ -22,14 +22,14 @@ pub replies_going : (old new : Snapshot) (a : Ask) (answer : Answer) → old.is_
     → AnswersAsk old.ledger a answer new.ledger → RepliesAt old a answer new
 replies_going old new a answer e f h =
     subst (λ (b : Bool). MatchBool b ((answer ≡ reply_of_stopped a) × (new ≡ old))
-        (AnswersAsk old.ledger a answer new.ledger × (new.is_stopped ≡ false))) (sym e) (h, f)
+    (AnswersAsk old.ledger a answer new.ledger × (new.is_stopped ≡ false))) (sym e) (h, f)
 
 -- and that of one that is stopped
 pub replies_stopped : (at : Snapshot) (a : Ask) (answer : Answer) → at.is_stopped ≡ true → answer ≡ reply_of_stopped a
     → RepliesAt at a answer at
 replies_stopped at a answer e h =
     subst (λ (b : Bool). MatchBool b ((answer ≡ reply_of_stopped a) × (at ≡ at))
-        (AnswersAsk at.ledger a answer at.ledger × (at.is_stopped ≡ false))) (sym e) (h, refl)
+    (AnswersAsk at.ledger a answer at.ledger × (at.is_stopped ≡ false))) (sym e) (h, refl)
 
 no_stop : (kind : AnswerKind) → kind ≡ ordinary → kind ≡ stopping → ⊥
 no_stop kind e f = let g = sym e ∙ f in cc g
@@ -69,8 +69,13 @@ module _ (old new : DeskState) (text : List ℕ) where
     is_answer = (refl, record { request = r; asks = asks; accepted = call.accepted; before = e; after = f; same = same });
     text_is = bytes;
     halts = λ stops. f;
-    stops = λ going halted honest. (r, refl, asks, subst (λ A. IsAccepted A r) (sym same) call.accepted,
-        subst (λ A. LeavesEither new.leaves A (accept A r)) (sym same) (call.either honest));
+    stops = λ going halted honest. (
+      r,
+      refl,
+      asks,
+      subst (λ A. IsAccepted A r) (sym same) call.accepted,
+      subst (λ A. LeavesEither new.leaves A (accept A r)) (sym same) (call.either honest),
+    );
   }
 
 -- what is shown is an answer
@@ -95,8 +100,8 @@ called_stopped old new r text halted same call stays bytes = by old.is_stopped r
     by false e = stops_here old new (bytes_of text) r e halted same (call e) bytes
     by true e =
         subst (λ (d : DeskState). IsAnswered old (ask.Call r) text d) (sym (stays e))
-            (viewed old (ask.Call r) text
-                (stopped_answer, replies_stopped (snapshot old) (ask.Call r) stopped_answer e refl, bytes))
+        (viewed old (ask.Call r) text
+        (stopped_answer, replies_stopped (snapshot old) (ask.Call r) stopped_answer e refl, bytes))
 
 -- what is no message is answered so
 unread : (desk : DeskState) (text : List ℕ) → text ≡ answer_bytes message_answer → AnswersOne http desk unreadable text desk

@@ -1,8 +1,8 @@
 -- Fields that stand in the order of their names have one list of branches: their branches, each once.
-use Rattle.std.proofs.Common.{◌≡◌, ◌∙◌, ◌⊎◌, ◌≤◌, ◌<◌, ◌+◌, ◌++◌, Bool, Contains, Equal, Greater, Less, List, None,
-    Option, Ordering, Some, [], ◌∷◌, IsSomeAnd, ap, append-nil, append_assoc, arith, bytes_eq, cond, drop,
-    drop_of_length-le, false, get_or, if◌then◌else◌, inl, inr, length, map, nat_cmp, refl, slice_get, subst, suc, sym,
-    true, true≢false, zero, ℕ}
+use Rattle.std.proofs.Common.{◌≡◌, ◌∙◌, ◌⊎◌, ◌≤◌, ◌<◌, ◌+◌, ◌++◌, Bool, Contains, Equal, Greater, Less, List, None}
+use Rattle.std.proofs.Common.{Option, Ordering, Some, [], ◌∷◌, IsSomeAnd, ap, append-nil, append_assoc, arith, bytes_eq}
+use Rattle.std.proofs.Common.{cond, drop, drop_of_length-le, false, get_or, if◌then◌else◌, inl, inr, length, map}
+use Rattle.std.proofs.Common.{nat_cmp, refl, slice_get, subst, suc, sym, true, true≢false, zero, ℕ}
 use Rattle.std.proofs.lemmas.Cmp.{nat_list_cmp_total}
 use Rattle.std.proofs.lemmas.Map.Lookups.{exact_bytes}
 use Rattle.std.proofs.lemmas.Option.{get_or_from_slice_get, slice_get_within}
@@ -203,8 +203,8 @@ at_field A i v h = by (slice_get A.fields i) refl h
         let branch = ap (λ (g : Field). g.name.branch) same ∙ sym (ap (λ (n : Name). n.branch) shows.name) in
         let next : suc i ≡ i + 1 = omega arith in
         let rest =
-            drop-cons A.fields i f (slice_get_within A.fields i f e)
-            ∙ ap (λ (n : ℕ). get_or A.fields i f ∷ drop n A.fields) next in
+        drop-cons A.fields i f (slice_get_within A.fields i f e)
+        ∙ ap (λ (n : ℕ). get_or A.fields i f ∷ drop n A.fields) next in
         ap branches_at rest ∙ ap (λ (b : Text). b ∷ branches_at (drop (i + 1) A.fields)) branch
 
 -- what is listed is all, with what will be listed of the fields from that place on
@@ -242,7 +242,7 @@ same_first x y xs ys above_x above_y (inl e) there = sym e
 same_first x y xs ys above_x above_y (inr in_ys) (inl e) = e
 same_first x y xs ys above_x above_y (inr in_ys) (inr in_xs) =
     absurd (not_below_itself x
-        (nat_list_cmp_total.trans x y x (at_each (Below x) xs y above_x in_xs) (at_each (Below y) ys x above_y in_ys)))
+    (nat_list_cmp_total.trans x y x (at_each (Below x) xs y above_x in_xs) (at_each (Below y) ys x above_y in_ys)))
 
 -- all of the one list is in the other
 abbrev IsWithin : List Text → List Text → Type 0
@@ -262,12 +262,12 @@ same_list [] (y ∷ ys) s t to from = absurd (none_in y (from y (here y ys)))
 same_list (x ∷ xs) [] s t to from = absurd (none_in x (to x (here x xs)))
 same_list (x ∷ xs) (y ∷ ys) s t to from =
     let e =
-        same_first x y xs ys s.0 t.0 (first_or_later y ys x (to x (here x xs)))
-            (first_or_later x xs y (from y (here y ys))) in
+    same_first x y xs ys s.0 t.0 (first_or_later y ys x (to x (here x xs)))
+    (first_or_later x xs y (from y (here y ys))) in
     let rest = same_list xs ys s.1 t.1 (behind_first x y xs ys e s.0 to) (behind_first y x ys xs (sym e) t.0 from) in
     λ i. e i ∷ rest i
 
 pub one_list : (fields : List Field) (xs ys : List Text) → AreBranches fields xs → AreBranches fields ys → xs ≡ ys
 one_list fields xs ys h k =
     same_list xs ys h.in_order k.in_order (λ q there. (k.same q).1 ((h.same q).0 there))
-        (λ q there. (h.same q).1 ((k.same q).0 there))
+    (λ q there. (h.same q).1 ((k.same q).0 there))

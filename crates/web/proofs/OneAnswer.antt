@@ -1,6 +1,6 @@
 -- A part has one answer under its kind.
-use Rattle.std.proofs.Common.{◌≡◌, ◌∙◌, Bool, true, false, ℕ, List, [], ◌∷◌, Option, Some, None, MatchOption, MatchBool,
-    ap, refl, subst, sym}
+use Rattle.std.proofs.Common.{◌≡◌, ◌∙◌, Bool, true, false, ℕ, List, [], ◌∷◌, Option, Some, None, MatchOption, MatchBool}
+use Rattle.std.proofs.Common.{ap, refl, subst, sym}
 use Rattle.std.specs.Str.{bytes_eq}
 use Rattle.serde_json.specs.Data.{Data}
 use Rattle.ledger.proofs.Runs.{answered_once}
@@ -66,7 +66,7 @@ stand_one B C e f = λ i. record { ledger = e i; is_stopped = f i }
 abbrev RepliesIf : Snapshot → Ask → Bool → Answer → Snapshot → Type 0
 RepliesIf old ask b answer new =
     MatchBool b ((answer ≡ reply_of_stopped ask) × (new ≡ old))
-        (AnswersAsk old.ledger ask answer new.ledger × (new.is_stopped ≡ false))
+    (AnswersAsk old.ledger ask answer new.ledger × (new.is_stopped ≡ false))
 
 plain_one : (old : Snapshot) (ask : Ask) (x y : Answer) (B C : Snapshot) → RepliesAt old ask x B → RepliesAt old ask y C
     → (x ≡ y) × (B ≡ C)
@@ -94,8 +94,8 @@ answers_one [] [] old [] [] B C h k = (refl, h ∙ sym k)
 answers_one (part ∷ parts) (kind ∷ kinds) old (x ∷ xs) (y ∷ ys) B C (mid, first, more) (also, second, others) =
     let same = part_one old part kind x y mid also first second in
     let rest =
-        answers_one parts kinds mid xs ys B C more
-            (subst (λ (stand : Snapshot). AreAnswers http stand parts kinds ys C) (sym same.1) others) in
+    answers_one parts kinds mid xs ys B C more
+    (subst (λ (stand : Snapshot). AreAnswers http stand parts kinds ys C) (sym same.1) others) in
     (cc (same.0, rest.0), rest.1)
 answers_one [] [] old [] (y ∷ ys) B C h k = absurd k
 answers_one [] [] old (x ∷ xs) ys B C h k = absurd h
@@ -109,6 +109,6 @@ pub web_one : (old : Snapshot) (stream : List ℕ) (kinds : List AnswerKind) (ou
 web_one old stream kinds out other B C h k =
     let parts = parts_one k.questions h.questions stream k.are_questions h.are_questions in
     let same =
-        answers_one h.questions kinds old h.answers k.answers B C h.are_answers
-            (subst (λ (ps : List Part). AreAnswers http old ps kinds k.answers C) parts k.are_answers) in
+    answers_one h.questions kinds old h.answers k.answers B C h.are_answers
+    (subst (λ (ps : List Part). AreAnswers http old ps kinds k.answers C) parts k.are_answers) in
     (h.out_is ∙ ap (text_of http) same.0 ∙ sym k.out_is, same.1)

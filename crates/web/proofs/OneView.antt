@@ -1,12 +1,12 @@
 -- A target has no two views, and it is known whether it has one.
-use Rattle.std.proofs.Common.{◌≡◌, ◌∙◌, ◌<◌, ◌^◌, ℕ, List, Option, Some, None, ap, arith, codes, decimal, inl, inr,
-    refl, subst, sym}
+use Rattle.std.proofs.Common.{◌≡◌, ◌∙◌, ◌<◌, ◌^◌, ℕ, List, Option, Some, None, ap, arith, codes, decimal, inl, inr}
+use Rattle.std.proofs.Common.{refl, subst, sym}
 use Rattle.std.proofs.lemmas.Fmt.{decimal_injective, decimal_is_IsNumeral}
 use Rattle.std.specs.Str.Parse.{digits_value}
 use Rattle.escrow.specs.Codes.{IsArticle, IsBranch, IsKey}
 use Rattle.escrow.specs.Ranges.{IsMoment, IsOrderNo}
-use Rattle.words.proofs.Decisions.{Decided, decided_article, decided_both, decided_branch, decided_by, decided_key,
-    decided_le, decided_order_no, decided_word}
+use Rattle.words.proofs.Decisions.{Decided, decided_article, decided_both, decided_branch, decided_by, decided_key}
+use Rattle.words.proofs.Decisions.{decided_le, decided_order_no, decided_word}
 use Rattle.web.specs.Asks.{IsFloor}
 use Rattle.web.specs.Routes.{IsView, part_of, resource_of}
 use Rattle.web.specs.declared.ask.Ask.{Ask}
@@ -73,7 +73,7 @@ part_decided : (P : List ℕ → Type 0) → ((part : List ℕ) → Decided (P p
 part_decided P decide None = inr (λ h. let e = h.1 in cc e)
 part_decided P decide (Some part) =
     decided_by {P = P part} (λ p. (part, refl, p)) (λ h. let e : h.0 ≡ part = let f = h.1 in cc f in subst P e h.2)
-        (decide part)
+    (decide part)
 
 -- the bytes are a number in that range
 abbrev IsNumber : (ℕ → Type 0) → List ℕ → Type 0
@@ -83,7 +83,7 @@ number_decided : (P : ℕ → Type 0) → ((n : ℕ) → P n → n < 2 ^ 64) →
     → Decided (IsNumber P part)
 number_decided P small decide part =
     decided_by to from
-        (decided_both (decide (digits_value 10 part)) (decided_word part (decimal (digits_value 10 part))))
+    (decided_both (decide (digits_value 10 part)) (decided_word part (decimal (digits_value 10 part))))
   where
     to : P (digits_value 10 part) × (part ≡ decimal (digits_value 10 part)) → IsNumber P part
     to h = (digits_value 10 part, h.0, h.1)
@@ -118,16 +118,16 @@ parts_decided target Desk = inl tt
 parts_decided target Branches = inl tt
 parts_decided target Field =
     decided_both (part_decided IsBranch decided_branch (part_of (codes "branch") target))
-        (part_decided IsArticle decided_article (part_of (codes "article") target))
+    (part_decided IsArticle decided_article (part_of (codes "article") target))
 parts_decided target Order =
     part_decided (IsNumber IsOrderNo) (number_decided IsOrderNo (λ n h. omega (arith, h.1)) decided_order_no)
-        (part_of (codes "number") target)
+    (part_of (codes "number") target)
 parts_decided target Open =
     part_decided (IsNumber IsFloor) (number_decided IsFloor (λ n h. omega (arith, h)) (λ n. decided_le n 999999999))
-        (part_of (codes "number") target)
+    (part_of (codes "number") target)
 parts_decided target Due =
     part_decided (IsNumber IsMoment) (number_decided IsMoment (λ n h. omega (arith, h)) (λ n. decided_le n 4000000000))
-        (part_of (codes "moment") target)
+    (part_of (codes "moment") target)
 parts_decided target Article = part_decided IsArticle decided_article (part_of (codes "article") target)
 parts_decided target Key = part_decided IsKey decided_key (part_of (codes "key") target)
 parts_decided target Sheet = part_decided IsBranch decided_branch (part_of (codes "branch") target)

@@ -1,7 +1,8 @@
 -- The orders that a list shows, and their object.
-use Rattle.std.proofs.Common.{◌≡◌, ◌&&◌, ◌∙◌, ◌≤◌, ◌<◌, ◌+◌, ◌++◌, ◌∷◌, [], append-nil, Bool, codes, IsSomeAnd, Less,
-    List, None, Option, Some, ap, append_assoc, arith, false, filter, find, inl, inr, map, nat_cmp, nat_le, nat_lt,
-    option_map, refl, subst, suc, sym, take, true, unwrap_or, zero, ℕ}
+use Rattle.std.proofs.Common.{◌≡◌, ◌&&◌, ◌∙◌, ◌≤◌, ◌<◌, ◌+◌, ◌++◌, ◌∷◌, [], append-nil, Bool, codes, IsSomeAnd, Less}
+use Rattle.std.proofs.Common.{List, None, Option, Some, ap, append_assoc, arith, false, filter, find, inl, inr, map}
+use Rattle.std.proofs.Common.{nat_cmp, nat_le, nat_lt, option_map, refl, subst, suc, sym, take, true, unwrap_or, zero}
+use Rattle.std.proofs.Common.{ℕ}
 use Rattle.std.proofs.lemmas.Bool.{cases_Bool}
 use Rattle.std.proofs.lemmas.Bool.Decides.{nat_tests}
 use Rattle.std.proofs.Math.Seq.{take-nil}
@@ -73,7 +74,7 @@ first_kept floor o (m ∷ ms) sorted e = elim (cases_Bool (is_above floor m)) [
       let same : m ≡ o = let found = rw is at e in cc found in
       let rest : filter (is_above floor) ms ≡ filter (is_above m.number) (m ∷ ms) = past floor m ms (low is) above in
       rw is (subst (λ (x : Order). m ∷ filter (is_above floor) ms ≡ x ∷ filter (is_above x.number) (m ∷ ms)) same
-          (ap (λ (os : List Order). m ∷ os) rest))
+      (ap (λ (os : List Order). m ∷ os) rest))
   | inr is ↦
       let found = rw is at e in
       let less : m.number < o.number = each-found (λ o. m.number < o.number) (is_above floor) o ms above found in
@@ -83,7 +84,7 @@ first_kept floor o (m ∷ ms) sorted e = elim (cases_Bool (is_above floor m)) [
     above : Each (λ o. m.number < o.number) ms
     above =
         each-imp (λ o less. less_is m.number o.number less) ms
-            (each-unmap (λ n. nat_cmp m.number n ≡ Less) (λ o. o.number) ms sorted.0)
+        (each-unmap (λ n. nat_cmp m.number n ≡ Less) (λ o. o.number) ms sorted.0)
 
     low : is_above floor m ≡ true → floor < m.number
     low is = elim (cases_Bool (nat_lt floor m.number)) [
@@ -117,8 +118,8 @@ first_left A floor view good h = by (open_from A (floor + 1)) refl h
 pub none_beyond : (A : Ledger) (floor : ℕ) → Good A → 999999999 ≤ floor → open_left A floor ≡ []
 none_beyond A floor good last =
     ap (map (λ (o : Order). o.number))
-        (none_passes (is_above floor) A.orders
-            (each-imp (λ o is. not_above floor o (within o is)) A.orders good.orders))
+    (none_passes (is_above floor) A.orders
+    (each-imp (λ o is. not_above floor o (within o is)) A.orders good.orders))
   where
     within : (o : Order) → IsGoodOrder A o → o.number ≤ floor
     within o is = omega (arith, last, is.number.1)
@@ -185,7 +186,7 @@ objects_same : (A : Ledger) (os : List Order) → Each (IsThere A) os
 objects_same A [] h = refl
 objects_same A (o ∷ os) h =
     let first : numbered_object A o.number ≡ order_object o =
-        ap (λ (found : Option Order). unwrap_or (option_map order_object found) null) h.0 in
+    ap (λ (found : Option Order). unwrap_or (option_map order_object found) null) h.0 in
     rw (first, objects_same A os h.1) refl
 
 -- the object of the first of the orders that pass a test

@@ -1,6 +1,6 @@
 -- The parts of a stream that are found in it one by one.
-use Rattle.std.proofs.Common.{◌≡◌, ◌∙◌, ◌<◌, Bool, false, true, true≢false, ℕ, List, [], ◌∷◌, ◌++◌, Option, ap,
-    append-nil, append_assoc, arith, inl, refl, subst, sym}
+use Rattle.std.proofs.Common.{◌≡◌, ◌∙◌, ◌<◌, Bool, false, true, true≢false, ℕ, List, [], ◌∷◌, ◌++◌, Option, ap}
+use Rattle.std.proofs.Common.{append-nil, append_assoc, arith, inl, refl, subst, sym}
 use Rattle.std.specs.List.{AllByRecursion as Each}
 use Rattle.httparse.specs.Grammar.{ReadsRequest, print_request}
 use Rattle.httparse.proofs.GrammarLemmas.{ReadsRequest-append}
@@ -32,7 +32,7 @@ begins_on : (stream rest more : List ℕ) (m : Message) → BeginsWith stream m 
 begins_on stream rest more m b = record {
   reads =
       subst (λ (t : List ℕ). ReadsRequest (stream ++ more) m.head t) (append_assoc m.body rest more)
-          (ReadsRequest-append stream m.head (m.body ++ rest) more b.reads);
+      (ReadsRequest-append stream m.head (m.body ++ rest) more b.reads);
   announces = b.announces;
 }
 
@@ -113,7 +113,7 @@ found_parts false held read ended found (none, end) h =
     subst (AreParts read) (append-nil found) (parts_behind found read held [] h none)
 found_parts true held read ended found all (before, is, h, none) =
     subst (AreParts read) (sym is)
-        (parts_behind before read held (unreadable ∷ []) h (unread_here ended held none, refl))
+    (parts_behind before read held (unreadable ∷ []) h (unread_here ended held none, refl))
 
 no_message_last : (before : List Part) (stream rest : List ℕ) → Passes stream (before ++ unreadable ∷ []) rest → ⊥
 no_message_last [] stream rest h = h
@@ -154,8 +154,8 @@ found_first false held read ended found h = λ more end.
     (others.0, parts_behind found (read ++ more) (held ++ more) others.0 (passes_on found read held more h) others.1)
 found_first true held read ended found (before, is, h, none) = λ more end.
     let all : AreParts (read ++ more) (before ++ unreadable ∷ []) =
-        parts_behind before (read ++ more) (held ++ more) (unreadable ∷ []) (passes_on before read held more h)
-            (none more end, refl) in
+    parts_behind before (read ++ more) (held ++ more) (unreadable ∷ []) (passes_on before read held more h)
+    (none more end, refl) in
     ([], subst (AreParts (read ++ more)) (sym is ∙ sym (append-nil found)) all)
 
 -- ---- a piece more
@@ -164,13 +164,13 @@ found_first true held read ended found (before, is, h, none) = λ more end.
 pub taken_end : (is_over : Bool) (held read piece : List ℕ) (found : List Part) → piece ≡ []
     → HasFound is_over held read false found → HaveCome read found
     → (true ≡ is_end piece) × HasFound is_over held (read ++ piece) (is_end piece) found
-        × AreFirst (read ++ piece) (is_end piece) found
+    × AreFirst (read ++ piece) (is_end piece) found
 taken_end is_over held read piece found none h come =
     let on : HasFound is_over held (read ++ []) true found =
-        subst (λ (t : List ℕ). HasFound is_over t (read ++ []) true found) (append-nil held)
-            (found_on is_over held read [] found h come true) in
+    subst (λ (t : List ℕ). HasFound is_over t (read ++ []) true found) (append-nil held)
+    (found_on is_over held read [] found h come true) in
     subst (λ (t : List ℕ).
-        (true ≡ is_end t) × HasFound is_over held (read ++ t) (is_end t) found × AreFirst (read ++ t) (is_end t) found)
+    (true ≡ is_end t) × HasFound is_over held (read ++ t) (is_end t) found × AreFirst (read ++ t) (is_end t) found)
     (sym none)
     (refl, on, found_first is_over held (read ++ []) true found on)
 
@@ -179,8 +179,8 @@ pub taken_more : (is_over : Bool) (held new read piece : List ℕ) (ended : Bool
     → HasFound is_over new (read ++ piece) ended found × AreFirst (read ++ piece) ended found
 taken_more is_over held new read piece ended found is h come =
     let on : HasFound is_over new (read ++ piece) ended found =
-        subst (λ (t : List ℕ). HasFound is_over t (read ++ piece) ended found) (sym is)
-            (found_on is_over held read piece found h come ended) in
+    subst (λ (t : List ℕ). HasFound is_over t (read ++ piece) ended found) (sym is)
+    (found_on is_over held read piece found h come ended) in
     (on, found_first is_over new (read ++ piece) ended found on)
 
 -- ---- nothing is read
@@ -188,7 +188,7 @@ taken_more is_over held new read piece ended found is h come =
 pub none_yet : AwaitsMessage []
 none_yet =
     awaits_head [] (λ head rest reads. let some = head_some [] rest head reads in omega (arith, some))
-        (inl (print_request small_head ++ [], small_head, (is_small_head, refl))) (omega arith)
+    (inl (print_request small_head ++ [], small_head, (is_small_head, refl))) (omega arith)
 
 pub nothing_cut : (desk : DeskState) (r w : Option (List ℕ)) → EndsCut http ScriptFault.Memory desk desk (streams r r w w)
 nothing_cut desk r w = record {

@@ -1,6 +1,6 @@
 -- What a message says is what is read in it: the bytes of its target are those that its route is found for.
-use Rattle.std.proofs.Common.{◌≡◌, ◌∙◌, ◌<◌, ◌^◌, ℕ, List, [], ◌∷◌, ◌++◌, Option, Some, None, Bool, true, false, ap,
-    append_assoc, arith, codes, decimal, inl, inr, length, refl, subst, sym, ◌==◌}
+use Rattle.std.proofs.Common.{◌≡◌, ◌∙◌, ◌<◌, ◌^◌, ℕ, List, [], ◌∷◌, ◌++◌, Option, Some, None, Bool, true, false, ap}
+use Rattle.std.proofs.Common.{append_assoc, arith, codes, decimal, inl, inr, length, refl, subst, sym, ◌==◌}
 use Rattle.std.proofs.lemmas.Bool.{cases_Bool}
 use Rattle.std.proofs.lemmas.Bool.Decides.{nat_tests}
 use Rattle.std.proofs.lemmas.Fmt.{decimal_is_IsNumeral}
@@ -20,8 +20,8 @@ use Rattle.web.specs.declared.ask.Ask.TheVariants as ask
 use Rattle.web.specs.declared.route.Resource.{Resource}
 use Rattle.web.specs.declared.route.Resource.TheVariants.{Article, Branches, Commands, Desk, Due, Field, Key, Open, Order, Sheet}
 use Rattle.web.proofs.RouteResult.{IsPart, leads_to}
-use Rattle.web.proofs.RouteShapes.{Alone, Before, IsAsciiShape, IsAsciiText, IsTarget, OfField, Shape, ascii_shape,
-    route_of, route_to, routed, shape}
+use Rattle.web.proofs.RouteShapes.{Alone, Before, IsAsciiShape, IsAsciiText, IsTarget, OfField, Shape, ascii_shape}
+use Rattle.web.proofs.RouteShapes.{route_of, route_to, routed, shape}
 use Rattle.web.proofs.OneView.{same}
 use Rattle.web.proofs.TargetParts.{before_parts, field_parts}
 
@@ -202,12 +202,12 @@ is_read m ask.Branches (get, e) = inr (get, alone_read (codes "/v1/branches") m.
 is_read m (ask.Field branch article) ((get, e), is_branch, is_article) =
     let target = codes "/v1/fields/" ++ (branch ++ slash ∷ article) in
     let found : first routes target ≡ Some (route_to Field) =
-        leads_to Field branch article (branch_part branch is_branch) (article_part article is_article) in
+    leads_to Field branch article (branch_part branch is_branch) (article_part article is_article) in
     let plain =
-        plain_target OfField Field target tt found
-            (branch, article, refl, part_plain branch (branch_part branch is_branch)) in
+    plain_target OfField Field target tt found
+    (branch, article, refl, part_plain branch (branch_part branch is_branch)) in
     let view : IsView target (ask.Field branch article) =
-        (resource_is target (route_to Field) found, plain.3, plain.4, is_branch, is_article) in
+    (resource_is target (route_to Field) found, plain.3, plain.4, is_branch, is_article) in
     inr (get, subst (λ (t : List ℕ). IsView t (ask.Field branch article)) (sym (e ∙ field_text branch article)) view)
 is_read m (ask.Order n) ((get, e), h) =
     let found = leads_to Order (decimal n) (number_part n (omega (arith, h.1))) in

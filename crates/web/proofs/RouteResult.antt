@@ -1,6 +1,6 @@
 -- The route of a target that one of the patterns fits.
-use Rattle.std.proofs.Common.{◌≡◌, ◌∙◌, ◌<◌, ◌+◌, ◌-◌, ℕ, zero, suc, List, [], ◌∷◌, ◌++◌, ◌&&◌, Option, Some, None,
-    Bool, true, false, ap, arith, codes, inl, inr, length, length-append, ltb, refl, ◌==◌}
+use Rattle.std.proofs.Common.{◌≡◌, ◌∙◌, ◌<◌, ◌+◌, ◌-◌, ℕ, zero, suc, List, [], ◌∷◌, ◌++◌, ◌&&◌, Option, Some, None}
+use Rattle.std.proofs.Common.{Bool, true, false, ap, arith, codes, inl, inr, length, length-append, ltb, refl, ◌==◌}
 use Rattle.std.proofs.lemmas.Bool.{cases_Bool}
 use Rattle.std.proofs.lemmas.Bool.Decides.{nat_tests}
 use Rattle.std.proofs.lemmas.List.{drop_at}
@@ -53,8 +53,12 @@ module _ {K : Type 0} where
   seek_byte : (b : ℕ) (rows : RowsOf K) (path : List ℕ) → is_bare rows ≡ true → seek 0 rows (b ∷ path) ≡ seek 0 (step b rows) path
   unfolding seek
   seek_byte b rows path bare =
-      rw (bare_step param_token rows (omega arith) bare, bare_step catch_all_token rows (omega arith) bare,
-          param_step_none (b ∷ path), seek_none ((param_step {K = K} [] (b ∷ path)).0 - 1) path)
+      rw (
+        bare_step param_token rows (omega arith) bare,
+        bare_step catch_all_token rows (omega arith) bare,
+        param_step_none (b ∷ path),
+        seek_none ((param_step {K = K} [] (b ∷ path)).0 - 1) path,
+      )
       (or_else_none _)
 
   abbrev rows_behind : List ℕ → RowsOf K → RowsOf K
@@ -105,7 +109,7 @@ module _ {K : Type 0} where
   unfolding param_step
   slash_step k b part rest pattern plain =
       let size : suc (length (part ++ slash ∷ [])) - 1 ≡ length part + 1 =
-          let long = length-append part (slash ∷ []) in omega arith in
+      let long = length-append part (slash ∷ []) in omega arith in
       rw (segment_is (b ∷ part) rest plain, cuts_slash b part) (ap (λ (n : ℕ). (n, (slash ∷ pattern, k) ∷ [])) size)
 
   -- a row that goes on with a slash behind its parameter
@@ -116,8 +120,14 @@ module _ {K : Type 0} where
   part_then_slash k b part rest pattern found small plain e =
       let other : (param_token == b) ≡ false = grind (arith, nat_tests) in
       let size : length part + 1 - 1 ≡ length part = omega arith in
-      rw (other, seek_none 0 (part ++ slash ∷ rest), slash_step k b part rest pattern plain, size,
-          seek_past part ((slash ∷ pattern, k) ∷ []) (slash ∷ rest), e) (or_else_none found)
+      rw (
+        other,
+        seek_none 0 (part ++ slash ∷ rest),
+        slash_step k b part rest pattern plain,
+        size,
+        seek_past part ((slash ∷ pattern, k) ∷ []) (slash ∷ rest),
+        e,
+      ) (or_else_none found)
 
 in_table : (target : List ℕ) → first routes target ≡ first table target
 in_table target = ap (λ (rows : RowsOf (RouteOf Resource)). first rows target) routes_are

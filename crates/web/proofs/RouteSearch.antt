@@ -1,6 +1,6 @@
 -- What the search of a router finds: a row whose pattern the path fits.
-use Rattle.std.proofs.Common.{◌≡◌, ℕ, zero, suc, ◌-◌, List, [], ◌∷◌, ◌⊎◌, drop, Option, Some, None, arith, inl, inr,
-    length, ltb, refl, subst, ◌==◌}
+use Rattle.std.proofs.Common.{◌≡◌, ℕ, zero, suc, ◌-◌, List, [], ◌∷◌, ◌⊎◌, drop, Option, Some, None, arith, inl, inr}
+use Rattle.std.proofs.Common.{length, ltb, refl, subst, ◌==◌}
 use Rattle.std.proofs.lemmas.Bool.{cases_Bool}
 use Rattle.std.proofs.lemmas.Bool.Decides.{nat_tests}
 use Rattle.matchit.specs.Rows.{RowsOf, param_token, catch_all_token}
@@ -74,16 +74,16 @@ module _ {K : Type 0} (P : List ℕ → List ℕ → K → Type 0)
       elim (some_of _ _ k e) [
         | inl f ↦
             found_fits 0 (step b rows) path k
-                (each_more _ _ (λ pattern found. byte b pattern path found) (step b rows) (each_step _ b rows h)) f
+            (each_more _ _ (λ pattern found. byte b pattern path found) (step b rows) (each_step _ b rows h)) f
         | inr f ↦ elim (some_of _ _ k f) [
           | inl g ↦
               let each : Each (λ pattern found. P pattern (drop (rest.0 - 1) path) found) (step param_token rows) =
               each_more _ _ (λ pattern found. part b (rest.0 - 1) pattern path found) (step param_token rows)
-                  (each_step _ param_token rows h) in
+              (each_step _ param_token rows h) in
               found_fits (rest.0 - 1) rest.1 path k (each_param_step _ (step param_token rows) (b ∷ path) each) g
           | inr g ↦
               each_own _ (step catch_all_token rows) k
-                  (each_more _ (λ pattern found. P pattern [] found) (λ pattern found. all pattern (b ∷ path) found)
-                      (step catch_all_token rows) (each_step _ catch_all_token rows h)) g
+              (each_more _ (λ pattern found. P pattern [] found) (λ pattern found. all pattern (b ∷ path) found)
+              (step catch_all_token rows) (each_step _ catch_all_token rows h)) g
         ]
       ]

@@ -1,6 +1,6 @@
 -- The routes as they stand, and the targets that each is found for.
-use Rattle.std.proofs.Common.{◌≡◌, ◌∙◌, ◌+◌, ℕ, suc, List, [], ◌∷◌, ◌++◌, drop, length, map, Some, true, false, cond,
-    ap, append-nil, arith, codes, inl, inr, ltb, refl, subst, sym, ◌==◌}
+use Rattle.std.proofs.Common.{◌≡◌, ◌∙◌, ◌+◌, ℕ, suc, List, [], ◌∷◌, ◌++◌, drop, length, map, Some, true, false, cond}
+use Rattle.std.proofs.Common.{ap, append-nil, arith, codes, inl, inr, ltb, refl, subst, sym, ◌==◌}
 use Rattle.std.proofs.lemmas.Bool.{cases_Bool}
 use Rattle.std.proofs.lemmas.Bool.Decides.{nat_tests}
 use Rattle.std.proofs.lemmas.List.{take-append-drop}
@@ -196,7 +196,7 @@ fits_target OfField value target ascii h =
     let n = text.2.0 in
     let split = first_slash (take n text.0) text.2.1.0 in
     let rest : text.0 ≡ take n text.0 ++ slash ∷ text.2.1.0 =
-        sym (take-append-drop n text.0) ∙ ap (λ (rest : List ℕ). take n text.0 ++ rest) text.2.1.1 in
+    sym (take-append-drop n text.0) ∙ ap (λ (rest : List ℕ). take n text.0 ++ rest) text.2.1.1 in
     (split.0, split.1, text.1 ∙ ap (λ (rest : List ℕ). codes "/v1/fields/" ++ rest) (rest ∙ split.2), split.3)
 
 -- the route that is found is its resource's, and the target is one of it

@@ -71,9 +71,12 @@ some_plain : (A : Ledger) (b : Bool) (m : Message) → Good A → Answered (reco
 some_plain A true m g = let ask = some_ask m in (reply_of_stopped ask.0, _, (ask.0, ask.1, (refl, refl)), g)
 some_plain A false m g =
     let ask = some_ask m in
-    let reply = some_reply A ask.0 g in
-    (reply.0, record { ledger = reply.1; is_stopped = false }, (ask.0, ask.1, (reply.2, refl)),
-        good_reply A m ask.0 reply.0 reply.1 g ask.1 reply.2)
+    let reply = some_reply A ask.0 g in (
+      reply.0,
+      record { ledger = reply.1; is_stopped = false },
+      (ask.0, ask.1, (reply.2, refl)),
+      good_reply A m ask.0 reply.0 reply.1 g ask.1 reply.2,
+    )
 
 pub some_answer : (old : Snapshot) (part : Part) → Good old.ledger → Answered old part
 some_answer old (whole m) g = some_plain old.ledger old.is_stopped m g
@@ -102,18 +105,22 @@ some_answers (part ∷ parts) old g =
 
 pub some_web : (old : Snapshot) (stream : List ℕ) → Good old.ledger
     → (kinds : List AnswerKind) × (out : List ℕ) × (new : Snapshot) × Each (λ kind. kind ≡ ordinary) kinds
-        × IsTranscript http old stream kinds out new
+    × IsTranscript http old stream kinds out new
 some_web old stream g =
     let parts = some_parts stream in
-    let all = some_answers parts.0 old g in
-    (all.kinds, text_of http all.answers, all.new, all.plains,
-        record {
-          questions = parts.0;
-          answers = all.answers;
-          are_questions = parts.1;
-          are_answers = all.replies;
-          out_is = refl
-        })
+    let all = some_answers parts.0 old g in (
+      all.kinds,
+      text_of http all.answers,
+      all.new,
+      all.plains,
+      record {
+        questions = parts.0;
+        answers = all.answers;
+        are_questions = parts.1;
+        are_answers = all.replies;
+        out_is = refl;
+      },
+    )
 
 -- what is written at a fault is a beginning of what is answered
 pub serve_begins : (fault : ScriptFault) (old new : DeskState) (s : Streams) → Good new.ledger

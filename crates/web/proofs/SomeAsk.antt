@@ -58,7 +58,7 @@ commands_decided target = by (resource_of target) refl
 pub some_ask : (m : Message) → (a : Ask) × AsksFor m a
 some_ask m =
     by (decided_word m.head.method (codes "GET"))
-        (decided_both (decided_word m.head.method (codes "POST")) (commands_decided m.head.target))
+    (decided_both (decided_word m.head.method (codes "POST")) (commands_decided m.head.target))
   where
     on_get : m.head.method ≡ codes "GET" → Decided (HasView m.head.target) → (a : Ask) × AsksFor m a
     on_get get (inl (a, view)) = (a, asks_as_read m a (inr (get, view)))

@@ -1,6 +1,7 @@
 -- The parts that the names in a route take of a target.
-use Rattle.std.proofs.Common.{◌≡◌, ◌∙◌, ◌≤◌, ◌+◌, ◌-◌, ◌&&◌, Bool, cond, ℕ, suc, List, [], ◌∷◌, ◌++◌, drop, get_or,
-    length, true, false, ap, append_assoc, arith, codes, inl, inr, length-append, leb, ltb, refl, sym, ◌==◌}
+use Rattle.std.proofs.Common.{◌≡◌, ◌∙◌, ◌≤◌, ◌+◌, ◌-◌, ◌&&◌, Bool, cond, ℕ, suc, List, [], ◌∷◌, ◌++◌, drop, get_or}
+use Rattle.std.proofs.Common.{length, true, false, ap, append_assoc, arith, codes, inl, inr, length-append, leb, ltb}
+use Rattle.std.proofs.Common.{refl, sym, ◌==◌}
 use Rattle.std.proofs.lemmas.Bool.{cases_Bool}
 use Rattle.std.proofs.lemmas.Bool.Decides.{nat_tests}
 use Rattle.std.proofs.lemmas.List.{drop_at, length-drop, take_at}
@@ -81,7 +82,7 @@ name_is path name =
     let long = length-append path behind in
     let more = length-append name (close_brace ∷ []) in
     part_is (path ++ behind) name (close_brace ∷ []) (length path + 1) (length path + 1 + length name)
-        (drop-append-add path behind 1) refl (omega arith)
+    (drop-append-add path behind 1) refl (omega arith)
 
 pub before_parts : (path name part : List ℕ) (value : Resource) → IsAsciiText path
     → parts_on (path ++ part) (route_of (Before path name) value) ≡ (name, part) ∷ []
@@ -126,7 +127,7 @@ field_parts part rest value plain = first ∙ ap (λ (parts : List (List ℕ × 
         let front = length-append (codes "/v1/fields/") (part ++ slash ∷ []) in
         let long = length-append part (slash ∷ []) in
         ap (λ (bytes : List ℕ). drop (11 + length part + 1) (codes "/v1/fields/" ++ bytes))
-            (sym (append_assoc part (slash ∷ []) rest))
+        (sym (append_assoc part (slash ∷ []) rest))
         ∙ drop_at (codes "/v1/fields/" ++ (part ++ slash ∷ [])) rest (11 + length part + 1) (omega (arith, front, long))
 
     ends : wild_stop (fields_route value).pattern 11 (field_target part rest) 11 ≡ 11 + length part
@@ -134,8 +135,8 @@ field_parts part rest value plain = first ∙ ap (λ (parts : List (List ℕ × 
 
     first : parts_on (field_target part rest) (fields_route value)
         ≡ (codes "branch", part)
-            ∷ walk (fields_route value).pattern (fields_route value).text (field_target part rest) ((21, 28) ∷ []) 12
-                (11 + length part)
+        ∷ walk (fields_route value).pattern (fields_route value).text (field_target part rest) ((21, 28) ∷ []) 12
+        (11 + length part)
     first =
         let target = field_target part rest in
         let route = fields_route value in

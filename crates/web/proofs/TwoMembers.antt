@@ -1,7 +1,7 @@
 -- An object of two members, of which one is under each of two names.
-use Rattle.std.proofs.Common.{◌≡◌, ℕ, List, [], ◌∷◌, length, Some, String, Global, Less, string_bytes, string_cmp,
-    BTreeMap, bytes_eq, false, true≢false, nat_cmp, is_le, subst, refl, sym, ap, ◌∙◌, arith, codes, inl, inr, unwrap_or,
-    is_some}
+use Rattle.std.proofs.Common.{◌≡◌, ℕ, List, [], ◌∷◌, length, Some, String, Global, Less, string_bytes, string_cmp}
+use Rattle.std.proofs.Common.{BTreeMap, bytes_eq, false, true≢false, nat_cmp, is_le, subst, refl, sym, ap, ◌∙◌, arith}
+use Rattle.std.proofs.Common.{codes, inl, inr, unwrap_or, is_some}
 use Rattle.std.proofs.lemmas.Bool.{cases_Bool, false≢true}
 use Rattle.std.proofs.lemmas.Slice.Eq.{bytes_eq-Decides}
 use Rattle.std.specs.List.Sorted.{IsStrictlySortedBy}
@@ -57,8 +57,8 @@ pair a b k c sorted fk fc = elim (cases_Bool (bytes_eq (codes "command") (string
       let first : codes "command" ≡ string_bytes a.0 = (bytes_eq-Decides _ _).0 e in
       let value = here (codes "command") a (b ∷ []) (string c) first fc in
       let second =
-          only (codes "key") b (string k)
-              (later (codes "key") a (b ∷ []) (string k) (λ h. key≢command (h ∙ sym first)) fk) in
+      only (codes "key") b (string k)
+      (later (codes "key") a (b ∷ []) (string k) (λ h. key≢command (h ∙ sym first)) fk) in
       built _ _ k c _ _ first value second.0 second.1
   | inr e ↦
       let second = only (codes "command") b (string c) (later (codes "command") a (b ∷ []) (string c) (apart _ _ e) fc) in
@@ -76,7 +76,7 @@ pair a b k c sorted fk fc = elim (cases_Bool (bytes_eq (codes "command") (string
     backward p q e f s =
         let first : slice_cmp nat_cmp (codes "key") q ≡ Less = subst (λ x. slice_cmp nat_cmp x q ≡ Less) (sym e) s in
         let both : slice_cmp nat_cmp (codes "key") (codes "command") ≡ Less =
-            subst (λ y. slice_cmp nat_cmp (codes "key") y ≡ Less) (sym f) first in
+        subst (λ y. slice_cmp nat_cmp (codes "key") y ≡ Less) (sym f) first in
         false≢true (ap is_le both)
 
 pub two_members : (es : List Entry) (k c : List ℕ) → length es ≡ 2 → IsStrictlySortedBy string_cmp (keys_of es)

@@ -1,6 +1,6 @@
 -- What is to be written for a view.
-use Rattle.std.proofs.Common.{◌≡◌, ◌++◌, ℕ, Contains, List, [], Option, Some, None, IsSomeAnd, MatchOption, ap, false,
-    refl, subst, sym}
+use Rattle.std.proofs.Common.{◌≡◌, ◌++◌, ℕ, Contains, List, [], Option, Some, None, IsSomeAnd, MatchOption, ap, false}
+use Rattle.std.proofs.Common.{refl, subst, sym}
 use Rattle.std.proofs.lemmas.List.Elements.{All-contains, All-from_recursion}
 use Rattle.std.specs.Str.{IsUtf8, bytes_eq}
 use Rattle.serde_json.specs.Data.{Data}
@@ -44,7 +44,7 @@ stopped_else a bad none = refl
 pub no_field : (A : Ledger) (b a : List ℕ) → field_named A (name_of b a) ≡ None → AnswersView A (ask.Field b a) none_answer
 no_field A b a e =
     subst (λ (found : Option Field). MatchOption found (none_answer ≡ none_answer) (λ f. TellsField A f none_answer))
-        (sym e) refl
+    (sym e) refl
 
 pub some_field : (A : Ledger) (b a : List ℕ) (view : FieldView)
     → IsSomeAnd (field_named A (name_of b a)) (λ f. ShowsField A f view)
@@ -53,7 +53,7 @@ some_field A b a view h = by (field_named A (name_of b a)) h
   where
     by : (found : Option Field) → IsSomeAnd found (λ f. ShowsField A f view)
         → MatchOption found (json_answer 200 (field_object view) ≡ none_answer)
-            (λ f. TellsField A f (json_answer 200 (field_object view)))
+        (λ f. TellsField A f (json_answer 200 (field_object view)))
     by None h = absurd h
     by (Some f) h = (view, h, refl)
 

@@ -10,8 +10,8 @@ use Rattle.book.specs.declared.book.views.FieldView.{FieldView}
 use Rattle.ledger.specs.declared.order.Kind.TheVariants.{Plain, Transfer}
 use Rattle.ledger.specs.declared.order.Line.{Line}
 use Rattle.ledger.specs.declared.order.State.TheVariants.{Aborted, Committed, Open}
-use Rattle.web.specs.Answers.{Answer, answer_bytes, bad_answer, head_line, json_answer, memory_answer, message_answer,
-    none_answer, reply_answer, stopped_answer, text_answer}
+use Rattle.web.specs.Answers.{Answer, answer_bytes, bad_answer, head_line, json_answer, memory_answer, message_answer}
+use Rattle.web.specs.Answers.{none_answer, reply_answer, stopped_answer, text_answer}
 use Rattle.web.specs.Objects.{branches_object, desk_object, field_object, kept_object, order_object, orders_object}
 use Rattle.web.specs.Orders.{due, open_above}
 

@@ -1,7 +1,7 @@
 -- The routes, as `matchit` reads and keeps them; the parts of a target, and the view that it asks for (private: how a
 -- target is read).
-use Rattle.std.specs.Prelude.{◌≡◌, ℕ, List, [], ◌∷◌, Option, None, Some, codes, decimal, option_and_then, option_map,
-    Result, Ok, Err}
+use Rattle.std.specs.Prelude.{◌≡◌, ℕ, List, [], ◌∷◌, Option, None, Some, codes, decimal, option_and_then, option_map}
+use Rattle.std.specs.Prelude.{Result, Ok, Err}
 use Rattle.escrow.specs.Codes.{IsArticle, IsBranch, IsKey}
 use Rattle.escrow.specs.Ranges.{IsMoment, IsOrderNo}
 use Rattle.matchit.specs.Order.{placed}

@@ -7,8 +7,8 @@ use Rattle.words.specs.OpenLines.{line_words, way_word}
 use Rattle.words.specs.Spelling.{IsOpening, Spells, command_words}
 use Rattle.words.specs.Words.{spaced, words_of}
 use Rattle.words.specs.declared.command.Command.{Command}
-use Rattle.words.specs.declared.command.Command.TheVariants.{Abort, Commit, Deliver, Expire, Field, Firm, More, Open,
-    Rebound, Release, Transfer, Use, Writeoff}
+use Rattle.words.specs.declared.command.Command.TheVariants.{Abort, Commit, Deliver, Expire, Field, Firm, More, Open}
+use Rattle.words.specs.declared.command.Command.TheVariants.{Rebound, Release, Transfer, Use, Writeoff}
 use Rattle.words.specs.declared.command.Request.{Request as RequestOf}
 use Rattle.words.specs.declared.item.Item.{Item}
 use Rattle.words.specs.declared.item.Item.TheVariants.{AskField, AskOrder, Bad, Request}
@@ -48,10 +48,12 @@ request_none line none r h =
 -- a key stands first, and a command behind it
 pub request_found : (line rest key : List ℕ) (c : Command) → IsKey key → words_of line ≡ key ∷ words_of rest
     → Spells c rest → IsRequest line (record { key = key; command = c })
-request_found line rest key c h e s =
-    (h, s.0,
-        line_of line (key ∷ command_words c)
-            (e ∙ ap (λ (ws : List (List ℕ)). key ∷ ws) (ap words_of s.1 ∙ words-command c s.0)))
+request_found line rest key c h e s = (
+  h,
+  s.0,
+  line_of line (key ∷ command_words c)
+      (e ∙ ap (λ (ws : List (List ℕ)). key ∷ ws) (ap words_of s.1 ∙ words-command c s.0)),
+)
 
 -- a key stands first, and no command behind it
 pub request_bad : (line rest key : List ℕ) → words_of line ≡ key ∷ words_of rest → ((c : Command) → Spells c rest → ⊥)

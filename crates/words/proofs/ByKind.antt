@@ -15,7 +15,7 @@ use Rattle.words.proofs.LineWords.{line_of, words-command}
 -- what begins with `open`, with no number, moment and lines behind it, is no command
 pub none_open : (ws : List (List ℕ))
     → ((n until : ℕ) (lines : List OpenLine) → IsInRange (Open n until lines)
-        → ws ≡ decimal n ∷ decimal until ∷ line_words lines → ⊥)
+    → ws ≡ decimal n ∷ decimal until ∷ line_words lines → ⊥)
     → AreNoCommand (codes "open" ∷ ws)
 none_open ws none (Open n until lines) h e = none n until lines h (cc e)
 none_open ws none c h e = search rules

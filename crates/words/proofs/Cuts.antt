@@ -1,6 +1,6 @@
 -- Where bytes are cut at the first of one kind.
-use Rattle.std.proofs.Common.{◌≡◌, ℕ, ◌+◌, ◌-◌, ◌<◌, Bool, true, false, cond, List, [], ◌∷◌, None, Some, length, nat_lt,
-    position, take, drop, refl, sym, subst, ◌∙◌, arith, inl, inr, ◌==◌}
+use Rattle.std.proofs.Common.{◌≡◌, ℕ, ◌+◌, ◌-◌, ◌<◌, Bool, true, false, cond, List, [], ◌∷◌, None, Some, length, nat_lt}
+use Rattle.std.proofs.Common.{position, take, drop, refl, sym, subst, ◌∙◌, arith, inl, inr, ◌==◌}
 use Rattle.std.specs.List.{onto_first, position_or_len}
 use Rattle.std.proofs.lemmas.Bool.{cases_Bool}
 use Rattle.std.proofs.lemmas.Grind.{common_steps}
@@ -21,7 +21,7 @@ cut_none at bytes e = by (nat_lt (position_or_len is bytes) (length bytes)) refl
     by true found e = (cc)
     by false found e =
         slice_split_none is bytes
-            (λ k other below. fails_before_first is bytes k other (omega (arith, ltb-false _ _ found)))
+        (λ k other below. fails_before_first is bytes k other (omega (arith, ltb-false _ _ found)))
 
 -- the bytes before the first of them are the first part
 pub cut_at : (at : ℕ) (bytes : List ℕ) (place : ℕ) → position (λ byte. byte == at) bytes ≡ Some place

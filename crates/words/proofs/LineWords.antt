@@ -1,6 +1,6 @@
 -- A line and its words: none of the words of a command has a space, so that each gives the other.
-use Rattle.std.proofs.Common.{◌≡◌, ℕ, ◌<◌, ◌≤◌, Bool, true, false, ◌&&◌, ◌==◌, not, List, [], ◌∷◌, codes, decimal, refl,
-    sym, subst, ap, ◌∙◌, arith, true≢false}
+use Rattle.std.proofs.Common.{◌≡◌, ℕ, ◌<◌, ◌≤◌, Bool, true, false, ◌&&◌, ◌==◌, not, List, [], ◌∷◌, codes, decimal, refl}
+use Rattle.std.proofs.Common.{sym, subst, ap, ◌∙◌, arith, true≢false}
 use Rattle.std.specs.Char.{digit_value}
 use Rattle.std.specs.List.{AllByRecursion as Each, list_all}
 use Rattle.std.specs.Str.Parse.{AllDigits}
@@ -17,8 +17,8 @@ use Rattle.words.specs.OpenLines.{IsOpenLine, line_words, way_word}
 use Rattle.words.specs.Spelling.{IsInRange, command_words}
 use Rattle.words.specs.Words.{spaced, words_of}
 use Rattle.words.specs.declared.command.Command.{Command}
-use Rattle.words.specs.declared.command.Command.TheVariants.{Abort, Commit, Deliver, Expire, Field, Firm, More, Open,
-    Rebound, Release, Transfer, Use, Writeoff}
+use Rattle.words.specs.declared.command.Command.TheVariants.{Abort, Commit, Deliver, Expire, Field, Firm, More, Open}
+use Rattle.words.specs.declared.command.Command.TheVariants.{Rebound, Release, Transfer, Use, Writeoff}
 use Rattle.words.specs.declared.open_line.OpenLine.{OpenLine}
 
 -- no byte is a space
@@ -88,43 +88,61 @@ way_is_word Add = text_word (codes "add") refl
 
 lines_are_words : (lines : List OpenLine) → Each IsOpenLine lines → Each IsWord (line_words lines)
 lines_are_words [] h = tt
-lines_are_words (line ∷ lines) h =
-    (way_is_word line.way,
-        (branch_word line.branch h.0.branch,
-            (article_word line.article h.0.article, (qty_word line.qty h.0.qty, lines_are_words lines h.1))))
+lines_are_words (line ∷ lines) h = (
+  way_is_word line.way,
+  (
+    branch_word line.branch h.0.branch,
+    (article_word line.article h.0.article, (qty_word line.qty h.0.qty, lines_are_words lines h.1)),
+  ),
+)
 
 -- ---- the words of a command
 
 pub command_is_words : (c : Command) → IsInRange c → Each IsWord (command_words c)
-command_is_words (Field b a lo hi start) h =
-    (text_word (codes "field") refl,
-        (branch_word b h.0, (article_word a h.1, (level_word lo h.2, (level_word hi h.3, (level_word start h.4, tt))))))
+command_is_words (Field b a lo hi start) h = (
+  text_word (codes "field") refl,
+  (branch_word b h.0, (article_word a h.1, (level_word lo h.2, (level_word hi h.3, (level_word start h.4, tt))))),
+)
 command_is_words (Deliver b a qty) h =
     (text_word (codes "deliver") refl, (branch_word b h.0, (article_word a h.1, (qty_word qty h.2, tt))))
 command_is_words (Writeoff b a qty) h =
     (text_word (codes "writeoff") refl, (branch_word b h.0, (article_word a h.1, (qty_word qty h.2, tt))))
-command_is_words (Rebound b a lo hi) h =
-    (text_word (codes "rebound") refl,
-        (branch_word b h.0, (article_word a h.1, (level_word lo h.2, (level_word hi h.3, tt)))))
-command_is_words (Open n until lines) h =
-    (text_word (codes "open") refl,
-        (number_of_order_word n h.0,
-            (number_word until h.1, lines_are_words lines (recursion_from_All IsOpenLine lines h.2.each))))
-command_is_words (Transfer n until a from to qty) h =
-    (text_word (codes "transfer") refl,
-        (number_of_order_word n h.0,
-            (number_word until h.1,
-                (article_word a h.2, (branch_word from h.3, (branch_word to h.4, (qty_word qty h.5, tt)))))))
-command_is_words (More n way b a qty) h =
-    (text_word (codes "more") refl,
-        (number_of_order_word n h.0,
-            (way_is_word way, (branch_word b h.1, (article_word a h.2, (qty_word qty h.3, tt))))))
-command_is_words (Use n b a qty) h =
-    (text_word (codes "use") refl,
-        (number_of_order_word n h.0, (branch_word b h.1, (article_word a h.2, (qty_word qty h.3, tt)))))
-command_is_words (Release n b a qty) h =
-    (text_word (codes "release") refl,
-        (number_of_order_word n h.0, (branch_word b h.1, (article_word a h.2, (qty_word qty h.3, tt)))))
+command_is_words (Rebound b a lo hi) h = (
+  text_word (codes "rebound") refl,
+  (branch_word b h.0, (article_word a h.1, (level_word lo h.2, (level_word hi h.3, tt)))),
+)
+command_is_words (Open n until lines) h = (
+  text_word (codes "open") refl,
+  (
+    number_of_order_word n h.0,
+    (number_word until h.1, lines_are_words lines (recursion_from_All IsOpenLine lines h.2.each)),
+  ),
+)
+command_is_words (Transfer n until a from to qty) h = (
+  text_word (codes "transfer") refl,
+  (
+    number_of_order_word n h.0,
+    (
+      number_word until h.1,
+      (article_word a h.2, (branch_word from h.3, (branch_word to h.4, (qty_word qty h.5, tt)))),
+    ),
+  ),
+)
+command_is_words (More n way b a qty) h = (
+  text_word (codes "more") refl,
+  (
+    number_of_order_word n h.0,
+    (way_is_word way, (branch_word b h.1, (article_word a h.2, (qty_word qty h.3, tt)))),
+  ),
+)
+command_is_words (Use n b a qty) h = (
+  text_word (codes "use") refl,
+  (number_of_order_word n h.0, (branch_word b h.1, (article_word a h.2, (qty_word qty h.3, tt)))),
+)
+command_is_words (Release n b a qty) h = (
+  text_word (codes "release") refl,
+  (number_of_order_word n h.0, (branch_word b h.1, (article_word a h.2, (qty_word qty h.3, tt)))),
+)
 command_is_words (Commit n) h = (text_word (codes "commit") refl, (number_of_order_word n h, tt))
 command_is_words (Abort n) h = (text_word (codes "abort") refl, (number_of_order_word n h, tt))
 command_is_words (Firm n) h = (text_word (codes "firm") refl, (number_of_order_word n h, tt))
@@ -161,10 +179,10 @@ pub words-ask_field : (b a : List ℕ) → IsBranch b → IsArticle a
     → words_of (spaced (codes "?" ∷ codes "field" ∷ b ∷ a ∷ [])) ≡ codes "?" ∷ codes "field" ∷ b ∷ a ∷ []
 words-ask_field b a h k =
     words-spaced (codes "?") (codes "field" ∷ b ∷ a ∷ []) (text_word (codes "?") refl)
-        (text_word (codes "field") refl, (branch_word b h, (article_word a k, tt)))
+    (text_word (codes "field") refl, (branch_word b h, (article_word a k, tt)))
 
 pub words-ask_order : (n : ℕ) → IsOrderNo n
     → words_of (spaced (codes "?" ∷ codes "order" ∷ decimal n ∷ [])) ≡ codes "?" ∷ codes "order" ∷ decimal n ∷ []
 words-ask_order n h =
     words-spaced (codes "?") (codes "order" ∷ decimal n ∷ []) (text_word (codes "?") refl)
-        (text_word (codes "order") refl, (number_of_order_word n h, tt))
+    (text_word (codes "order") refl, (number_of_order_word n h, tt))

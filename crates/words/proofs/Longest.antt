@@ -11,8 +11,8 @@ use Rattle.words.specs.OpenLines.{IsOpenLine, line_words, way_word}
 use Rattle.words.specs.Spelling.{IsInRange, command_words}
 use Rattle.words.specs.Words.{after_space, spaced}
 use Rattle.words.specs.declared.command.Command.{Command}
-use Rattle.words.specs.declared.command.Command.TheVariants.{Abort, Commit, Deliver, Expire, Field, Firm, More, Open,
-    Rebound, Release, Transfer, Use, Writeoff}
+use Rattle.words.specs.declared.command.Command.TheVariants.{Abort, Commit, Deliver, Expire, Field, Firm, More, Open}
+use Rattle.words.specs.declared.command.Command.TheVariants.{Rebound, Release, Transfer, Use, Writeoff}
 use Rattle.words.specs.declared.command.Request.{Request}
 use Rattle.words.specs.declared.open_line.OpenLine.{OpenLine}
 use Rattle.words.proofs.WordRows.{spaced-after}
@@ -63,8 +63,13 @@ command_le (Deliver b a qty) h = omega (arith, h.0.fits, h.1.fits, qty_le qty h.
 command_le (Writeoff b a qty) h = omega (arith, h.0.fits, h.1.fits, qty_le qty h.2)
 command_le (Rebound b a lo hi) h = omega (arith, h.0.fits, h.1.fits, level_le lo h.2, level_le hi h.3)
 command_le (Open n until lines) h =
-    omega (arith, number_of_order_le n h.0, moment_le until h.1, h.2.fits,
-        lines_le lines (recursion_from_All IsOpenLine lines h.2.each))
+    omega (
+      arith,
+      number_of_order_le n h.0,
+      moment_le until h.1,
+      h.2.fits,
+      lines_le lines (recursion_from_All IsOpenLine lines h.2.each),
+    )
 command_le (Transfer n until a from to qty) h =
     omega (arith, number_of_order_le n h.0, moment_le until h.1, h.2.fits, h.3.fits, h.4.fits, qty_le qty h.5)
 command_le (More n way b a qty) h = omega (arith, number_of_order_le n h.0, way_le way, h.1.fits, h.2.fits, qty_le qty h.3)

@@ -13,8 +13,8 @@ use Rattle.words.specs.OpenLines.{IsOpenLine, line_words, way_word}
 use Rattle.words.specs.Spelling.{IsInRange, command_words, spelling}
 use Rattle.words.specs.Words.{words_of}
 use Rattle.words.specs.declared.command.Command.{Command}
-use Rattle.words.specs.declared.command.Command.TheVariants.{Abort, Commit, Deliver, Expire, Field, Firm, More, Open,
-    Rebound, Release, Transfer, Use, Writeoff}
+use Rattle.words.specs.declared.command.Command.TheVariants.{Abort, Commit, Deliver, Expire, Field, Firm, More, Open}
+use Rattle.words.specs.declared.command.Command.TheVariants.{Rebound, Release, Transfer, Use, Writeoff}
 use Rattle.words.specs.declared.command.Request.{Request as RequestOf}
 use Rattle.words.specs.declared.item.Item.{Item}
 use Rattle.words.specs.declared.item.Item.TheVariants.{AskField, AskOrder, Bad, Request}
@@ -171,8 +171,8 @@ request_one line r s h k =
     let e = sym (words_of_request line r h) ∙ words_of_request line s k in
     let key = first_one r.key s.key (command_words r.command) (command_words s.command) e in
     let command =
-        command_one r.command s.command h.1 k.1
-            (rest_one r.key s.key (command_words r.command) (command_words s.command) e) in
+    command_one r.command s.command h.1 k.1
+    (rest_one r.key s.key (command_words r.command) (command_words s.command) e) in
     λ i. record { key = key i; command = command i }
 
 -- a request is no ask

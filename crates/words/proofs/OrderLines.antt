@@ -14,7 +14,7 @@ pub line_words-append : (xs ys : List OpenLine) → line_words (xs ++ ys) ≡ li
 line_words-append [] ys = refl
 line_words-append (x ∷ xs) ys =
     ap (λ (words : List (List ℕ)). way_word x.way ∷ x.branch ∷ x.article ∷ decimal x.qty ∷ words)
-        (line_words-append xs ys)
+    (line_words-append xs ys)
 
 -- behind the first line stand the others
 pub spelled_after : (line : OpenLine) (words after : List (List ℕ)) → words ≡ line_words (line ∷ []) ++ after
@@ -28,7 +28,7 @@ spelled_after line words after e s = by s.lines s.each s.are
 -- no line stands first, with or without others behind it
 pub spelled_none : (words : List (List ℕ)) → (words ≡ [] → ⊥)
     → ((line : OpenLine) (word : List ℕ) (more : List (List ℕ)) → IsOpenLine line
-        → words ≡ line_words (line ∷ []) ++ (word ∷ more) → ⊥)
+    → words ≡ line_words (line ∷ []) ++ (word ∷ more) → ⊥)
     → ((line : OpenLine) → IsOpenLine line → words ≡ line_words (line ∷ []) → ⊥) → Spelled words → ⊥
 spelled_none words some first last s = by s.lines s.each s.are
   where

@@ -1,6 +1,6 @@
 -- Pieces of a stream, joined.
-use Rattle.std.proofs.Common.{◌≡◌, ◌∙◌, ℕ, Bool, true, false, cond, ◌==◌, List, [], ◌∷◌, ◌++◌, Option, None, Some, ap,
-    inl, inr, refl, sym, subst}
+use Rattle.std.proofs.Common.{◌≡◌, ◌∙◌, ℕ, Bool, true, false, cond, ◌==◌, List, [], ◌∷◌, ◌++◌, Option, None, Some, ap}
+use Rattle.std.proofs.Common.{inl, inr, refl, sym, subst}
 use Rattle.std.specs.List.{onto_first}
 use Rattle.std.proofs.lemmas.Bool.{cases_Bool}
 use Rattle.std.proofs.lemmas.List.Splits.{slice_split-cons_no, slice_split-cons_yes}
@@ -22,7 +22,7 @@ onto (x ∷ r) p w ws h e = elim (cases_Bool (x == 10)) [
   | inl is ↦ absurd (newline (sym (slice_split-cons_yes (λ b. b == 10) x r is) ∙ h))
   | inr other ↦ slice_split-cons_no (λ b. b == 10) x (r ++ p) other
       ∙ ap (onto_first x) (onto r p w ws
-          (only_first x r (parts_at 10 r) (sym (slice_split-cons_no (λ b. b == 10) x r other) ∙ h) (parts_some 10 r)) e)
+      (only_first x r (parts_at 10 r) (sym (slice_split-cons_no (λ b. b == 10) x r other) ∙ h) (parts_some 10 r)) e)
 ]
   where
     newline : [] ∷ parts_at 10 r ≡ (x ∷ r) ∷ [] → ⊥
@@ -47,8 +47,8 @@ feeds_some None piece end after item items new one e is behind =
     by (next ∷ parts) some b = (b.0, b.1 ∙ ap (λ (i : Item). i ∷ b.0) is, b.2)
 feeds_some (Some rest) piece end after item items new one e is behind =
     subst (λ (parts : List (List ℕ)). Ends parts items new)
-        (sym (onto rest piece end (parts_at 10 after) (one rest refl) e))
-        (by (parts_at 10 after) (parts_some 10 after) behind)
+    (sym (onto rest piece end (parts_at 10 after) (one rest refl) e))
+    (by (parts_at 10 after) (parts_some 10 after) behind)
   where
     by : (parts : List (List ℕ)) → (parts ≡ [] → ⊥) → EndsBehind item parts items new → Ends ((rest ++ end) ∷ parts) items new
     by [] some b = absurd (some refl)

@@ -12,8 +12,8 @@ use Rattle.words.specs.declared.command.Request.{Request as RequestOf}
 use Rattle.words.specs.declared.item.Item.{Item}
 use Rattle.words.specs.declared.item.Item.TheVariants.{AskField, AskOrder, Bad, Request}
 use Rattle.words.proofs.ByItem.{says_none, words_of_request}
-use Rattle.words.proofs.Decisions.{Decided, decided_article, decided_both, decided_branch, decided_by, decided_in_range,
-    decided_key, decided_le, decided_order_no, decided_word, decided_words}
+use Rattle.words.proofs.Decisions.{Decided, decided_article, decided_both, decided_branch, decided_by, decided_in_range}
+use Rattle.words.proofs.Decisions.{decided_key, decided_le, decided_order_no, decided_word, decided_words}
 use Rattle.words.proofs.OneItem.{command_of, command_of-command_words}
 use Rattle.words.proofs.LineWords.{line_of}
 
@@ -65,7 +65,7 @@ decided_field (m ∷ n ∷ []) = inr (λ h. cc (h.4))
 decided_field (m ∷ n ∷ b ∷ []) = inr (λ h. cc (h.4))
 decided_field (m ∷ n ∷ b ∷ a ∷ []) =
     decided_by to from (decided_both (decided_both (decided_word m (codes "?")) (decided_word n (codes "field")))
-        (decided_both (decided_branch b) (decided_article a)))
+    (decided_both (decided_branch b) (decided_article a)))
   where
     to : ((m ≡ codes "?") × (n ≡ codes "field")) × (IsBranch b × IsArticle a) → FieldWords (m ∷ n ∷ b ∷ a ∷ [])
     to h = let e : m ≡ codes "?" = h.0.0 in let f : n ≡ codes "field" = h.0.1 in (b, a, h.1.0, h.1.1, cc (e, f))
@@ -85,7 +85,7 @@ decided_order (m ∷ []) = inr (λ h. cc (h.2))
 decided_order (m ∷ v ∷ []) = inr (λ h. cc (h.2))
 decided_order (m ∷ v ∷ w ∷ []) =
     decided_by to from (decided_both (decided_both (decided_word m (codes "?")) (decided_word v (codes "order")))
-        (decided_both (decided_order_no n) (decided_word w (decimal n))))
+    (decided_both (decided_order_no n) (decided_word w (decimal n))))
   where
     -- only one number can have the text, the one that its digits write
     n : ℕ
@@ -110,7 +110,7 @@ decided_order (m ∷ v ∷ w ∷ x ∷ words) = inr (λ h. cc (h.2))
 pub some_item : (line : List ℕ) → (item : Item) × IsItem line item
 some_item line =
     by (decided_le (length line) longest_line) (decided_field (words_of line)) (decided_order (words_of line))
-        (decided_request (words_of line))
+    (decided_request (words_of line))
   where
     by : Decided (length line ≤ longest_line) → Decided (FieldWords (words_of line))
         → Decided (OrderWords (words_of line)) → Decided (RequestWords (words_of line))

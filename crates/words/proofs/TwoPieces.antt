@@ -1,6 +1,6 @@
 -- A stream in two pieces, and the same in one.
-use Rattle.std.proofs.Common.{◌≡◌, ◌∙◌, ℕ, ◌<◌, ◌==◌, Bool, true, false, cond, List, [], ◌∷◌, ◌++◌, Option, None, Some,
-    ap, append_assoc, arith, inl, inr, length, length-append, nat_le, refl, sym, subst}
+use Rattle.std.proofs.Common.{◌≡◌, ◌∙◌, ℕ, ◌<◌, ◌==◌, Bool, true, false, cond, List, [], ◌∷◌, ◌++◌, Option, None, Some}
+use Rattle.std.proofs.Common.{ap, append_assoc, arith, inl, inr, length, length-append, nat_le, refl, sym, subst}
 use Rattle.std.specs.List.{onto_first}
 use Rattle.std.proofs.lemmas.Bool.{cases_Bool}
 use Rattle.words.specs.Items.{IsItem, longest_line}
@@ -70,10 +70,10 @@ last_has_none [] = refl
 last_has_none (x ∷ xs) = elim (cases_Bool (x == 10)) [
   | inl is ↦
       subst LastHasNone (sym (slice_split-cons_yes (λ b. b == 10) x xs is))
-          (last_behind (parts_at 10 xs) (parts_some 10 xs) (last_has_none xs))
+      (last_behind (parts_at 10 xs) (parts_some 10 xs) (last_has_none xs))
   | inr other ↦
       subst LastHasNone (sym (slice_split-cons_no (λ b. b == 10) x xs other))
-          (last_onto x (parts_at 10 xs) other (parts_some 10 xs) (last_has_none xs))
+      (last_onto x (parts_at 10 xs) other (parts_some 10 xs) (last_has_none xs))
 ]
 
 joined_some : (p : List ℕ) (ps qs : List (List ℕ)) → joined (p ∷ ps) qs ≡ [] → ⊥
@@ -96,7 +96,7 @@ long_on last [] ys new long h = absurd h
 long_on last (q ∷ []) ys new long h = (h.0, h.1 ∙ sym (kept_none (last ++ q) (omega (arith, length-append last q))))
 long_on last (q ∷ r ∷ qs) ys new long h =
     subst (λ (is : List Item). Ends ((last ++ q) ∷ r ∷ qs) is new) (sym h.1)
-        (too_long (last ++ q) (omega (arith, length-append last q)), h.2)
+    (too_long (last ++ q) (omega (arith, length-append last q)), h.2)
 
 -- what was kept goes on
 kept_on : (last q : List ℕ) (ys : List Item) (new : Option (List ℕ)) → parts_at 10 last ≡ last ∷ []
@@ -107,7 +107,7 @@ kept_on last q ys new one h = by (nat_le (length last) longest_line) refl h
         → Ends (joined (last ∷ []) (parts_at 10 q)) ys new
     by true e h =
         subst (λ (ps : List (List ℕ)). Ends ps ys new)
-            (parts-append 10 last q ∙ ap (λ (ps : List (List ℕ)). joined ps (parts_at 10 q)) one) h
+        (parts-append 10 last q ∙ ap (λ (ps : List (List ℕ)). joined ps (parts_at 10 q)) one) h
     by false e h = long_on last (parts_at 10 q) ys new (leb-false _ _ e) h
 
 ends_append : (ps : List (List ℕ)) (xs ys : List Item) (mid new : Option (List ℕ)) (q : List ℕ) → LastHasNone ps

@@ -1,6 +1,6 @@
 -- Words in a row, a word at a time.
-use Rattle.std.proofs.Common.{◌≡◌, ◌∙◌, ℕ, ◌+◌, ◌<◌, List, [], ◌∷◌, ◌++◌, ap, append-nil, append_assoc, get_or, length,
-    refl, sym, take}
+use Rattle.std.proofs.Common.{◌≡◌, ◌∙◌, ℕ, ◌+◌, ◌<◌, List, [], ◌∷◌, ◌++◌, ap, append-nil, append_assoc, get_or, length}
+use Rattle.std.proofs.Common.{refl, sym, take}
 use Rattle.std.proofs.lemmas.List.{take_more}
 use Rattle.words.specs.OpenLines.{line_words}
 use Rattle.words.specs.Words.{after_space, spaced}
@@ -30,4 +30,4 @@ lines_more old before new lines i line lt is p q =
     ∙ ap (λ (l : List ℕ). old ++ l)
     (sym (after_space-append (line_words first) last) ∙ ap after_space (sym (line_words-append first (line ∷ [])))
     ∙ ap (λ (ls : List OpenLine). after_space (line_words ls))
-        (sym (take_more lines i line lt ∙ ap (λ (l : OpenLine). first ++ l ∷ []) (sym is))))
+    (sym (take_more lines i line lt ∙ ap (λ (l : OpenLine). first ++ l ∷ []) (sym is))))

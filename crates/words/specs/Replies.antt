@@ -1,9 +1,10 @@
 -- The text of a reply.
 use Rattle.std.specs.Prelude.{ℕ, List, [], ◌∷◌, codes, decimal}
 use Rattle.words.specs.declared.reply.Refusal.{Refusal}
-use Rattle.words.specs.declared.reply.Refusal.TheVariants.{KeyReused, Full, FieldThere, NoField, BadBounds, OrderThere,
-    NoOrder, Ended, Past, SameField, OtherWay, TooManyLines, TooLittle, TooMuch, NotHeld, OverUse, TransferFixed,
-    ClockBack, Firm, BadCommand}
+use Rattle.words.specs.declared.reply.Refusal.TheVariants.{KeyReused, Full, FieldThere, NoField, BadBounds, OrderThere}
+use Rattle.words.specs.declared.reply.Refusal.TheVariants.{NoOrder, Ended, Past, SameField, OtherWay, TooManyLines}
+use Rattle.words.specs.declared.reply.Refusal.TheVariants.{TooLittle, TooMuch, NotHeld, OverUse, TransferFixed}
+use Rattle.words.specs.declared.reply.Refusal.TheVariants.{ClockBack, Firm, BadCommand}
 use Rattle.words.specs.declared.reply.Reply.{Reply}
 use Rattle.words.specs.declared.reply.Reply.TheVariants.{Done, Refused}
 use Rattle.words.specs.Words.{spaced}

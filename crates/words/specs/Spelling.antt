@@ -5,8 +5,8 @@ use Rattle.escrow.specs.Ranges.{IsLevel, IsMoment, IsOrderNo, IsQty}
 use Rattle.words.specs.OpenLines.{AreOpenLines, line_words, way_word}
 use Rattle.words.specs.Words.{spaced}
 use Rattle.words.specs.declared.command.Command.{Command}
-use Rattle.words.specs.declared.command.Command.TheVariants.{Abort, Commit, Deliver, Expire, Field, Firm, More, Open,
-    Rebound, Release, Transfer, Use, Writeoff}
+use Rattle.words.specs.declared.command.Command.TheVariants.{Abort, Commit, Deliver, Expire, Field, Firm, More, Open}
+use Rattle.words.specs.declared.command.Command.TheVariants.{Rebound, Release, Transfer, Use, Writeoff}
 
 -- the words of a command; numbers are in decimal, with no zero in front
 abbrev pub command_words : Command → List (List ℕ)

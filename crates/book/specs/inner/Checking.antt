@@ -1,6 +1,6 @@
 -- The parts of the checks of commands, as the book makes them.
-use Rattle.std.specs.Prelude.{ℕ, ◌≡◌, ◌≤◌, ◌≢◌, List, [], ◌∷◌, IsNone, IsSomeAnd, MatchResult, None, Option, Result,
-    Some, length, option_map, true}
+use Rattle.std.specs.Prelude.{ℕ, ◌≡◌, ◌≤◌, ◌≢◌, List, [], ◌∷◌, IsNone, IsSomeAnd, MatchResult, None, Option, Result}
+use Rattle.std.specs.Prelude.{Some, length, option_map, true}
 use Rattle.escrow.specs.declared.quantity.Way.{Way}
 use Rattle.escrow.specs.declared.quantity.Way.TheVariants.{Add, Take}
 use Rattle.words.specs.declared.command.Command.{Command}

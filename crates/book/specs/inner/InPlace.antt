@@ -1,6 +1,6 @@
 -- How lines and orders change in place, and when they may change so.
-use Rattle.std.specs.Prelude.{ℕ, ◌+◌, ◌<◌, ◌≤◌, ◌≡◌, ◌||◌, true, List, [], ◌∷◌, ◌++◌, MatchOption, Some, find,
-    if◌then◌else◌, is_some, map}
+use Rattle.std.specs.Prelude.{ℕ, ◌+◌, ◌<◌, ◌≤◌, ◌≡◌, ◌||◌, true, List, [], ◌∷◌, ◌++◌, MatchOption, Some, find}
+use Rattle.std.specs.Prelude.{if◌then◌else◌, is_some, map}
 use Rattle.std.specs.List.{AllByRecursion as Each}
 use Rattle.std.specs.Vec.{vec_capacity, vec_len}
 use Rattle.escrow.specs.Ranges.{IsLevel}

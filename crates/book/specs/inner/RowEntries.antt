@@ -1,6 +1,6 @@
 -- What the rows of tables say: each row gives an entry, and the rows of orders and of lines together give the orders.
-use Rattle.std.specs.Prelude.{ℕ, ◌+◌, ◌+ℤ◌, ◌-ℤ◌, ◌≤◌, ◌≡◌, ◌≢◌, pos, nat_abs, nat_eq, List, [], ◌∷◌, length, map,
-    flat_map, if◌then◌else◌, string_bytes, IsSomeAnd, IsTrue, Option}
+use Rattle.std.specs.Prelude.{ℕ, ◌+◌, ◌+ℤ◌, ◌-ℤ◌, ◌≤◌, ◌≡◌, ◌≢◌, pos, nat_abs, nat_eq, List, [], ◌∷◌, length, map}
+use Rattle.std.specs.Prelude.{flat_map, if◌then◌else◌, string_bytes, IsSomeAnd, IsTrue, Option}
 use Rattle.std.specs.Ordering.{nat_cmp}
 use Rattle.std.specs.Cmp.Lexicographic.{slice_cmp}
 use Rattle.std.specs.List.Sorted.{IsStrictlySortedBy}
@@ -28,8 +28,8 @@ use Rattle.ledger.specs.declared.rows.MoveRow.{MoveRow}
 use Rattle.ledger.specs.declared.rows.OrderRow.{OrderRow}
 use Rattle.ledger.specs.Good.{Good, IsGoodField, IsGoodKept, IsTransferPair}
 use Rattle.ledger.specs.Ledger.{Ledger, Move, Name, Order, is_transfer, line_name, name_cmp, open_orders, places, same_name}
-use Rattle.ledger.specs.Rows.{FirmCells, LineCells, OrderCells, firm_row, firm_rows, kind_code, kept_row, move_row,
-    order_lines, order_row, state_code, way_code}
+use Rattle.ledger.specs.Rows.{FirmCells, LineCells, OrderCells, firm_row, firm_rows, kind_code, kept_row, move_row}
+use Rattle.ledger.specs.Rows.{order_lines, order_row, state_code, way_code}
 use Rattle.book.specs.inner.RunningNumbers.{IsUpToDate}
 use Rattle.ledger.specs.Tables.{kept_cells, line_cells, move_cells, order_cells}
 use Rattle.book.specs.Model.{field_of, kept_of, move_of, order_of}

@@ -1,6 +1,6 @@
 -- What all moves and orders add up to on each of the fields.
-use Rattle.std.specs.Prelude.{◌≡◌, ℕ, ℤ, ◌<◌, ◌≤◌, Bool, nat_abs, pos, ◌+ℤ◌, List, [], ◌∷◌, length, map, Option, find,
-    if◌then◌else◌, IsSome}
+use Rattle.std.specs.Prelude.{◌≡◌, ℕ, ℤ, ◌<◌, ◌≤◌, Bool, nat_abs, pos, ◌+ℤ◌, List, [], ◌∷◌, length, map, Option, find}
+use Rattle.std.specs.Prelude.{if◌then◌else◌, IsSome}
 use Rattle.std.specs.List.{AllByRecursion as Each, HoldsAt}
 use Rattle.std.specs.List.Sorted.{IsStrictlySortedBy}
 use Rattle.std.specs.Map.{keys_of}

@@ -16,8 +16,8 @@ loop-place-preserved c =
     record {
       put = c.put.ensures.entries ∙ ap (λ es. insert_entry name_cmp es x.0 x.1) c.loop-place.invariant.put
           ∙ sym (ap (λ xs. with_entries xs c.args.fields.now.entries) (read-step changed i x c.entry_at.ensures)
-              ∙ fold-append (λ es e. insert_entry name_cmp es e.0 e.1) c.args.fields.now.entries (take i changed)
-                  (x ∷ []));
+          ∙ fold-append (λ es e. insert_entry name_cmp es e.0 e.1) c.args.fields.now.entries (take i changed)
+          (x ∷ []));
       room = omega arith;
       storage = c.put.ensures.storage ∙ c.loop-place.invariant.storage;
       no_more = omega arith;

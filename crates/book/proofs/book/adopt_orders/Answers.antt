@@ -9,8 +9,8 @@ pub put-requires : goal.put-requires
 put-requires c =
     let old = c.loop-order.orders.entries in
     room_if_new c.loop-order.orders.room c.in-Some.order c.next.new.self.rest.items old
-        (subst (λ (os : List (ℕ × OrderEntry)). MayBePut c.loop-order.orders.room os old) c.in-Some.ensures.steps.0
-            c.loop-order.invariant.may)
+    (subst (λ (os : List (ℕ × OrderEntry)). MayBePut c.loop-order.orders.room os old) c.in-Some.ensures.steps.0
+    c.loop-order.invariant.may)
 
 pub loop-order-preserved : goal.loop-order-preserved
 loop-order-preserved c =
@@ -19,8 +19,8 @@ loop-order-preserved c =
     let put = ap (map order_of) c.put.ensures.entries ∙ put_viewed o.0 o.1 old in
     let slots = ap (map slots_of) c.put.ensures.entries ∙ slots_viewed o.0 o.1 old in
     let may =
-        subst (λ (os : List (ℕ × OrderEntry)). MayBePut c.loop-order.orders.room os old) c.in-Some.ensures.steps.0
-            c.loop-order.invariant.may in
+    subst (λ (os : List (ℕ × OrderEntry)). MayBePut c.loop-order.orders.room os old) c.in-Some.ensures.steps.0
+    c.loop-order.invariant.may in
     record {
       put =
           ap (put_rows number_cmp (map order_of left)) put
@@ -28,7 +28,7 @@ loop-order-preserved c =
           ∙ c.loop-order.invariant.put;
       may =
           subst (MayBePut c.put.new.self.room left) (sym c.put.ensures.entries)
-              (rest_may c.loop-order.orders.room c.put.new.self.room o left old may);
+          (rest_may c.loop-order.orders.room c.put.new.self.room o left old may);
       slots =
           ap (put_rows slots_cmp (map slots_of left)) slots
           ∙ ap (λ os. put_rows slots_cmp (map slots_of os) (map slots_of old)) (sym c.in-Some.ensures.steps.0)

@@ -7,6 +7,6 @@ use Rattle.book.proofs.order.line_in.Goals as goal
 pub returns : goal.returns
 returns c =
     find-first (on c.args.name.now) c.find.result c.args.lines.now
-        (first_from_find _ _ _ (λ (l : Line). on c.args.name.now l ≡ true) (λ (l : Line). on c.args.name.now l ≡ false)
+    (first_from_find _ _ _ (λ (l : Line). on c.args.name.now l ≡ true) (λ (l : Line). on c.args.name.now l ≡ false)
     c.find.ensures.ran (YieldsList-from_slice c.args.lines.now cc) (λ x q k. search (rules, of_calls))
-        (λ x q k. search (rules, of_calls)))
+    (λ x q k. search (rules, of_calls)))

@@ -10,9 +10,11 @@ use Rattle.desk.proofs.dialogue.answer_come.Goals as goal
 
 pub loop-question-init : goal.loop-question-init
 loop-question-init g c = record {
-  come = λ read ended before has_found. ([],
-      subst (λ qs. g.D.Dialogue.has_found c.args.dialogue.now read ended qs) (sym (append-nil before)) has_found,
-      counted_none _ _ _ _);
+  come = λ read ended before has_found. (
+    [],
+    subst (λ qs. g.D.Dialogue.has_found c.args.dialogue.now read ended qs) (sym (append-nil before)) has_found,
+    counted_none _ _ _ _,
+  );
   goes = goes_same _ _ c.in_order.ensures.good c.in_order.ensures.stored;
 }
 
@@ -47,7 +49,7 @@ returns-in_err-answer-clause-cut g c =
         Appends-trans _ _ _ _ _ done.writes (Appends-nil _),
         cut_on _ _ _ _ questions _ _ done (λ e. ap (desk_state g.K.Keep) (goes.untouched e)) _ (asked ∷ []) []
             (cut_failed _ c.in_err-answer.field-0.0 fault _ _ asked (c.in_err-answer.ensures.fails asked asks)
-                (λ e. is.0.1 e) (λ e. is.1.1 e)),
+            (λ e. is.0.1 e) (λ e. is.1.1 e)),
       ),
     ))
 
@@ -59,7 +61,7 @@ returns-in_err-write_whole-clause-cut g c =
     let (count, few, begins) = c.in_err-write_whole.ensures.beginning in
     let text = c.as_bytes.result.now in
     passed_as c.from_residual-in_err-write_whole.result _ _ c.from_residual-in_err-write_whole.ensures.1
-        (λ fault is read ended before has_found.
+    (λ fault is read ended before has_found.
     let (questions, found, (done, counts)) = c.loop-question.invariant.come read ended before has_found in
     let (asked, asks, now) = c.in-Question.ensures.question c.in-Question.question refl read ended (before ++ questions) found in
     let goes = c.answer.ensures.goes in (
@@ -70,7 +72,7 @@ returns-in_err-write_whole-clause-cut g c =
         Appends-trans _ _ _ _ _ done.writes begins,
         cut_on _ _ _ _ questions _ _ done (λ e. ap (desk_state g.K.Keep) (goes.untouched e)) _ (asked ∷ []) (take count text)
             (cut_within _ fault _ _ asked (bytes_of c.in_ok-answer.answer) (take count text) (drop count text) is
-                (c.in_ok-answer.ensures.told asked asks) (sym c.as_bytes.ensures ∙ sym (take-append-drop count text))),
+            (c.in_ok-answer.ensures.told asked asks) (sym c.as_bytes.ensures ∙ sym (take-append-drop count text))),
       ),
     ))
 
@@ -87,12 +89,12 @@ loop-question-preserved g c =
       come = λ read ended before has_found.
           let (questions, found, done) = c.loop-question.invariant.come read ended before has_found in
           let (asked, asks, now) =
-              c.in-Question.ensures.question c.in-Question.question refl read ended (before ++ questions) found in (
+          c.in-Question.ensures.question c.in-Question.question refl read ended (before ++ questions) found in (
             questions ++ asked ∷ [],
             subst (λ qs. g.D.Dialogue.has_found c.next.new.self read ended qs) (append_assoc before questions (asked ∷ [])) now,
             counted_on _ _ _ _ questions asked _ _ _ _ _ _ (λ e. ap (desk_state g.K.Keep) (goes.untouched e)) done
                 (answered_one _ _ _ asked _ _ _ (c.in_ok-answer.ensures.told asked asks)
-                    (rw c.as_bytes.ensures at c.in_ok-write_whole.ensures.whole)) c.saturating_add.ensures,
+                (rw c.as_bytes.ensures at c.in_ok-write_whole.ensures.whole)) c.saturating_add.ensures,
           );
       goes = goes_on _ _ _ _ c.loop-question.invariant.goes goes;
     }

@@ -10,7 +10,7 @@ invariant-loop-question g l = record {
       → g.D.Dialogue.has_found l.initial.dialogue read ended before → (questions : List g.D.Dialogue.Asked)
       × g.D.Dialogue.has_found l.dialogue read ended (before ++ questions)
       × Counted g.D.Dialogue.language (desk_state g.K.Keep l.initial.desk) questions (desk_state g.K.Keep l.desk)
-          (g.W.Write.contents l.initial.writer) (g.W.Write.contents l.writer) l.initial.answered l.answered;
+      (g.W.Write.contents l.initial.writer) (g.W.Write.contents l.writer) l.initial.answered l.answered;
   goes : Goes g.K.Keep l.initial.desk l.desk;
 }
 

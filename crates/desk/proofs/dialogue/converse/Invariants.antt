@@ -11,7 +11,7 @@ invariant-loop-turn g l = record {
   size : length l.piece ≡ PIECE;
   on : InDialogue g.D.Dialogue.language (desk_state g.K.Keep l.initial.desk)
       (streams (g.R.Read.remaining l.initial.reader) (g.R.Read.remaining l.reader) (g.W.Write.contents l.initial.writer)
-          (g.W.Write.contents l.writer)) (desk_state g.K.Keep l.desk)
+      (g.W.Write.contents l.writer)) (desk_state g.K.Keep l.desk)
       (λ read questions. g.D.Dialogue.has_found l.dialogue read false questions) l.answered;
   goes : Goes g.K.Keep l.initial.desk l.desk;
 }

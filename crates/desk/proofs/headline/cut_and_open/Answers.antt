@@ -20,7 +20,7 @@ pub returns-clause-refused : goal.returns-clause-refused
 returns-clause-refused g c honest left =
     let before = c.open.ensures.honest honest in
     refused_so c.open.result _ _ left (c.in_ok-again.ensures.found before left.these left.leaves_these)
-        (c.open.ensures.nothing_else honest)
+    (c.open.ensures.nothing_else honest)
 
 pub returns-clause-honours : goal.returns-clause-honours
 returns-clause-honours g c =

@@ -7,7 +7,7 @@ pub returns-clause-found : goal.returns-clause-found
 returns-clause-found g c =
     let opened = c.cut_and_open-opened in
     found_of g.K.Keep.is_honest _ _ _ opened.result opened.ensures.honest c.run_and_stop-run.ensures.left
-        opened.ensures.found opened.ensures.honours
+    opened.ensures.found opened.ensures.honours
 
 pub returns-clause-refused : goal.returns-clause-refused
 returns-clause-refused g c =
@@ -18,7 +18,7 @@ pub returns-clause-left : goal.returns-clause-left
 returns-clause-left g c =
     let opened = c.cut_and_open-opened in
     left_of g.K.Keep.is_honest _ _ _ g.K.Keep.leaves opened.result opened.ensures.honest c.run_and_stop-run.ensures.left
-        opened.ensures.left
+    opened.ensures.left
 
 pub returns-clause-stop : goal.returns-clause-stop
 returns-clause-stop g c =

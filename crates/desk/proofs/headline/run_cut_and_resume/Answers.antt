@@ -23,8 +23,8 @@ returns-in-Some-clause-resumed g c =
     let Honest = g.K.Keep.is_honest in
     let size : c.len-first.result ≡ answered run = search rules in
     let found =
-        some_of (λ r. Honest (keeper_after r) → IfOk r (λ desk. ∥ IsFoundAfter A rs run desk.ledger ∥₁)) c.in-Some.is
-            c.run_cut_and_open-run.ensures.found in
+    some_of (λ r. Honest (keeper_after r) → IfOk r (λ desk. ∥ IsFoundAfter A rs run desk.ledger ∥₁)) c.in-Some.is
+    c.run_cut_and_open-run.ensures.found in
     resumed_of Honest A rs run c.in-Some.opened c.go_on.result _ (omega arith) found c.go_on.ensures.resumed
 
 pub returns-in-Some-clause-whole : goal.returns-in-Some-clause-whole
@@ -45,8 +45,8 @@ returns-in-Some-clause-behind g c =
     let Honest = g.K.Keep.is_honest in
     let size : c.len-first.result ≡ answered run = search rules in
     let found =
-        some_of (λ r. Honest (keeper_after r) → IfOk r (λ desk. ∥ IsFoundAfter A rs run desk.ledger ∥₁)) c.in-Some.is
-            c.run_cut_and_open-run.ensures.found in
+    some_of (λ r. Honest (keeper_after r) → IfOk r (λ desk. ∥ IsFoundAfter A rs run desk.ledger ∥₁)) c.in-Some.is
+    c.run_cut_and_open-run.ensures.found in
     behind_of Honest A rs run c.in-Some.opened g.K.Keep c.go_on.result _ (omega arith) found c.go_on.ensures.behind
 
 pub returns-in-Some-clause-refused : goal.returns-in-Some-clause-refused
@@ -56,12 +56,12 @@ returns-in-Some-clause-refused g c =
     let run = c.run_cut_and_open-run.result.0 in
     let Honest = g.K.Keep.is_honest in
     let refused =
-        some_of (λ r. Honest (keeper_after r) → IfErr r (λ e. (e.0 ≡ Memory) ⊎ (e.0 ≡ Store))) c.in-Some.is
-            c.run_cut_and_open-run.ensures.refused in
+    some_of (λ r. Honest (keeper_after r) → IfErr r (λ e. (e.0 ≡ Memory) ⊎ (e.0 ≡ Store))) c.in-Some.is
+    c.run_cut_and_open-run.ensures.refused in
     let left =
-        some_of (λ r.
-            Honest (keeper_after r) → ∥ LeavesRowsOf (g.K.Keep.leaves (keeper_after r)) (IsFoundAfter A rs run) ∥₁)
-            c.in-Some.is c.run_cut_and_open-run.ensures.left in
+    some_of (λ r.
+    Honest (keeper_after r) → ∥ LeavesRowsOf (g.K.Keep.leaves (keeper_after r)) (IsFoundAfter A rs run) ∥₁)
+    c.in-Some.is c.run_cut_and_open-run.ensures.left in
     refused_still Honest A rs run c.in-Some.opened g.K.Keep.leaves c.go_on.result refused left c.go_on.ensures.refused
 
 pub returns-in-Some-clause-stop : goal.returns-in-Some-clause-stop

@@ -55,8 +55,8 @@ returns-clause-whole g c =
     record {
       told =
           subst (λ (rs : List Request). WritesLines c.args.desk.now.ledger (items_of rs) c.loop-done.desk.ledger
-              (g.W.Write.contents c.args.writer.now) (g.W.Write.contents c.loop-done.writer))
-              (ap (λ n. take n c.args.requests.now) end ∙ take-length c.args.requests.now) so_far;
+          (g.W.Write.contents c.args.writer.now) (g.W.Write.contents c.loop-done.writer))
+          (ap (λ n. take n c.args.requests.now) end ∙ take-length c.args.requests.now) so_far;
       may = may_requests (desk_state g.K.Keep c.args.desk.now) c.args.requests.now was;
       same = going ∙ sym was;
     }

@@ -8,7 +8,7 @@ use Rattle.desk.proofs.lists.answer_lists.Given as goal
 abbrev pub invariant-loop-done : goal.invariant-loop-done
 invariant-loop-done g l =
     WritesLines l.fn.desk.ledger (items_of (take l.done l.requests)) l.desk.ledger (g.W.Write.contents l.fn.writer)
-        (g.W.Write.contents l.writer)
+    (g.W.Write.contents l.writer)
     × (l.done ≤ length l.requests)
     × (g.K.Keep.stopped l.desk.keep ≡ false)
     × Goes g.K.Keep l.fn.desk l.desk

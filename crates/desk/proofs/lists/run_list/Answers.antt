@@ -22,6 +22,6 @@ returns-in-None-clause-list g c =
     let told = c.run.ensures in
     let few = subst (λ t. length c.args.requests.now ≤ most_together t) c.in-None.is c.requires.few in
     subst (λ t. RunsList t (desk_state g.K.Keep c.args.desk.now) c.args.requests.now c.run.result
-        (desk_state g.K.Keep c.run.new.self)) (sym c.in-None.is)
+    (desk_state g.K.Keep c.run.new.self)) (sym c.in-None.is)
     (list_of_one _ _ c.args.requests.now c.run.result c.requires.some few told.goes.good told.replies told.lines
-        told.all told.stop (told.accepted c.requires.going) (told.either c.requires.going))
+    told.all told.stop (told.accepted c.requires.going) (told.either c.requires.going))

@@ -1,5 +1,5 @@
-use Rattle.std.proofs.Common.{◌≡◌, ◌∙◌, ◌+◌, ◌<◌, ◌≤◌, ◌++◌, ◌∷◌, ℕ, [], List, ap, arith, get_or, length, refl, subst,
-    sym, take, true≢false}
+use Rattle.std.proofs.Common.{◌≡◌, ◌∙◌, ◌+◌, ◌<◌, ◌≤◌, ◌++◌, ◌∷◌, ℕ, [], List, ap, arith, get_or, length, refl, subst}
+use Rattle.std.proofs.Common.{sym, take, true≢false}
 use Rattle.std.specs.List.{AllZip}
 use Rattle.std.proofs.lemmas.List.{take_all, take_more}
 use Rattle.std.proofs.lemmas.List.Elements.{AllZip-get_or, AllZip-push, length_all_zip}
@@ -13,18 +13,18 @@ copied_more : (cs ds : List Change) (i : ℕ) (c d : Change) → i < length cs �
     → AllZip IsSameRow (take (i + 1) cs) (take (i + 1) ds)
 copied_more cs ds i c d low high c_is d_is so_far copy =
     let one : take (i + 1) cs ≡ take i cs ++ c ∷ [] =
-        take_more cs i c low ∙ ap (λ (x : Change). take i cs ++ x ∷ []) (sym c_is) in
+    take_more cs i c low ∙ ap (λ (x : Change). take i cs ++ x ∷ []) (sym c_is) in
     let other : take (i + 1) ds ≡ take i ds ++ d ∷ [] =
-        take_more ds i d high ∙ ap (λ (x : Change). take i ds ++ x ∷ []) (sym d_is) in
+    take_more ds i d high ∙ ap (λ (x : Change). take i ds ++ x ∷ []) (sym d_is) in
     subst (λ (xs : List Change). AllZip IsSameRow xs (take (i + 1) ds)) (sym one)
-        (subst (λ (ys : List Change). AllZip IsSameRow (take i cs ++ c ∷ []) ys) (sym other)
-            (AllZip-push IsSameRow (take i cs) (take i ds) c d so_far copy))
+    (subst (λ (ys : List Change). AllZip IsSameRow (take i cs ++ c ∷ []) ys) (sym other)
+    (AllZip-push IsSameRow (take i cs) (take i ds) c d so_far copy))
 
 copied_whole : (cs ds : List Change) (i : ℕ) → length cs ≡ length ds → length cs ≤ i
     → AllZip IsSameRow (take i cs) (take i ds) → AllZip IsSameRow cs ds
 copied_whole cs ds i same end copies =
     subst (λ (xs : List Change). AllZip IsSameRow xs ds) (take_all i cs end)
-        (subst (λ (ys : List Change). AllZip IsSameRow (take i cs) ys) (take_all i ds (omega arith)) copies)
+    (subst (λ (ys : List Change). AllZip IsSameRow (take i cs) ys) (take_all i ds (omega arith)) copies)
 
 pub loop-i-preserved : goal.loop-i-preserved
 loop-i-preserved c =
@@ -53,10 +53,10 @@ returns-then-not-same_row c =
       λ never. absurd (true≢false (sym never)),
       λ same.
           let at =
-              AllZip-get_or IsSameRow c.args.changes.now c.args.copies.now c.loop-i.i one.result other.result same
-                  c.loop-i-test.true in
+          AllZip-get_or IsSameRow c.args.changes.now c.args.copies.now c.loop-i.i one.result other.result same
+          c.loop-i-test.true in
           c.if-not-same_row.ensures.1
           (subst (λ (d : Change). IsSameRow d other.result) (sym one.is)
-              (subst (λ (d : Change). IsSameRow (get_or c.args.changes.now c.loop-i.i one.result) d) (sym other.is)
-                  at)),
+          (subst (λ (d : Change). IsSameRow (get_or c.args.changes.now c.loop-i.i one.result) d) (sym other.is)
+          at)),
     )

@@ -8,8 +8,8 @@ use Rattle.desk.proofs.together.join.Goals as goal
 pub returns-in-Ok-clause-joined : goal.returns-in-Ok-clause-joined
 returns-in-Ok-clause-joined c is =
     let told : Plans c.args.book.now.ledger c.args.request.now (planned.Again c.in-Ok-Again.place) =
-        subst (Plans c.args.book.now.ledger c.args.request.now) c.in-Ok-Again.field-0-is
-            c.in-Ok-Again.ensures.planned in
+    subst (Plans c.args.book.now.ledger c.args.request.now) c.in-Ok-Again.field-0-is
+    c.in-Ok-Again.ensures.planned in
     joined_told c.args.book.now.ledger c.args.request.now (Done c.in-Ok-Again.place) c.args.batch.now c.tell.new.self
     c.requires told.1
     c.in-Ok.ensures.reply c.in-Ok.ensures.line (ap (λ changes. changes.items) c.tell.ensures.others.0)

@@ -25,8 +25,8 @@ returns-clause-joined c is =
     c.adopt.ensures.good c.requires.going (c.tell.ensures.others.1 ∙ c.requires.going)
     (c.in-Ok-tell.ensures.reply ∙ ap (λ n. c.args.batch.now.run.replies.items ++ Done n ∷ []) c.place.ensures)
     (c.in-Ok-tell.ensures.line
-        ∙ ap (λ n. c.args.batch.now.run.lines.items ++ request_line c.args.key (Done n)) c.place.ensures
-        ∙ ap (λ key. c.args.batch.now.run.lines.items ++ request_line key (Done c.args.plan.place)) c.requires.named)
+    ∙ ap (λ n. c.args.batch.now.run.lines.items ++ request_line c.args.key (Done n)) c.place.ensures
+    ∙ ap (λ key. c.args.batch.now.run.lines.items ++ request_line key (Done c.args.plan.place)) c.requires.named)
     (c.append.ensures.items
-        ∙ ap (λ (changes : List Change). changes ++ c.adopt.result.items)
-            (ap (λ changes. changes.items) c.tell.ensures.others.0 ∙ c.reserve.ensures.items)) c.tell.ensures.short
+    ∙ ap (λ (changes : List Change). changes ++ c.adopt.result.items)
+    (ap (λ changes. changes.items) c.tell.ensures.others.0 ∙ c.reserve.ensures.items)) c.tell.ensures.short

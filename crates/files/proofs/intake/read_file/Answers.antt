@@ -36,12 +36,14 @@ returns-in_err-admit-in-Ok-true-clause-bad g c =
     (gave_more g.R.Read.remaining c.loop-number.records c.read_byte_record.new.self
     (fields_of c.read_byte_record.new.row) (g.R.Read.remaining c.args.reader)
     (λ records.
-        (length records ≡ c.loop-number.number)
-        × BeginsFile g.I.Intake.header (g.I.Intake.took c.loop-number.intake) records)
+    (length records ≡ c.loop-number.number)
+    × BeginsFile g.I.Intake.header (g.I.Intake.took c.loop-number.intake) records)
     (λ records. (1 ≤ length records) × FaultsAt g.I.Intake.header g.I.Intake.says records fault)
     inv.2 inv.3 reads
-    (λ records h. (let n = length-append records (fields_of c.read_byte_record.new.row ∷ []) in omega arith,
-        c.in_err-admit-in-Ok-true.ensures.bad records h.0 h.1)))))
+    (λ records h. (
+      let n = length-append records (fields_of c.read_byte_record.new.row ∷ []) in omega arith,
+      c.in_err-admit-in-Ok-true.ensures.bad records h.0 h.1,
+    )))))
 
 pub returns-in-Ok-false-clause-bad : goal.returns-in-Ok-false-clause-bad
 returns-in-Ok-false-clause-bad g c =
@@ -52,8 +54,8 @@ returns-in-Ok-false-clause-bad g c =
     (gave_all g.R.Read.remaining c.loop-number.records c.read_byte_record.new.self
     (fields_of c.read_byte_record.new.row) (g.R.Read.remaining c.args.reader)
     (λ records.
-        (length records ≡ c.loop-number.number)
-        × BeginsFile g.I.Intake.header (g.I.Intake.took c.loop-number.intake) records)
+    (length records ≡ c.loop-number.number)
+    × BeginsFile g.I.Intake.header (g.I.Intake.took c.loop-number.intake) records)
     inv.2 inv.3 reads)
 
 pub returns-in-Ok-false-2-clause-ok : goal.returns-in-Ok-false-2-clause-ok
@@ -65,8 +67,8 @@ returns-in-Ok-false-2-clause-ok g c =
     (gave_all g.R.Read.remaining c.loop-number.records c.read_byte_record.new.self
     (fields_of c.read_byte_record.new.row) (g.R.Read.remaining c.args.reader)
     (λ records.
-        (length records ≡ c.loop-number.number)
-        × BeginsFile g.I.Intake.header (g.I.Intake.took c.loop-number.intake) records)
+    (length records ≡ c.loop-number.number)
+    × BeginsFile g.I.Intake.header (g.I.Intake.took c.loop-number.intake) records)
     inv.2 inv.3 reads)
 
 pub returns-in-Err-clause-bad : goal.returns-in-Err-clause-bad
@@ -84,14 +86,16 @@ loop-number-preserved g c =
       gave_more g.R.Read.remaining c.loop-number.records c.read_byte_record.new.self
           (fields_of c.read_byte_record.new.row) (g.R.Read.remaining c.args.reader)
           (λ records.
-              (length records ≡ c.loop-number.number)
-              × BeginsFile g.I.Intake.header (g.I.Intake.took c.loop-number.intake) records)
+          (length records ≡ c.loop-number.number)
+          × BeginsFile g.I.Intake.header (g.I.Intake.took c.loop-number.intake) records)
           (λ records.
-              (length records ≡ c.loop-number.number + 1)
-              × BeginsFile g.I.Intake.header (g.I.Intake.took c.admit.new.intake) records)
+          (length records ≡ c.loop-number.number + 1)
+          × BeginsFile g.I.Intake.header (g.I.Intake.took c.admit.new.intake) records)
           inv.2 inv.3 reads
-          (λ records h. (length-append records (fields_of c.read_byte_record.new.row ∷ []) ∙ ap (λ n. n + 1) h.0,
-              c.in_ok-admit-in-Ok-true.ensures.good records h.0 h.1)),
+          (λ records h. (
+            length-append records (fields_of c.read_byte_record.new.row ∷ []) ∙ ap (λ n. n + 1) h.0,
+            c.in_ok-admit-in-Ok-true.ensures.good records h.0 h.1,
+          )),
     )
 
 pub returns-clause-bad : goal.returns-clause-bad

@@ -32,4 +32,4 @@ pub returns : goal.returns
 returns c =
     let (views, show, lines, sum, most) = c.loop-index.invariant in
     whole_sheet c.args.book.now.ledger c.args.shown views c.loop-index.index c.loop-index.text.items
-        c.push_total.new.out.items c.loop-index.total show (omega arith) lines sum c.in_ok-push_total.ensures
+    c.push_total.new.out.items c.loop-index.total show (omega arith) lines sum c.in_ok-push_total.ensures

@@ -14,7 +14,7 @@ returns-in-Err-clause-cut g c =
       omega arith,
       none_served talk listen g.K.Keep c.args.crowd c.args.desk.now c.in-Err.crowd c.in-Err.ensures.err
           (before_all talk listen g.K.Keep c.args.crowd c.args.desk.now c.requires.goes c.requires.settled
-              c.is_kept.ensures.stored),
+          c.is_kept.ensures.stored),
     )
 
 pub returns-clause-whole : goal.returns-clause-whole
@@ -23,14 +23,14 @@ returns-clause-whole g c =
     let listen = listening_to g.C.Crowd in
     let start = snapshot_off c.args.desk.now in
     let kept =
-        before_all talk listen g.K.Keep c.args.crowd c.args.desk.now c.requires.goes c.requires.settled
-            c.is_kept.ensures.stored in
+    before_all talk listen g.K.Keep c.args.crowd c.args.desk.now c.requires.goes c.requires.settled
+    c.is_kept.ensures.stored in
     let after =
-        c.serve-ended.ensures.served c.args.crowd start
-            (record { loss = None; kept = kept; serving = c.in-Ok.ensures.serving start }) in
+    c.serve-ended.ensures.served c.args.crowd start
+    (record { loss = None; kept = kept; serving = c.in-Ok.ensures.serving start }) in
     let closed =
-        between talk listen g.K.Keep c.args.crowd start c.serve-ended.new.desk _ c.close_all.new.self
-            c.close_all.ensures.served after in
+    between talk listen g.K.Keep c.args.crowd start c.serve-ended.new.desk _ c.close_all.new.self
+    c.close_all.ensures.served after in
     on_ok c.serve-ended.result _ _ c.serve-ended.ensures.all (λ all. (
       all.1,
       subst (λ last. HasServed g.D.Dialogue.language g.C.Stream.Stream.remaining g.C.Stream.Stream.contents listen
@@ -47,14 +47,14 @@ returns-clause-cut g c =
     let listen = listening_to g.C.Crowd in
     let start = snapshot_off c.args.desk.now in
     let kept =
-        before_all talk listen g.K.Keep c.args.crowd c.args.desk.now c.requires.goes c.requires.settled
-            c.is_kept.ensures.stored in
+    before_all talk listen g.K.Keep c.args.crowd c.args.desk.now c.requires.goes c.requires.settled
+    c.is_kept.ensures.stored in
     let after =
-        c.serve-ended.ensures.served c.args.crowd start
-            (record { loss = None; kept = kept; serving = c.in-Ok.ensures.serving start }) in
+    c.serve-ended.ensures.served c.args.crowd start
+    (record { loss = None; kept = kept; serving = c.in-Ok.ensures.serving start }) in
     let closed =
-        between talk listen g.K.Keep c.args.crowd start c.serve-ended.new.desk _ c.close_all.new.self
-            c.close_all.ensures.served after in
+    between talk listen g.K.Keep c.args.crowd start c.serve-ended.new.desk _ c.close_all.new.self
+    c.close_all.ensures.served after in
     let count = c.serve-ended.new.self.places.connections in
     on_err c.serve-ended.result _ (
       count,

@@ -24,14 +24,14 @@ loop-place-preserved g c =
     let v = get_or lines p c.index-lines-place.result in
     let size = each_size SameAt _ _ c.loop-place.invariant.seats in
     let is_there : slice_get lines p ≡ Some v =
-        slice_get-get_or lines p c.index-lines-place.result
-            (omega (arith, c.loop-place-test.true, size, c.requires.within)) in
+    slice_get-get_or lines p c.index-lines-place.result
+    (omega (arith, c.loop-place-test.true, size, c.requires.within)) in
     record {
       seats = each_on SameAt seat_on _ _ _ c.loop-place.invariant.seats
           (each_set SameAt seat_still lines p v turn.new.line is_there
-              (turn_seat talk turn.result v turn.new.line _ _ turn.ensures.turn));
+          (turn_seat talk turn.result v turn.new.line _ _ turn.ensures.turn));
       asked = λ heard start round.
           turn_more talk start _ _ lines heard p (c.loop-place.invariant.asked heard start round) turn.result v
-              turn.new.line is_there turn.ensures.turn;
+          turn.new.line is_there turn.ensures.turn;
       off = off_on _ _ _ c.loop-place.invariant.off turn.ensures.off;
     }

@@ -14,8 +14,8 @@ loop-place-preserved g c =
     let lines = c.loop-place.lines in
     let p = c.loop-place.place in
     let is_there : slice_get lines p ≡ Some (get_or lines p c.index-lines-place.result) =
-        slice_get-get_or lines p c.index-lines-place.result
-            (omega (arith, c.loop-place-test.true, c.loop-place.invariant.size, c.requires.within)) in
+    slice_get-get_or lines p c.index-lines-place.result
+    (omega (arith, c.loop-place-test.true, c.loop-place.invariant.size, c.requires.within)) in
     gone_more (IsForgotten (speaks g.D.Dialogue g.S.Stream)) _ lines p _ _ c.loop-place.invariant is_there c.forget_at.ensures
 
 pub returns : goal.returns

@@ -11,7 +11,7 @@ pub loop-change-init : goal.loop-change-init
 loop-change-init g c = record {
   same = refl;
   survives = survives_itself (state g.S.Store c.args.tx.now.conn.now) _;
-  puts = λ clean begun. puts_none _ begun
+  puts = λ clean begun. puts_none _ begun;
 }
 
 pub loop-change-preserved : goal.loop-change-preserved
@@ -27,22 +27,22 @@ loop-change-preserved g c =
       same = c.put.ensures.same_reference ∙ c.loop-change.invariant.same;
       survives =
           survives_then old mid new _ _ _ (λ _ db none. none) (λ _ db none. none) c.loop-change.invariant.survives
-              c.put.ensures.survives;
+          c.put.ensures.survives;
       puts = λ clean begun.
           let first = c.loop-change.invariant.puts (omega (arith, c.put.ensures.survives.clean)) begun in
           subst (λ l. PutsIn old new l) (sym more)
-              (puts_then old mid new (take c.loop-change.change-index rows) c.change-item.result first
-                  (c.in_ok-put.ensures.put clean first.mode));
+          (puts_then old mid new (take c.loop-change.change-index rows) c.change-item.result first
+          (c.in_ok-put.ensures.put clean first.mode));
     }
 
 pub returns-in_err-put-clause-survives : goal.returns-in_err-put-clause-survives
 returns-in_err-put-clause-survives g c =
     survives_then (state g.S.Store c.args.tx.now.conn.now) (state g.S.Store c.loop-change.tx.conn.now)
-        (state g.S.Store c.put.new.tx.conn.now) _ _ _ (λ _ db none. none) (λ _ db none. none)
-        c.loop-change.invariant.survives c.put.ensures.survives
+    (state g.S.Store c.put.new.tx.conn.now) _ _ _ (λ _ db none. none) (λ _ db none. none)
+    c.loop-change.invariant.survives c.put.ensures.survives
 
 pub returns-clause-put : goal.returns-clause-put
 returns-clause-put g c clean begun =
     subst (λ rows. PutsIn (state g.S.Store c.args.tx.now.conn.now) (state g.S.Store c.loop-change.tx.conn.now) rows)
-        (take_all c.loop-change.change-index c.args.changes.now c.loop-change-test.false)
-        (c.loop-change.invariant.puts clean begun)
+    (take_all c.loop-change.change-index c.args.changes.now c.loop-change-test.false)
+    (c.loop-change.invariant.puts clean begun)

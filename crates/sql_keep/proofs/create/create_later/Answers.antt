@@ -13,10 +13,10 @@ loop-table-preserved g c =
       same = c.create_table.ensures.same_reference ∙ c.loop-table.invariant.same;
       survives =
           survives_then old mid new _ _ _ (λ _ db none. none) (λ _ db none. none) c.loop-table.invariant.survives
-              c.create_table.ensures.survives;
+          c.create_table.ensures.survives;
       makes = λ clean begun.
           let first = c.loop-table.invariant.makes (omega (arith, clean, c.create_table.ensures.survives.clean)) begun in
           makes_more old mid new c.args.version c.loop-table.table-index c.requires
-              c.tables_after-table-items.result.now c.tables_after-table-items.ensures c.loop-table-test.true first
-              (c.in_ok-create_table.ensures.made clean first.mode);
+          c.tables_after-table-items.result.now c.tables_after-table-items.ensures c.loop-table-test.true first
+          (c.in_ok-create_table.ensures.made clean first.mode);
     }

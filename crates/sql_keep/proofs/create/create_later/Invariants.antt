@@ -13,6 +13,6 @@ invariant-loop-table g l = record {
   makes : HasCleanDisk (state g.S.Store l.tx.conn.now) → IsTrue (state g.S.Store l.fn.tx.conn.now).in_transaction
       → Makes (λ db. (state g.S.Store l.fn.tx.conn.now).now.schema ≡ schema_of l.fn.version
       → AddsTables (tables_of l.fn.version) (take l.table-index (tables_after l.fn.version))
-          (state g.S.Store l.fn.tx.conn.now).now db)
+      (state g.S.Store l.fn.tx.conn.now).now db)
       (state g.S.Store l.fn.tx.conn.now) (state g.S.Store l.tx.conn.now);
 }

@@ -33,20 +33,20 @@ module _ (g : _) (c : goal.After-conn-2-1 g) where
 pub returns-clause-made : goal.returns-clause-made
 returns-clause-made g c clean has =
     let ended : HasCleanDisk (state g.S.Store c.commit.new.self.0) =
-        subst (λ h. HasCleanDisk (state g.S.Store h)) (sym (same g c)) clean in
+    subst (λ h. HasCleanDisk (state g.S.Store h)) (sym (same g c)) clean in
     subst (λ h. OnOk c.commit.result (IsSettled (Is g c) (state g.S.Store h))) (same g c)
     (on_ok_weaker c.commit.result
-        (λ ok. committed g.S.Store c.args.conn.now c.upsert.new.tx.conn.now c.commit.new.self.0 (Is g c)
-            (both g c (omega (arith, ended, c.commit.ensures.survives.clean)) has) ok.1) (c.commit.ensures.ok ended))
+    (λ ok. committed g.S.Store c.args.conn.now c.upsert.new.tx.conn.now c.commit.new.self.0 (Is g c)
+    (both g c (omega (arith, ended, c.commit.ensures.survives.clean)) has) ok.1) (c.commit.ensures.ok ended))
 
 pub returns-clause-survives : goal.returns-clause-survives
 returns-clause-survives g c =
     let last = c.upsert.new.tx.conn.now in
     let two =
-        survives_then (begun g c) (state g.S.Store c.create_later.new.tx.conn.now) (state g.S.Store last) (λ _. ⊥)
-            (λ _. ⊥) (λ _. ⊥) (λ _ _ none. none) (λ _ _ none. none)
-            (rw c.transaction-tx.ensures.begun at c.create_later.ensures.survives) c.upsert.ensures.survives in
+    survives_then (begun g c) (state g.S.Store c.create_later.new.tx.conn.now) (state g.S.Store last) (λ _. ⊥)
+    (λ _. ⊥) (λ _. ⊥) (λ _ _ none. none) (λ _ _ none. none)
+    (rw c.transaction-tx.ensures.begun at c.create_later.ensures.survives) c.upsert.ensures.survives in
     let P = AreRaised c.args.version c.args.row.now (state g.S.Store c.args.conn.now).now in
     subst (λ h. Survives (state g.S.Store c.args.conn.now) (state g.S.Store h) P) (same g c)
     (survives_commit g.S.Store c.args.conn.now last c.commit.new.self.0 P
-        (λ clean has x held. ((both g c clean has).is x held).content) two c.commit.ensures.survives)
+    (λ clean has x held. ((both g c clean has).is x held).content) two c.commit.ensures.survives)

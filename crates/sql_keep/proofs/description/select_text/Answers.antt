@@ -15,7 +15,7 @@ pub returns-in-Desk-clause-desk : goal.returns-in-Desk-clause-desk
 unfolding understood everything
 returns-in-Desk-clause-desk c is =
     each_version _ (record { command = refl; aside = refl; plain = (refl, refl) })
-        (record { command = refl; aside = refl; plain = (refl, refl) })
+    (record { command = refl; aside = refl; plain = (refl, refl) })
 
 pub returns-in-Desk-clause-newest : goal.returns-in-Desk-clause-newest
 unfolding understood everything

@@ -30,7 +30,7 @@ module _ (g : _) (c : goal.After-new-6 g) where
   abbrev Orders : Trees → Type 0
   Orders trees =
       (Stores table.Orders (trees 4) (map order_cells c.in_ok-orders.orders.items)
-          × Stores table.Line (trees 5) (map line_cells c.in_ok-orders.lines.items))
+      × Stores table.Line (trees 5) (map line_cells c.in_ok-orders.lines.items))
       × Stores table.Firm (trees 9) (map firm_cells c.in_ok-orders.firms.items)
 
   abbrev Kept : Trees → Type 0
@@ -60,7 +60,7 @@ module _ (g : _) (c : goal.After-new-6 g) where
     orders = map order_cells c.new-3.result;
     lines = map line_cells c.new-4.result;
     kept = map kept_cells c.new-5.result;
-    firms = map firm_cells c.new-6.result
+    firms = map firm_cells c.new-6.result;
   }
 
   stored : (trees : Trees) → ((Desk trees × Stock trees) × Orders trees) × Kept trees → (t : TableName)
@@ -77,8 +77,8 @@ module _ (g : _) (c : goal.After-new-6 g) where
   holds clean =
       let trees = (state g.S.Store c.args.conn.now).now.trees in
       content_now trees made (subst (Lists (trees catalog_tree)) c.requires.schema
-          (c.requires.live (found clean c.requires.schema).0.0.was_open).0.lists)
-          (stored trees (found clean c.requires.schema).1)
+      (c.requires.live (found clean c.requires.schema).0.0.was_open).0.lists)
+      (stored trees (found clean c.requires.schema).1)
 
 pub load_desk-requires-clause-schema : goal.load_desk-requires-clause-schema
 load_desk-requires-clause-schema g c = (newest, omega arith, omega arith, c.requires.schema)
@@ -90,5 +90,5 @@ returns-clause-content g c clean =
 pub returns-in_default-clause-none : goal.returns-in_default-clause-none
 returns-in_default-clause-none g c clean none x has desk =
     (c.in_ok-desk.ensures.none c.in_default.is clean).1 x.desk
-        (rows_there (state g.S.Store c.args.conn.now).now newest table.Desk (λ rows. Stores table.Desk rows x.desk)
-            c.requires.schema (has table.Desk)) desk
+    (rows_there (state g.S.Store c.args.conn.now).now newest table.Desk (λ rows. Stores table.Desk rows x.desk)
+    c.requires.schema (has table.Desk)) desk

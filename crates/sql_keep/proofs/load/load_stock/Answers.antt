@@ -9,12 +9,12 @@ use Rattle.sql_keep.proofs.load.load_stock.Goals as goal
 pub returns-in_err-moves-clause-survives : goal.returns-in_err-moves-clause-survives
 returns-in_err-moves-clause-survives g c =
     reads_only (state g.S.Store c.args.conn.now) (state g.S.Store c.load.new.conn) (state g.S.Store c.load-2.new.conn)
-        c.load-2.ensures.survives (λ clean has. (c.in_ok-fields.ensures.found clean has).0) c.load.ensures.survives
+    c.load-2.ensures.survives (λ clean has. (c.in_ok-fields.ensures.found clean has).0) c.load.ensures.survives
 
 pub returns-clause-survives : goal.returns-clause-survives
 returns-clause-survives g c =
     reads_only (state g.S.Store c.args.conn.now) (state g.S.Store c.load.new.conn) (state g.S.Store c.load-2.new.conn)
-        c.load-2.ensures.survives (λ clean has. (c.in_ok-fields.ensures.found clean has).0) c.load.ensures.survives
+    c.load-2.ensures.survives (λ clean has. (c.in_ok-fields.ensures.found clean has).0) c.load.ensures.survives
 
 pub returns-clause-found : goal.returns-clause-found
 returns-clause-found g c =

@@ -15,8 +15,8 @@ returns-in-Ok-clause-found g c clean v trees x database content =
     let opened = c.in-Ok.ensures.opened first in
     let live = opened.1 opened.0.is_open in
     let held =
-        holds_content v (file_state c.in-Ok.conn).committed x live.1
-            (subst (λ t. IsContentOf v t x) (sym (found.holds trees database)) content) in
+    holds_content v (file_state c.in-Ok.conn).committed x live.1
+    (subst (λ t. IsContentOf v t x) (sym (found.holds trees database)) content) in
     subst (λ h. HoldsOf v (file_state h).now x) (sym same) (subst (λ (d : Database). HoldsOf v d x) (sym opened.0.clean) held)
 
 pub returns-in-Ok-clause-alone : goal.returns-in-Ok-clause-alone
@@ -33,7 +33,7 @@ returns-in-Ok-clause-shown g c clean trees left =
     let first : HasCleanDisk (file_state c.in-Ok.conn) = subst (λ h. HasCleanDisk (file_state h)) same clean in
     let opened = c.in-Ok.ensures.opened first in
     subst (λ h. trees ≡ (file_state h).now.trees) (sym same)
-        (c.over_files.ensures.shown opened.0.is_open trees (subst (λ h. (file_state h).may_leave trees) same left))
+    (c.over_files.ensures.shown opened.0.is_open trees (subst (λ h. (file_state h).may_leave trees) same left))
 
 pub returns-in-Ok-clause-plain : goal.returns-in-Ok-clause-plain
 returns-in-Ok-clause-plain g c clean blank =

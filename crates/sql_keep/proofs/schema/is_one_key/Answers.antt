@@ -9,6 +9,6 @@ one (y ∷ z ∷ zs) x some few is = absurd (omega arith)
 pub returns : goal.returns
 returns c =
     let is : c.args.keys.now ≡ c.key-item.result ∷ [] =
-        one c.args.keys.now c.key-item.result (omega arith) (omega arith) c.key-item.is in
+    one c.args.keys.now c.key-item.result (omega arith) (omega arith) c.key-item.is in
     let same : c.args.keys.now ≡ c.args.places.now ∷ [] → c.key-item.result ≡ c.args.places.now = λ e. cc in
     (λ t. is ∙ ap (λ k. k ∷ []) (c.are_places.ensures.0 t), λ e. c.are_places.ensures.1 (same e))

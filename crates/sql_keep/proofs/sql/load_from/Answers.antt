@@ -20,7 +20,7 @@ returns-in-Nameless-clause-version g c clean =
     record {
       desk = λ _ x has _. nameless db x none has;
       old_version = λ told. absurd (cc told);
-      only_old = λ old. absurd (none (old_names db old))
+      only_old = λ old. absurd (none (old_names db old));
     }
 
 pub returns-in-Old-clause-version : goal.returns-in-Old-clause-version
@@ -29,7 +29,7 @@ returns-in-Old-clause-version g c clean =
     record {
       desk = λ _ x has _. lacks_one (state g.S.Store c.args.conn.now).now x _ is.2 is.3 has;
       old_version = search rules;
-      only_old = search rules
+      only_old = search rules;
     }
 
 pub returns-in-Current-clause-other : goal.returns-in-Current-clause-other

@@ -12,4 +12,4 @@ returns g c =
     neighbours (key_cmp g.R.TableRow.which) (key_cmp_total g.R.TableRow.which) cells before (λ x y. refl)
     c.args.rows.now c.is_sorted_by.result
     (c.is_sorted_by.ensures.cases before
-        (always_returns_same _ (λ a r. r ≡ before a.0.now a.1.0.now) _ (λ a r f k. search (rules, of_calls))))
+    (always_returns_same _ (λ a r. r ≡ before a.0.now a.1.0.now) _ (λ a r f k. search (rules, of_calls))))

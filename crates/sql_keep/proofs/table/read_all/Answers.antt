@@ -10,7 +10,7 @@ pub loop-answer-preserved : goal.loop-answer-preserved
 loop-answer-preserved g c =
     let shown : Row → g.row.R.Denot → Type 0 = λ answer row. IsShown g.R.TableRow.which answer (g.R.TableRow.cells row) in
     let more : take (c.loop-answer.answer-index + 1) c.args.answers.now
-        ≡ take c.loop-answer.answer-index c.args.answers.now ++ c.answer-item.result ∷ [] =
+    ≡ take c.loop-answer.answer-index c.args.answers.now ++ c.answer-item.result ∷ [] =
     take_more c.args.answers.now c.loop-answer.answer-index c.answer-item.result c.loop-answer-test.true
     ∙ ap (λ r. take c.loop-answer.answer-index c.args.answers.now ++ r ∷ []) (sym c.answer-item.is) in
     subst (λ rows. AllZip shown (take (c.loop-answer.answer-index + 1) c.args.answers.now) rows) (sym c.in_ok-push.ensures.items)

@@ -22,4 +22,4 @@ returns-clause-same g c clean has =
 pub returns-clause-survives : goal.returns-clause-survives
 returns-clause-survives g c =
     survives_if g.R.TableRow.which desk_schema c.select_text.result.now (lists g c) (state g.S.Store c.args.conn.now)
-        (state g.S.Store c.all_rows.new.conn) c.all_rows.ensures.survives
+    (state g.S.Store c.all_rows.new.conn) c.all_rows.ensures.survives

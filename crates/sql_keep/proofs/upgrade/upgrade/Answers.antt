@@ -33,6 +33,8 @@ returns-in-Err-raise-clause-survives g c =
 
 pub returns-in-Ok-None-clause-desk : goal.returns-in-Ok-None-clause-desk
 returns-in-Ok-None-clause-desk g c clean fault =
-    let found = c.in-Ok-None.ensures.none c.in-Ok-None.field-0-is clean in
-    (not_old (state g.S.Store c.args.conn.now).now c.args.version (omega (arith, c.requires.old)) c.requires.schema
-        found.1, found.0)
+    let found = c.in-Ok-None.ensures.none c.in-Ok-None.field-0-is clean in (
+      not_old (state g.S.Store c.args.conn.now).now c.args.version (omega (arith, c.requires.old)) c.requires.schema
+          found.1,
+      found.0,
+    )

@@ -13,14 +13,14 @@ returns g c =
     let ended = c.told_as-ended.ensures in
     let same = c.into_inner-keep.ensures ∙ ap (λ d. d.keep) c.into_keep.ensures.keep in
     subst (λ keep. Ends g.K.Keep (keep, c.told_as-ended.result) c.args.desk
-        (Meets crowd c.args.crowd (λ count loss. (count ≡ most) × (loss ≡ None)))
-        (λ fault old new. IsCrowdFault fault × Meets crowd c.args.crowd (λ count loss. count ≤ most) old new))
+    (Meets crowd c.args.crowd (λ count loss. (count ≡ most) × (loss ≡ None)))
+    (λ fault old new. IsCrowdFault fault × Meets crowd c.args.crowd (λ count loss. count ≤ most) old new))
     (sym same)
     (crowd_ends g.K.Keep crowd c.args.crowd c.serve_rounds-crowd.result.0 most c.args.desk c.defer-desk.result end
     c.defer-desk.ensures.ledger (c.defer-desk.ensures.stopped ∙ c.requires.going) c.requires.going
     c.is_kept.ensures.good c.is_kept.ensures.going
     (λ honest.
-        subst (λ keep. g.K.Keep.is_honest keep) c.defer-desk.ensures.keep (c.serve_rounds-crowd.ensures.honest honest))
+    subst (λ keep. g.K.Keep.is_honest keep) c.defer-desk.ensures.keep (c.serve_rounds-crowd.ensures.honest honest))
     c.is_stopped.result (c.is_stopped.ensures ∙ ap (λ keep. g.K.Keep.stopped keep) same)
     c.serve_rounds-crowd.result.1 c.told_as-ended.result ended.whole ended.cut ended.fault ended.store ended.going
     c.serve_rounds-crowd.ensures.whole c.serve_rounds-crowd.ensures.cut)

@@ -23,14 +23,14 @@ returns-clause-copied g c =
     (λ files copied clean version x held.
     let it = copied clean in
     let idle : IsTrue c.is_autocommit-settled.result =
-        c.is_autocommit-settled.ensures.value ∙ ap not c.into_connection-conn.ensures.idle in
+    c.is_autocommit-settled.ensures.value ∙ ap not c.into_connection-conn.ensures.idle in
     let settled = c.is_autocommit-settled.ensures.settled idle it.was_open in
     let there = subst (λ h. HoldsOf version (file_state h).now x) (sym c.into_connection-conn.ensures.connection) held in
     let content : IsContentOf version (file_state c.into_connection-conn.result).committed.trees x =
-        subst (λ (d : Database). IsContentOf version d.trees x) settled there.content in
+    subst (λ (d : Database). IsContentOf version d.trees x) settled there.content in
     record {
       read = alone _ _ version x it.seen content;
-      left = λ image may. alone image _ version x (it.left image may) content
+      left = λ image may. alone image _ version x (it.left image may) content;
     })
     c.close_connection.ensures.copied
 
@@ -38,5 +38,5 @@ pub returns-clause-kept : goal.returns-clause-kept
 returns-clause-kept g c =
     IfErr-weaker c.close_connection.result _ _
     (λ store closed clean trees left. subst (λ h. (file_state h).may_leave trees)
-        c.into_connection-conn.ensures.connection (closed.quiet.outcomes trees left))
+    c.into_connection-conn.ensures.connection (closed.quiet.outcomes trees left))
     c.close_connection.ensures.kept

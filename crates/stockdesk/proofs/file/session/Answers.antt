@@ -8,7 +8,7 @@ use Rattle.stockdesk.proofs.file.session.Goals as goal
 pub returns-clause-whole : goal.returns-clause-whole
 returns-clause-whole g c =
     on_ok_weaker c.session.result.1 (λ s. starts_whole _ _ _ _ c.in_ok-keep.ensures.opened c.session.ensures.honest _ s)
-        c.session.ensures.whole
+    c.session.ensures.whole
 
 pub returns-clause-cut : goal.returns-clause-cut
 returns-clause-cut g c =

@@ -24,8 +24,10 @@ pub returns-clause-made : goal.returns-clause-made
 returns-clause-made g c clean =
     let was = c.upgrade.ensures.clean clean in
     on_ok_weaker c.upgrade.result.1
-        (λ is x. (λ there. is.made x (held_old g c was x there),
-            λ there. is.same x (c.in_ok-keep.ensures.opened.held was x there))) (c.upgrade.ensures.upgrades clean).done
+    (λ is x. (
+      λ there. is.made x (held_old g c was x there),
+      λ there. is.same x (c.in_ok-keep.ensures.opened.held was x there),
+    )) (c.upgrade.ensures.upgrades clean).done
 
 pub returns-clause-alone : goal.returns-clause-alone
 returns-clause-alone g c clean = on_ok_weaker c.upgrade.result.1 (λ is. is.alone) (c.upgrade.ensures.upgrades clean).done
@@ -37,7 +39,7 @@ returns-clause-either g c clean x there trees left =
     elim ((c.upgrade.ensures.upgrades clean).either trees left) [
       | inl before ↦
           inl (subst (λ (t : Trees). IsOldContent t x) (sym (c.in_ok-keep.ensures.shown was trees before))
-              (held.0, held.1, held.2.content))
+          (held.0, held.1, held.2.content))
       | inr made ↦ inr (made.whole x held)
     ]
 
@@ -53,9 +55,10 @@ returns-clause-kept g c clean x there trees left =
 pub returns-clause-unchanged : goal.returns-clause-unchanged
 returns-clause-unchanged g c clean told x =
     let was = c.upgrade.ensures.clean clean in
-    let same = sym ((c.upgrade.ensures.upgrades clean).unchanged told).0 in
-    (λ there. subst (λ (d : Database). Holds d x) same (c.in_ok-keep.ensures.opened.held was x there),
-        λ there. subst (λ (d : Database). HoldsOld d x) same (held_old g c was x there))
+    let same = sym ((c.upgrade.ensures.upgrades clean).unchanged told).0 in (
+      λ there. subst (λ (d : Database). Holds d x) same (c.in_ok-keep.ensures.opened.held was x there),
+      λ there. subst (λ (d : Database). HoldsOld d x) same (held_old g c was x there),
+    )
 
 -- what holds a desk of whatever version is told as one
 is_told : (db : Database) (version : ℕ) (x : Content) → 1 ≤ version → version ≤ newest → HoldsOf version db x
@@ -63,7 +66,7 @@ is_told : (db : Database) (version : ℕ) (x : Content) → 1 ≤ version → ve
 is_told db version x some late held (row, one, is) not_old none = elim (eq-or-lt_of_le late) [
   | inl same ↦
       none x (holds_tables db x (subst (λ w. HoldsOf w db x) same held))
-          (subst (λ w. IsOneRow (pos w) x.desk) same (row, one, is))
+      (subst (λ w. IsOneRow (pos w) x.desk) same (row, one, is))
   | inr older ↦ not_old (version, (some, older), holds_one_row db version x row held one is)
 ]
 

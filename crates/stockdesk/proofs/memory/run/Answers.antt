@@ -15,25 +15,25 @@ pub returns-clause-whole : goal.returns-clause-whole
 returns-clause-whole g c =
     let honest = memory_is_clean c.session-ended.result.0.connection in
     on_ok_weaker c.session-ended.result.1
-        (λ s. runs_whole _ _ honest
-            (c.in-Ok-new_desk.ensures.made.held (memory_is_clean c.in-Ok-new_desk.keep.connection)) s)
-        c.session-ended.ensures.whole
+    (λ s. runs_whole _ _ honest
+    (c.in-Ok-new_desk.ensures.made.held (memory_is_clean c.in-Ok-new_desk.keep.connection)) s)
+    c.session-ended.ensures.whole
 
 pub returns-clause-beginning : goal.returns-clause-beginning
 returns-clause-beginning g c =
     let honest = memory_is_clean c.session-ended.result.0.connection in
     on_error c.session-ended.result.1 _ _
-        (λ fault s. runs_part _ _ honest
-            (c.in-Ok-new_desk.ensures.made.held (memory_is_clean c.in-Ok-new_desk.keep.connection)) fault s)
-        c.session-ended.ensures.cut
+    (λ fault s. runs_part _ _ honest
+    (c.in-Ok-new_desk.ensures.made.held (memory_is_clean c.in-Ok-new_desk.keep.connection)) fault s)
+    c.session-ended.ensures.cut
 
 pub returns-clause-prompt : goal.returns-clause-prompt
 returns-clause-prompt g c =
     let honest = memory_is_clean c.session-ended.result.0.connection in
     of_error c.session-ended.result.1 _ _
-        (λ fault is s. runs_so_far _ _ honest
-            (c.in-Ok-new_desk.ensures.made.held (memory_is_clean c.in-Ok-new_desk.keep.connection)) fault s)
-        c.session-ended.ensures.cut
+    (λ fault is s. runs_so_far _ _ honest
+    (c.in-Ok-new_desk.ensures.made.held (memory_is_clean c.in-Ok-new_desk.keep.connection)) fault s)
+    c.session-ended.ensures.cut
 
 pub returns-clause-desk : goal.returns-clause-desk
 returns-clause-desk g c =

@@ -20,14 +20,14 @@ pub returns-in-Ok-clause-cut : goal.returns-in-Ok-clause-cut
 returns-in-Ok-clause-cut g c =
     of_error c.answer_from.result _ _
     (λ fault is cut. cut_of _ _ (λ requests its. (c.in-Ok.reader, c.in-Ok.ensures, its)) _ fault _ _
-        (only_written (g.W.Write.contents c.args.writer.now) (g.W.Write.contents c.answer_from.new.writer)) cut)
+    (only_written (g.W.Write.contents c.args.writer.now) (g.W.Write.contents c.answer_from.new.writer)) cut)
     c.answer_from.ensures.cut
 
 pub returns-in-Ok-clause-unread : goal.returns-in-Ok-clause-unread
 returns-in-Ok-clause-unread g c =
     of_error c.answer_from.result _ _
     (λ fault is unread number told.
-        (c.in-Ok.reader, c.in-Ok.ensures, blamed c.args.kind number fault _ told (unread (inr (number, told)))))
+    (c.in-Ok.reader, c.in-Ok.ensures, blamed c.args.kind number fault _ told (unread (inr (number, told)))))
     c.answer_from.ensures.unread
 
 pub returns-in-Err-clause-unread : goal.returns-in-Err-clause-unread

@@ -8,4 +8,4 @@ pub returns-clause-app : goal.returns-clause-app
 returns-clause-app c =
     let second : rule_of c.action-more.result ≡ needed c.args.second.now = search rules in
     IfOk-weaker c.arg.result _ _
-        (λ added it. it.shape (search rules) ∙ ap₂ with_rule c.in_ok-command.ensures.app second) c.arg.ensures
+    (λ added it. it.shape (search rules) ∙ ap₂ with_rule c.in_ok-command.ensures.app second) c.arg.ensures

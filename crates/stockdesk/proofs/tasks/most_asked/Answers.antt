@@ -7,4 +7,4 @@ returns-in_ok-count_named-in-Some-clause-named c =
     let most = c.in_ok-count_named-in-Some.field-0 in
     let (are, few) = c.in_ok-count_named-in-Some.ensures.named in
     subst (λ (word : Option (Bor (List ℕ))). AsksAtMost c.args.limit (option_map (λ s. s.now) word) (Some most))
-        (sym c.in-Some.is) (most, refl, are, few)
+    (sym c.in-Some.is) (most, refl, are, few)

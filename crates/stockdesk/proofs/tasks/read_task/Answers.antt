@@ -24,8 +24,8 @@ pub returns-in_err-matches-clause-written : goal.returns-in_err-matches-clause-w
 returns-in_err-matches-clause-written c task is =
     let texts : List Text = map (λ s. s.now) c.args.words.now in
     let error =
-        c.in_err-matches.ensures.passes
-            (ap (λ app. takes app texts) c.in_ok-command.ensures ∙ (words_give task texts is).1) in
+    c.in_err-matches.ensures.passes
+    (ap (λ app. takes app texts) c.in_ok-command.ensures ∙ (words_give task texts is).1) in
     search rules
 
 pub returns-clause-asked : goal.returns-clause-asked
@@ -36,7 +36,7 @@ returns-clause-asked c task is =
     let given = words_give task texts is in
     let (name, rows, found, asks) = given.0 in
     is_given name rows task _
-        (c.task_of.ensures.taken name rows (matches.1 ∙ ap (λ app. subcommand_of app texts) ours ∙ found)) asks is.2
+    (c.task_of.ensures.taken name rows (matches.1 ∙ ap (λ app. subcommand_of app texts) ours ∙ found)) asks is.2
 
 pub returns-clause-run : goal.returns-clause-run
 returns-clause-run c is =
@@ -47,9 +47,9 @@ returns-clause-run c is =
     let (name, rows, found, asks) = given.0 in
     is_in_memory c.task_of.result
     (is_given name rows InMemory _
-        (c.task_of.ensures.taken name rows (matches.1 ∙ ap (λ app. subcommand_of app texts) ours ∙ found)) asks tt)
+    (c.task_of.ensures.taken name rows (matches.1 ∙ ap (λ app. subcommand_of app texts) ours ∙ found)) asks tt)
     (subst (λ (found : Option (Text × List Row)). IfSome c.task_of.result (Asks found))
-        (matches.1 ∙ ap (λ app. subcommand_of app texts) ours ∙ run_found texts is) c.task_of.ensures.asked)
+    (matches.1 ∙ ap (λ app. subcommand_of app texts) ours ∙ run_found texts is) c.task_of.ensures.asked)
 
 pub returns-clause-asks : goal.returns-clause-asks
 returns-clause-asks c =
@@ -57,4 +57,4 @@ returns-clause-asks c =
     let texts : List Text = map (λ s. s.now) c.args.words.now in
     let matches = c.in_ok-matches.ensures.matches (ap is_simple ours ∙ is_ours) in
     subst (λ (found : Option (Text × List Row)). IfSome c.task_of.result (Asks found))
-        (matches.1 ∙ ap (λ app. subcommand_of app texts) ours) c.task_of.ensures.asked
+    (matches.1 ∙ ap (λ app. subcommand_of app texts) ours) c.task_of.ensures.asked

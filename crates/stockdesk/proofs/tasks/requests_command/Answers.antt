@@ -7,5 +7,5 @@ use Rattle.stockdesk.proofs.tasks.requests_command.Goals as goal
 pub returns-clause-app : goal.returns-clause-app
 returns-clause-app c =
     IfOk-weaker c.with_option.result _ _
-        (λ added it. it ∙ ap (λ (a : App). with_rule a (option false (codes "together"))) c.in_ok-command.ensures.app)
-        c.with_option.ensures.app
+    (λ added it. it ∙ ap (λ (a : App). with_rule a (option false (codes "together"))) c.in_ok-command.ensures.app)
+    c.with_option.ensures.app

@@ -9,6 +9,6 @@ pub returns-clause-app : goal.returns-clause-app
 returns-clause-app c =
     let taken : rule_of c.action-file.result ≡ word (codes "FILE") = search rules in
     IfOk-weaker c.arg.result _ _
-        (λ added it.
-            it.shape (search rules) ∙ ap₂ with_rule (ap app_of_fields c.about.ensures ∙ c.new-2.ensures.app) taken)
-        c.arg.ensures
+    (λ added it.
+    it.shape (search rules) ∙ ap₂ with_rule (ap app_of_fields c.about.ensures ∙ c.new-2.ensures.app) taken)
+    c.arg.ensures

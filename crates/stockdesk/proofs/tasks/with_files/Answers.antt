@@ -12,6 +12,6 @@ returns c =
     c.in_ok-command-2.ensures deliveries c.requests_command-2.ensures.app c.requests_command-2.ensures.local
     ∙ ap (λ (a : App). with_subcommand a deliveries.top) one in
     IfOk-weaker c.with-3.result _ _
-        (λ all added.
-            added bounds c.requests_command-3.ensures.app c.requests_command-3.ensures.local
-            ∙ ap (λ (a : App). with_subcommand a bounds.top) two) c.with-3.ensures
+    (λ all added.
+    added bounds c.requests_command-3.ensures.app c.requests_command-3.ensures.local
+    ∙ ap (λ (a : App). with_subcommand a bounds.top) two) c.with-3.ensures

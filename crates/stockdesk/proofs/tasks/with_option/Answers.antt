@@ -8,5 +8,5 @@ pub returns-clause-app : goal.returns-clause-app
 returns-clause-app c =
     let number : rule_of c.action-number.result ≡ option c.args.required c.args.name.now = search rules in
     IfOk-weaker c.arg.result _ _
-        (λ added it. it.shape (search rules) ∙ ap (λ (r : Rule). with_rule (app_of c.args.command) r) number)
-        c.arg.ensures
+    (λ added it. it.shape (search rules) ∙ ap (λ (r : Rule). with_rule (app_of c.args.command) r) number)
+    c.arg.ensures

@@ -17,6 +17,6 @@ returns c =
     c.in_ok-program.ensures init c.path_command-init.ensures.app c.path_command-init.ensures.local
     ∙ ap (λ (a : App). with_subcommand a init.top) named in
     IfOk-weaker c.with-2.result _ _
-        (λ both added.
-            added run c.run_command.ensures.app c.run_command.ensures.local
-            ∙ ap (λ (a : App). with_subcommand a run.top) one) c.with-2.ensures
+    (λ both added.
+    added run c.run_command.ensures.app c.run_command.ensures.local
+    ∙ ap (λ (a : App). with_subcommand a run.top) one) c.with-2.ensures

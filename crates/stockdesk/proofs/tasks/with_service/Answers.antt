@@ -9,6 +9,6 @@ returns c =
     let one : app_of c.in_ok-command.command ≡ with_subcommand (app_of c.args.command) serve.top =
     c.in_ok-command.ensures serve c.serve_command.ensures.app c.serve_command.ensures.local in
     IfOk-weaker c.with-2.result _ _
-        (λ both added.
-            added upgrade c.path_command.ensures.app c.path_command.ensures.local
-            ∙ ap (λ (a : App). with_subcommand a upgrade.top) one) c.with-2.ensures
+    (λ both added.
+    added upgrade c.path_command.ensures.app c.path_command.ensures.local
+    ∙ ap (λ (a : App). with_subcommand a upgrade.top) one) c.with-2.ensures

@@ -9,6 +9,6 @@ returns c =
     let one : app_of c.in_ok-command.command ≡ with_subcommand (app_of c.args.command) sheet.top =
     c.in_ok-command.ensures sheet c.file_command.ensures.app c.file_command.ensures.local in
     IfOk-weaker c.with-2.result _ _
-        (λ both added.
-            added article c.file_command-2.ensures.app c.file_command-2.ensures.local
-            ∙ ap (λ (a : App). with_subcommand a article.top) one) c.with-2.ensures
+    (λ both added.
+    added article c.file_command-2.ensures.app c.file_command-2.ensures.local
+    ∙ ap (λ (a : App). with_subcommand a article.top) one) c.with-2.ensures

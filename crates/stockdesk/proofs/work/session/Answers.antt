@@ -24,7 +24,7 @@ returns-in-Err-clause-cut g c =
         damaged = λ is. why.damaged (told.damaged.0 is);
         opening = told.opening;
         stopped = λ is. why.stopped (elim is [
-          inl e ↦ inl (told.store.0 e)
+          | inl e ↦ inl (told.store.0 e)
           | inr e ↦ inr (elim e [ inl n ↦ inl (told.not_a_desk.0 n) | inr o ↦ inr (told.old_version.0 o) ])
         ]);
         going = λ is. why.loaded (told.damaged.0 is);
@@ -38,7 +38,7 @@ returns-clause-whole g c =
     let opened = c.in-Ok.ensures.opened in
     let (last, ended) = c.work_on.ensures in
     whole_by (session_on g.K.Keep c.args.keep c.work_on.result.0) c.work_on.result.1 c.in-Ok.desk last _ opened.going
-        opened.good (λ honest. opened.rows (ended.goes.honest honest)) ended.stop ended.goes.stored ended.whole
+    opened.good (λ honest. opened.rows (ended.goes.honest honest)) ended.stop ended.goes.stored ended.whole
 
 pub returns-clause-cut : goal.returns-clause-cut
 returns-clause-cut g c =
@@ -57,7 +57,8 @@ returns-in-Err-clause-old g c honest going old =
       | inl e ↦ inl (ap (λ f. Err f) (told.old_version.1 e))
       | inr more ↦
           inr (elim more [
-            inl e ↦ inl (ap (λ f. Err f) (told.memory.1 e)) | inr e ↦ inr (ap (λ f. Err f) (told.store.1 e))
+            | inl e ↦ inl (ap (λ f. Err f) (told.memory.1 e))
+            | inr e ↦ inr (ap (λ f. Err f) (told.store.1 e))
           ])
     ]
 
@@ -76,16 +77,17 @@ returns-in-Err-clause-goes_on g c honest A x good rows held alone =
     record {
       opens =
           opens_desk c.from.result (elim (c.in-Err.ensures.nothing_else honest A x good rows held) [
-            inl e ↦ inl (told.memory.1 e) | inr e ↦ inr (told.store.1 e)
+            | inl e ↦ inl (told.memory.1 e)
+            | inr e ↦ inr (told.store.1 e)
           ]);
       leaves = stored_left A _ (g.K.Keep.holds c.args.keep) (g.K.Keep.leaves c.in-Err.keep) good
           (nothing_found (desk_left (session_on g.K.Keep c.args.keep c.in-Err.keep) A) _ (Keeps-refl _, Keeps-refl _)
-              c.args.work.now)
+          c.args.work.now)
           (record {
             rows = x;
             are_rows = rows;
             held = held;
-            alone = (c.in-Err.ensures.left honest).adds.adds_nothing (x ∷ []) alone
+            alone = (c.in-Err.ensures.left honest).adds.adds_nothing (x ∷ []) alone;
           });
     }
 
@@ -94,18 +96,18 @@ returns-clause-goes_on g c honest A x good rows held alone =
     let opened = c.in-Ok.ensures.opened in
     let (last, ended) = c.work_on.ensures in
     let s =
-        streams (g.R.Read.remaining c.args.reader.now) (g.R.Read.remaining c.work_on.new.reader)
-            (g.W.Write.contents c.args.writer.now) (g.W.Write.contents c.work_on.new.writer) in
+    streams (g.R.Read.remaining c.args.reader.now) (g.R.Read.remaining c.work_on.new.reader)
+    (g.W.Write.contents c.args.writer.now) (g.W.Write.contents c.work_on.new.writer) in
     let same : c.in-Ok.desk.ledger ≡ A =
-        told_by_rows c.in-Ok.desk.ledger A x opened.good good (opened.rows (ended.goes.honest honest) x held) rows in
+    told_by_rows c.in-Ok.desk.ledger A x opened.good good (opened.rows (ended.goes.honest honest) x held) rows in
     let left =
-        work_left _ _ _ s (g.K.Keep.holds c.work_on.result.0) opened.going ended.goes.good honest
-            (λ going. ended.goes.stored going honest) c.work_on.result.1 c.args.work.now ended.whole ended.cut
-            ended.stop in
+    work_left _ _ _ s (g.K.Keep.holds c.work_on.result.0) opened.going ended.goes.good honest
+    (λ going. ended.goes.stored going honest) c.work_on.result.1 c.args.work.now ended.whole ended.cut
+    ended.stop in
     record {
       opens = ended.desk;
       leaves =
           subst (λ (B : Ledger). LeavesRowsOf (g.K.Keep.leaves c.work_on.result.0)
-              (IsFoundAfterWork c.args.work.now (desk_left (session_on g.K.Keep c.args.keep c.work_on.result.0) B) s))
-              same left;
+          (IsFoundAfterWork c.args.work.now (desk_left (session_on g.K.Keep c.args.keep c.work_on.result.0) B) s))
+          same left;
     }

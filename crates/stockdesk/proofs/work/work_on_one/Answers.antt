@@ -6,4 +6,4 @@ use Rattle.stockdesk.proofs.work.work_on_one.Goals as goal
 pub returns-in-Requests-clause-cut : goal.returns-in-Requests-clause-cut
 returns-in-Requests-clause-cut g c =
     rw c.in-Requests.is (of_error c.answer_file.result _ _
-        (λ fault is cut. (Keeps-refl _, cut, IfErr-at_err _ is c.answer_file.ensures.unread)) c.answer_file.ensures.cut)
+    (λ fault is cut. (Keeps-refl _, cut, IfErr-at_err _ is c.answer_file.ensures.unread)) c.answer_file.ensures.cut)

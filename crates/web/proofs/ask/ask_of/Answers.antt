@@ -13,17 +13,19 @@ pub returns-then-eq : goal.returns-then-eq
 returns-then-eq c = λ m at.
     let get : span_bytes c.args.held.now c.args.found.now.method ≡ codes "GET" = search rules in
     subst (AsksFor m) (sym c.unwrap_or.ensures)
-        (view_asked m c.in-Ok.target.now c.view_of.result (c.in-Ok.ensures.cases.0 ∙ at.target_is)
-            (sym at.method_is ∙ get) c.view_of.ensures.some c.view_of.ensures.none)
+    (view_asked m c.in-Ok.target.now c.view_of.result (c.in-Ok.ensures.cases.0 ∙ at.target_is)
+    (sym at.method_is ∙ get) c.view_of.ensures.some c.view_of.ensures.none)
 
 pub returns-then-takes_commands : goal.returns-then-takes_commands
 returns-then-takes_commands c =
     let post : span_bytes c.args.held.now c.args.found.now.method ≡ codes "POST" = search rules in
     let commands = c.takes_commands.ensures.0 c.if-takes_commands.true in
     IfOk-weaker c.call_of.result _ _ (λ a h m at.
-    asks_as_read m a (inl (sym at.method_is ∙ post,
-        subst (λ (t : List ℕ). resource_of t ≡ Some Commands) (c.in-Ok.ensures.cases.0 ∙ at.target_is) commands,
-        subst (λ (body : List ℕ). IsCallOf body a) at.body_is h))) c.call_of.ensures
+    asks_as_read m a (inl (
+      sym at.method_is ∙ post,
+      subst (λ (t : List ℕ). resource_of t ≡ Some Commands) (c.in-Ok.ensures.cases.0 ∙ at.target_is) commands,
+      subst (λ (body : List ℕ). IsCallOf body a) at.body_is h,
+    ))) c.call_of.ensures
 
 pub returns : goal.returns
 returns c = λ m at.
@@ -32,8 +34,8 @@ returns c = λ m at.
     (λ (post, to). elim c.else-eq-2.branch [
       | else-eq-2-via-then-eq-2+else-takes_commands w ↦
           let e =
-              w.takes_commands.ensures.1 (subst (λ (t : List ℕ). resource_of t ≡ Some Commands)
-                  (sym (c.in-Ok.ensures.cases.0 ∙ at.target_is)) to) in
+          w.takes_commands.ensures.1 (subst (λ (t : List ℕ). resource_of t ≡ Some Commands)
+          (sym (c.in-Ok.ensures.cases.0 ∙ at.target_is)) to) in
           let f = rw w.if-takes_commands.false at e in
           cc f
       | else-eq-2-via-else-eq-2 w ↦

@@ -13,5 +13,5 @@ pub returns-in-Some-String-Some-String-clause-some :
 returns-in-Some-String-Some-String-clause-some c =
     let size : length c.in-Object.members.entries ≡ 2 = search rules in
     rw (c.in-Object.is, view-Object)
-        (two_members c.in-Object.members.entries _ _ size c.len.ensures.ordered (search (rules, the_lemmas))
-            (search (rules, the_lemmas)))
+    (two_members c.in-Object.members.entries _ _ size c.len.ensures.ordered (search (rules, the_lemmas))
+    (search (rules, the_lemmas)))

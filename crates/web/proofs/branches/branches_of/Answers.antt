@@ -17,4 +17,4 @@ pub returns : goal.returns
 returns c =
     let (all, sorted) = c.loop-index.invariant in
     all_listed c.args.book.now.ledger.fields c.loop-index.index c.loop-index.before c.loop-index.branches.items
-        (omega arith) all sorted
+    (omega arith) all sorted

@@ -16,5 +16,5 @@ returns-in-Err-Stopped-clause-answers g c =
     let is = ap Err c.in-Err-Stopped.field-0-is in
     let (halted, same) = c.in-Err-Stopped.ensures.stopped is in
     called_stopped _ _ c.args.request.now c.answer-in-Err-Stopped.result halted same
-        (c.in-Err-Stopped.ensures.either is) (λ e. ap (desk_state g.K.Keep) (c.in-Err-Stopped.ensures.goes.untouched e))
-        c.answer-in-Err-Stopped.ensures
+    (c.in-Err-Stopped.ensures.either is) (λ e. ap (desk_state g.K.Keep) (c.in-Err-Stopped.ensures.goes.untouched e))
+    c.answer-in-Err-Stopped.ensures

@@ -10,9 +10,11 @@ use Rattle.web.proofs.calls.answer_view.Goals as goal
 pub returns-then-is_stopped : goal.returns-then-is_stopped
 returns-then-is_stopped g c =
     let at = snapshot (desk_state g.K.Keep c.args.desk.now) in
-    let reply = reply_of_stopped c.args.ask.now in
-    (reply, replies_stopped at c.args.ask.now reply (sym c.is_stopped.ensures.stopped ∙ c.if-is_stopped.true) refl,
-        c.answer_of_stopped.ensures)
+    let reply = reply_of_stopped c.args.ask.now in (
+      reply,
+      replies_stopped at c.args.ask.now reply (sym c.is_stopped.ensures.stopped ∙ c.if-is_stopped.true) refl,
+      c.answer_of_stopped.ensures,
+    )
 
 pub show_view-requires-clause-good : goal.show_view-requires-clause-good
 show_view-requires-clause-good g c = subst Good (sym c.book.ensures.ledger) c.book.ensures.good

@@ -7,6 +7,6 @@ use Rattle.web.proofs.objects.branches_json.Goals as goal
 pub returns : goal.returns
 returns c = IfOk-weaker c.to_vec.result _ _
     (λ text e.
-        e (branches_have_no_float c.args.branches.now _ c.in_ok-branches_value.ensures)
-        ∙ ap compact_text c.in_ok-branches_value.ensures)
+    e (branches_have_no_float c.args.branches.now _ c.in_ok-branches_value.ensures)
+    ∙ ap compact_text c.in_ok-branches_value.ensures)
     c.to_vec.ensures.text

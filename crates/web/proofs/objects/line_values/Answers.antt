@@ -19,10 +19,10 @@ one_more lines values more i line value before inside item is pushed =
 pub loop-line-preserved : goal.loop-line-preserved
 loop-line-preserved c =
     one_more c.args.lines.now _ _ c.loop-line.line-index c.line-item.result c.in_ok-line_value.field-0
-        c.loop-line.invariant c.loop-line-test.true c.line-item.is c.in_ok-line_value.ensures c.in_ok-push.ensures.items
+    c.loop-line.invariant c.loop-line-test.true c.line-item.is c.in_ok-line_value.ensures c.in_ok-push.ensures.items
 
 pub returns : goal.returns
 returns c =
     view-Array _
     ∙ ap (λ (all : List Data). array (items_of all))
-        (c.loop-line.invariant ∙ ap (map line_object) (take_all _ _ c.loop-line-test.false))
+    (c.loop-line.invariant ∙ ap (map line_object) (take_all _ _ c.loop-line-test.false))

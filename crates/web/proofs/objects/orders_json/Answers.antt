@@ -7,6 +7,6 @@ use Rattle.web.proofs.objects.orders_json.Goals as goal
 pub returns : goal.returns
 returns c = IfOk-weaker c.to_vec.result _ _
     (λ text e.
-        e (listed_has_no_float c.args.book.now.ledger c.args.numbers.now _ c.in_ok-listed_value.ensures)
-        ∙ ap compact_text c.in_ok-listed_value.ensures)
+    e (listed_has_no_float c.args.book.now.ledger c.args.numbers.now _ c.in_ok-listed_value.ensures)
+    ∙ ap compact_text c.in_ok-listed_value.ensures)
     c.to_vec.ensures.text

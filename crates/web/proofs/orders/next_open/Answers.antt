@@ -7,7 +7,7 @@ use Rattle.web.proofs.orders.next_open.Goals as goal
 pub returns-in_default : goal.returns-in_default
 returns-in_default c =
     none_beyond c.args.book.now.ledger c.args.floor c.requires
-        (is_last c.args.floor (λ is. c.in_default.ensures (omega (arith, is.1))))
+    (is_last c.args.floor (λ is. c.in_default.ensures (omega (arith, is.1))))
 
 pub returns-in_default-new : goal.returns-in_default-new
 returns-in_default-new c =

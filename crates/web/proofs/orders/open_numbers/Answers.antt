@@ -20,4 +20,4 @@ returns c =
 pub returns-in_default : goal.returns-in_default
 returns-in_default c =
     none_more c.args.book.now.ledger c.args.floor c.loop.last (50 - c.loop.counter) c.loop.numbers.items
-        c.in_default.ensures c.loop.invariant
+    c.in_default.ensures c.loop.invariant

@@ -13,36 +13,40 @@ returns-in_err-branch-in-Field-clause-none c =
     let m = match_of _ _ c.in-Ok.found.params _ c.requires c.utf8.target c.in-Ok.ensures.found c.in-Ok.ensures.path in
     let none = c.in_err-branch-in-Field.ensures m.text in
     if_none _ (no_view _ Field (m.resource ∙ ap Some c.in-Field.is)
-        (λ ((code, e, is), article). none code is (sym (m.part (codes "branch")) ∙ e)))
+    (λ ((code, e, is), article). none code is (sym (m.part (codes "branch")) ∙ e)))
 
 pub returns-in_err-article-in-Field-clause-none : goal.returns-in_err-article-in-Field-clause-none
 returns-in_err-article-in-Field-clause-none c =
     let m = match_of _ _ c.in-Ok.found.params _ c.requires c.utf8.target c.in-Ok.ensures.found c.in-Ok.ensures.path in
     let none = c.in_err-article-in-Field.ensures m.text in
     if_none _ (no_view _ Field (m.resource ∙ ap Some c.in-Field.is)
-        (λ (branch, (code, e, is)). none code is (sym (m.part (codes "article")) ∙ e)))
+    (λ (branch, (code, e, is)). none code is (sym (m.part (codes "article")) ∙ e)))
 
 pub returns-in_err-order_of-in-Order-clause-none : goal.returns-in_err-order_of-in-Order-clause-none
 returns-in_err-order_of-in-Order-clause-none c =
     let m = match_of _ _ c.in-Ok.found.params _ c.requires c.utf8.target c.in-Ok.ensures.found c.in-Ok.ensures.path in
     let none = c.in_err-order_of-in-Order.ensures m.text in
     if_none _ (no_view _ Order (m.resource ∙ ap Some c.in-Order.is)
-        (λ (part, e, (n, is, written)). none n is (sym (m.part (codes "number")) ∙ e ∙ ap Some written)))
+    (λ (part, e, (n, is, written)). none n is (sym (m.part (codes "number")) ∙ e ∙ ap Some written)))
 
 pub returns-in_err-branch_of-in-Sheet-clause-none : goal.returns-in_err-branch_of-in-Sheet-clause-none
 returns-in_err-branch_of-in-Sheet-clause-none c =
     let m = match_of _ _ c.in-Ok.found.params _ c.requires c.utf8.target c.in-Ok.ensures.found c.in-Ok.ensures.path in
     let none = c.in_err-branch_of-in-Sheet.ensures m.text in
     if_none _ (no_view _ Sheet (m.resource ∙ ap Some c.in-Sheet.is)
-        (λ (code, e, is). none code is (sym (m.part (codes "branch")) ∙ e)))
+    (λ (code, e, is). none code is (sym (m.part (codes "branch")) ∙ e)))
 
 pub returns-in_ok-article-in-Field-clause-some : goal.returns-in_ok-article-in-Field-clause-some
 returns-in_ok-article-in-Field-clause-some c =
     let m = match_of _ _ c.in-Ok.found.params _ c.requires c.utf8.target c.in-Ok.ensures.found c.in-Ok.ensures.path in
     let branch = c.in_ok-branch-in-Field.ensures m.text in
-    let article = c.in_ok-article-in-Field.ensures m.text in
-    (m.resource ∙ ap Some c.in-Field.is, m.part (codes "branch") ∙ branch.0, m.part (codes "article") ∙ article.0,
-        branch.1, article.1)
+    let article = c.in_ok-article-in-Field.ensures m.text in (
+      m.resource ∙ ap Some c.in-Field.is,
+      m.part (codes "branch") ∙ branch.0,
+      m.part (codes "article") ∙ article.0,
+      branch.1,
+      article.1,
+    )
 
 pub returns-in_ok-order_of-in-Order-clause-some : goal.returns-in_ok-order_of-in-Order-clause-some
 returns-in_ok-order_of-in-Order-clause-some c =
@@ -61,7 +65,7 @@ returns-in_err-article_of-in-Article-clause-none c =
     let m = match_of _ _ c.in-Ok.found.params _ c.requires c.utf8.target c.in-Ok.ensures.found c.in-Ok.ensures.path in
     let none = c.in_err-article_of-in-Article.ensures m.text in
     if_none _ (no_view _ Article (m.resource ∙ ap Some c.in-Article.is)
-        (λ (code, e, is). none code is (sym (m.part (codes "article")) ∙ e)))
+    (λ (code, e, is). none code is (sym (m.part (codes "article")) ∙ e)))
 
 pub returns-in_ok-article_of-in-Article-clause-some : goal.returns-in_ok-article_of-in-Article-clause-some
 returns-in_ok-article_of-in-Article-clause-some c =

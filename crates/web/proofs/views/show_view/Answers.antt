@@ -7,7 +7,7 @@ use Rattle.web.proofs.views.show_view.Goals as goal
 pub returns-in-BadCall : goal.returns-in-BadCall
 returns-in-BadCall c =
     subst (λ (a : Ask). ShowsView c.args.book.now.ledger a c.answer.result) (sym c.in-BadCall.is)
-        (bad_answer, refl, c.answer.ensures)
+    (bad_answer, refl, c.answer.ensures)
 
 pub returns-in-Nothing : goal.returns-in-Nothing
 returns-in-Nothing c =

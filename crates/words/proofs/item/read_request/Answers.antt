@@ -8,7 +8,7 @@ returns-in_default-clause-none c = request_none c.args.bytes.now c.in_default.en
 pub returns-in-Ok-clause-found : goal.returns-in-Ok-clause-found
 returns-in-Ok-clause-found c =
     request_found c.args.bytes.now c.in-Some.key.1.now c.in-Some.key.0 c.in-Ok.command c.in-Some.ensures.form
-        c.in-Some.ensures.found c.in-Ok.ensures.found
+    c.in-Some.ensures.found c.in-Ok.ensures.found
 
 pub returns-in-Err-BadCommand-clause-none : goal.returns-in-Err-BadCommand-clause-none
 returns-in-Err-BadCommand-clause-none c =

@@ -9,7 +9,7 @@ abbrev pub invariant-loop-line : goal.invariant-loop-line
 invariant-loop-line l =
     (more : List Item) × (l.items.items ≡ l.fn.first ∷ more)
     × ((tail : List Item) (new : Option (List ℕ)) → Ends (parts_at 10 l.rest) tail new
-        → Ends (parts_at 10 l.fn.bytes) (more ++ tail) new)
+    → Ends (parts_at 10 l.fn.bytes) (more ++ tail) new)
 
 abbrev pub decreases-loop-line : goal.decreases-loop-line
 decreases-loop-line l = length l.rest

@@ -9,7 +9,7 @@ use Rattle.words.proofs.read.read_command.Goals.{After-read_open}
 words : (c : After-read_open) → words_of c.args.bytes.now ≡ codes "open" ∷ words_of c.in-Some.rest.now
 words c =
     let verb : c.in-Some.verb.now ≡ codes "open" =
-        (bytes_eq-Decides c.in-Some.verb.now c.as_slice.result.now).0 (sym c.if-eq.ensures) ∙ c.as_slice.ensures in
+    (bytes_eq-Decides c.in-Some.verb.now c.as_slice.result.now).0 (sym c.if-eq.ensures) ∙ c.as_slice.ensures in
     c.in-Some.ensures.parts ∙ ap (λ (v : List ℕ). v ∷ words_of c.in-Some.rest.now) verb
 
 pub returns-then-eq-clause-found : goal.returns-then-eq-clause-found

@@ -20,4 +20,4 @@ returns-in_default-last_line-clause-bad c is lines are e =
 pub returns-clause-found : goal.returns-clause-found
 returns-clause-found c =
     one_last _ _ _ c.in-Some-last_line.line _ c.loop-line.invariant.0 c.in-Some-last_line.ensures.found
-        c.in-Ok-push.ensures.items
+    c.in-Ok-push.ensures.items

@@ -13,6 +13,6 @@ loop-written-preserved g c =
     let fits = c.in-Ok.ensures.bound in
     let most = length-take (length xs - done) (drop done xs) in
     let joined =
-        ap (λ l. take done xs ++ l) (take-take n (length xs - done) (drop done xs) (omega arith))
-        ∙ sym (take-add done n xs) in
+    ap (λ l. take done xs ++ l) (take-take n (length xs - done) (drop done xs) (omega arith))
+    ∙ sym (take-add done n xs) in
     (omega arith, subst (Appends _ _) joined (Appends-trans _ _ _ _ _ before.1 c.in-Ok.ensures.bytes))

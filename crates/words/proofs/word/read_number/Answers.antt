@@ -28,19 +28,19 @@ returns-in_default-clause-none c n h e =
 pub returns-in_default-parse-clause-none : goal.returns-in_default-parse-clause-none
 returns-in_default-parse-clause-none c n h e =
     no_parse n c.in-Ok.text.now c.in_default-parse.field-0 (omega arith) (c.in-Ok.ensures.cases.0 ∙ e)
-        c.in_default-parse.ensures.value.0
+    c.in_default-parse.ensures.value.0
 
 pub returns-then-number-gt-MAX_MOMENT-clause-none : goal.returns-then-number-gt-MAX_MOMENT-clause-none
 returns-then-number-gt-MAX_MOMENT-clause-none c n h e =
     let m =
-        parsed ℕ n c.in-Ok-parse.number c.in-Ok.text.now (omega arith) (c.in-Ok.ensures.cases.0 ∙ e)
-            c.in-Ok-parse.ensures.value.0 in
+    parsed ℕ n c.in-Ok-parse.number c.in-Ok.text.now (omega arith) (c.in-Ok.ensures.cases.0 ∙ e)
+    c.in-Ok-parse.ensures.value.0 in
     absurd (omega (arith, m))
 
 pub returns-else-eq-clause-none : goal.returns-else-eq-clause-none
 returns-else-eq-clause-none c n h e =
     let m =
-        parsed ℕ n c.in-Ok-parse.number c.in-Ok.text.now (omega arith) (c.in-Ok.ensures.cases.0 ∙ e)
-            c.in-Ok-parse.ensures.value.0 in
+    parsed ℕ n c.in-Ok-parse.number c.in-Ok.text.now (omega arith) (c.in-Ok.ensures.cases.0 ∙ e)
+    c.in-Ok-parse.ensures.value.0 in
     differ c.as_bytes.result.now c.args.bytes.now
-        (c.as_bytes.ensures.value ∙ c.format.ensures.text ∙ ap decimal m ∙ sym e) c.if-eq.ensures
+    (c.as_bytes.ensures.value ∙ c.format.ensures.text ∙ ap decimal m ∙ sym e) c.if-eq.ensures

@@ -9,5 +9,5 @@ returns c = record {
   before = good_now c.self.inside c.args.self.now c.self.view_is c.self.invariant.0;
   after =
       good_next c.self.inside c.args.self.now c.args.request.now c.self.view_is c.self.invariant.0
-          c.as_bytes.ensures.form c.words.ensures.range c.requires;
+      c.as_bytes.ensures.form c.words.ensures.range c.requires;
 }

@@ -1,6 +1,6 @@
 use Rattle.book.proofs.Prelude.{BookView, IsUpToDate, field_of, move_of, number_cmp, order_of}
-use Rattle.ledger.proofs.Prelude.{Done, Each, Good, IsInRange, IsKey, Ledger, accept, ap, article_total, map, move_made,
-    option_map, orders_made, places, put_rows, rules, subst, sym, ◌+◌, ◌∙◌, ◌≡◌, ◌≤◌}
+use Rattle.ledger.proofs.Prelude.{Done, Each, Good, IsInRange, IsKey, Ledger, accept, ap, article_total, map, move_made}
+use Rattle.ledger.proofs.Prelude.{option_map, orders_made, places, put_rows, rules, subst, sym, ◌+◌, ◌∙◌, ◌≡◌, ◌≤◌}
 use Rattle.book.proofs.book.Book.adopt.Goals as goal
 use Rattle.book.specs.Plans.{PlanView}
 use Rattle.ledger.proofs.Futures.{honours_always}
@@ -26,7 +26,7 @@ good_after c =
 -- the orders as they are then
 made : (c : goal.After-drop-parts-2)
     → map order_of c.into_parts-parts.result.0.orders.items
-        ≡ orders_made c.args.self.now.ledger c.args.plan.request.command
+    ≡ orders_made c.args.self.now.ledger c.args.plan.request.command
 made c = ap (λ (p : PlanView). p.orders) c.into_parts-parts.ensures.parts ∙ c.requires.fits.orders
 
 pub adopt_orders-requires : goal.adopt_orders-requires
@@ -42,12 +42,12 @@ orders : (c : goal.After-drop-parts-2)
 orders c =
     c.adopt_orders.ensures.orders ∙ (λ i. put_rows number_cmp (made c i) (c.self.view_is i).ledger.orders)
     ∙ orders_put c.args.self.now.ledger c.args.plan.request.command (good c) (good_after c).orders_in_order
-        c.requires.fits.accepted.1
+    c.requires.fits.accepted.1
 
 -- the fields as they are then
 put : (c : goal.After-drop-parts-2)
     → (map field_of c.adopt_fields.new.fields.entries ≡ (accept c.args.self.now.ledger c.args.plan.request).fields)
-        × Each (IsUpToDate (accept c.args.self.now.ledger c.args.plan.request)) c.adopt_fields.new.fields.entries
+    × Each (IsUpToDate (accept c.args.self.now.ledger c.args.plan.request)) c.adopt_fields.new.fields.entries
 put c =
     let A : Ledger = c.args.self.now.ledger in
     let plan = c.args.plan in
@@ -55,10 +55,10 @@ put c =
     let parts = c.into_parts-parts.ensures in
     let is = c.adopt_fields.ensures.fields in
     let done =
-        adopted A plan c.into_parts-parts.result.0.fields.entries old (good c) (good_after c) c.requires.fits
-            (parts.told.fields ∙ ap (λ (p : PlanView). p.changes.fields) parts.parts)
-            (ap (λ (v : BookView). v.ledger.fields) c.self.view_is)
-            (subst (λ (v : BookView). Each (IsUpToDate v.ledger) old) c.self.view_is c.self.invariant.1) in
+    adopted A plan c.into_parts-parts.result.0.fields.entries old (good c) (good_after c) c.requires.fits
+    (parts.told.fields ∙ ap (λ (p : PlanView). p.changes.fields) parts.parts)
+    (ap (λ (v : BookView). v.ledger.fields) c.self.view_is)
+    (subst (λ (v : BookView). Each (IsUpToDate v.ledger) old) c.self.view_is c.self.invariant.1) in
     (ap (map field_of) is ∙ done.0, subst (Each (IsUpToDate (accept A plan.request))) (sym is) done.1)
 
 -- the clock and the move as they are then
@@ -67,11 +67,11 @@ clock : (c : goal.After-drop-parts-2)
 clock c =
     let parts = c.into_parts-parts.ensures in
     clock_told (accept c.args.self.now.ledger c.args.plan.request) _ _
-        (ap (λ (p : PlanView). p.changes.desk) parts.parts ∙ c.requires.fits.changes.desk) parts.told.clock
+    (ap (λ (p : PlanView). p.changes.desk) parts.parts ∙ c.requires.fits.changes.desk) parts.told.clock
 
 move : (c : goal.After-drop-parts-2)
     → option_map move_of c.into_parts-parts.result.0.moved
-        ≡ move_made (places c.args.self.now.ledger + 1) c.args.plan.request.command
+    ≡ move_made (places c.args.self.now.ledger + 1) c.args.plan.request.command
 move c =
     let parts = c.into_parts-parts.ensures in
     parts.told.moved ∙ (λ i. move_made (parts.parts i).place (parts.parts i).request.command)
@@ -95,7 +95,7 @@ returns-clause-even c n article commits transfer =
     let r = c.args.plan.request in
     subst (λ (B : Ledger). article_total B article ≡ article_total A article) (sym (returns-clause-next c))
     (total_answer A r n (Done (places A + 1)) (accept A r) article (good c) commits
-        (accepted_answered A r c.requires.fits.accepted) transfer)
+    (accepted_answered A r c.requires.fits.accepted) transfer)
 
 pub returns-clause-room_used : goal.returns-clause-room_used
 returns-clause-room_used c = rw (← c.self.view_is)
@@ -103,7 +103,7 @@ returns-clause-room_used c = rw (← c.self.view_is)
       fields = c.adopt_fields.ensures.room;
       moves = c.adopt_move.ensures.room;
       orders = c.adopt_orders.ensures.room;
-      kept = c.insert_kept.ensures.room
+      kept = c.insert_kept.ensures.room;
     })
 
 pub returns-clause-storage : goal.returns-clause-storage
@@ -114,5 +114,5 @@ returns-clause-storage c =
       moves = c.adopt_move.ensures.storage;
       orders = c.adopt_orders.ensures.storage;
       lines = c.adopt_orders.ensures.lines;
-      kept = c.insert_kept.ensures.storage
+      kept = c.insert_kept.ensures.storage;
     })

@@ -8,12 +8,12 @@ use Rattle.book.proofs.book.Book.changes_of.Goals as goal
 pub desk_row-requires : goal.desk_row-requires
 desk_row-requires c =
     subst (λ n. n ≤ MAX_PLACES) (sym c.requires.makes.place)
-        (place_fits c.args.self.now.ledger c.args.request.now c.requires.accepts.after)
+    (place_fits c.args.self.now.ledger c.args.request.now c.requires.accepts.after)
 
 pub kept_row-requires : goal.kept_row-requires
 kept_row-requires c =
     subst (λ n. n ≤ MAX_PLACES) (sym c.requires.makes.place)
-        (place_fits c.args.self.now.ledger c.args.request.now c.requires.accepts.after)
+    (place_fits c.args.self.now.ledger c.args.request.now c.requires.accepts.after)
 
 pub returns-clause-changes : goal.returns-clause-changes
 returns-clause-changes c =

@@ -14,7 +14,7 @@ returns-in_err-field c n kind until =
     let x = c.in_err-field.field-0.0 in
     let e = c.in_err-field.ensures in
     fails_with _ _ c.from_residual.result x c.from_residual.ensures.1
-        (line_fails A c.args.lines.now c.loop-i.i l c.loop-i-test.true c.index-lines-i.is e.good
+    (line_fails A c.args.lines.now c.loop-i.i l c.loop-i-test.true c.index-lines-i.is e.good
     c.loop-i.invariant.apart (sym c.has_line_on.ensures ∙ c.if-has_line_on.false) x
     (cut_short (no_field A f (c.loop-i.i + 1) ∷ []) (bound_checks l.way A f l.qty (c.loop-i.i + 1)) x e.found)
     c.loop-i.invariant.rest n kind until)
@@ -27,10 +27,10 @@ returns-in_err-ask c n kind until =
     let x = c.in_err-ask.field-0.0 in
     let e = c.in_ok-field.ensures in
     fails_with _ _ c.from_residual-in_err-ask.result x c.from_residual-in_err-ask.ensures.1
-        (line_fails A c.args.lines.now c.loop-i.i l c.loop-i-test.true c.index-lines-i.is e.good
+    (line_fails A c.args.lines.now c.loop-i.i l c.loop-i-test.true c.index-lines-i.is e.good
     c.loop-i.invariant.apart (sym c.has_line_on.ensures ∙ c.if-has_line_on.false) x
     (go_on (no_field A f (c.loop-i.i + 1) ∷ []) (bound_checks l.way A f l.qty (c.loop-i.i + 1)) (Some x) e.found.0
-        (c.in_err-ask.ensures A f e.good (grind (arith, e.up_to_date)) (grind (arith, e.found.1))))
+    (c.in_err-ask.ensures A f e.good (grind (arith, e.up_to_date)) (grind (arith, e.found.1))))
     c.loop-i.invariant.rest n kind until)
 
 pub loop-i-preserved : goal.loop-i-preserved
@@ -43,7 +43,7 @@ loop-i-preserved c =
       rest = line_passes A c.args.lines.now c.loop-i.i l c.loop-i-test.true c.index-lines-i.is e.good
           c.loop-i.invariant.apart alone
           (go_on (no_field A f (c.loop-i.i + 1) ∷ []) (bound_checks l.way A f l.qty (c.loop-i.i + 1)) None e.found.0
-              asked.0) c.loop-i.invariant.rest;
+          asked.0) c.loop-i.invariant.rest;
     }
 
 pub returns : goal.returns

@@ -17,7 +17,7 @@ returns-in_err-field c k is =
     let q = c.args.qty in
     let x = c.in_err-field.field-0.0 in
     fails_with _ _ c.from_residual.result x c.from_residual.ensures.1
-        (moving_decides A k n w q (Some x) is (no c.is_full.ensures c.if-is_full.false) c.in_err-field.ensures.good
+    (moving_decides A k n w q (Some x) is (no c.is_full.ensures c.if-is_full.false) c.in_err-field.ensures.good
     (cut_short (no_field A n 0 ∷ []) (bound_checks w A n q 0) x c.in_err-field.ensures.found))
 
 pub returns-in-Ok : goal.returns-in-Ok
@@ -31,7 +31,7 @@ returns-in-Ok c k is =
     let found = c.in_ok-field.ensures.found in (
       moving_decides A k n w q None is (no c.is_full.ensures c.if-is_full.false) c.in_ok-field.ensures.good
           (go_on (no_field A n 0 ∷ []) (bound_checks w A n q 0) None found.0
-              (inr (grants A n f w q up found.1 (move_granted f.quantity w q (c.in-Ok.ensures.granted.0 refl)), refl))),
+          (inr (grants A n f w q up found.1 (move_granted f.quantity w q (c.in-Ok.ensures.granted.0 refl)), refl))),
       (moved_found A k n w q f c.at_once.new.self is up found.1 c.in-Ok.ensures.ok, (moves_alone k (n, w, q) is).unordered, is),
     )
 
@@ -46,6 +46,8 @@ returns-in-Err c k is =
     moving_decides A k n w q (Some (c.refusal_of.result, 0)) is (no c.is_full.ensures c.if-is_full.false)
     c.in_ok-field.ensures.good
     (go_on (no_field A n 0 ∷ []) (bound_checks w A n q 0) (Some (c.refusal_of.result, 0)) found.0
-    (inl (refuses A n f w q c.in_ok-field.ensures.good c.in_ok-field.ensures.up_to_date found.1
-        (λ safe. true≢false (sym (c.in-Err.ensures.granted.1 safe.1))),
-        ap (λ (r : Refusal). Some (r, 0)) (c.refusal_of.ensures w c.in-Err.ensures.bound))))
+    (inl (
+      refuses A n f w q c.in_ok-field.ensures.good c.in_ok-field.ensures.up_to_date found.1
+          (λ safe. true≢false (sym (c.in-Err.ensures.granted.1 safe.1))),
+      ap (λ (r : Refusal). Some (r, 0)) (c.refusal_of.ensures w c.in-Err.ensures.bound),
+    )))

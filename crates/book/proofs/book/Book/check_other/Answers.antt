@@ -6,4 +6,4 @@ pub returns-in-Rebound : goal.returns-in-Rebound
 returns-in-Rebound c numbered =
     let A = c.args.self.now.ledger in
     subst (λ (d : Command). Finds (checks A d) (IsFound A d) c.check_rebound.result) (sym c.in-Rebound.is)
-        c.check_rebound.ensures
+    c.check_rebound.ensures

@@ -1,6 +1,7 @@
 use Rattle.book.proofs.Prelude.{CountsMore, MayCount, lines_before, step_seen}
-use Rattle.ledger.proofs.Prelude.{Ledger, List, Step, [], ap, arith, get_or, length, line_steps, map, share_step,
-    slice_get, subst, sym, ℕ, ◌+◌, ◌<◌, ◌∷◌, ◌≡◌, LineStep, drop, option_copied, ShareStep}
+use Rattle.ledger.proofs.Prelude.{Ledger, List, Step, [], ap, arith, get_or, length, line_steps, map, share_step}
+use Rattle.ledger.proofs.Prelude.{slice_get, subst, sym, ℕ, ◌+◌, ◌<◌, ◌∷◌, ◌≡◌, LineStep, drop, option_copied}
+use Rattle.ledger.proofs.Prelude.{ShareStep}
 use Rattle.ledger.specs.declared.order.Line.{Line}
 use Rattle.book.proofs.ChangedFields.{counts-nothing, counts-then, lines_seen, may-first, may-then, step_next, steps_from}
 use Rattle.std.proofs.lemmas.List.{drop_all}
@@ -21,7 +22,7 @@ next : (bs ls items : List Line) (i : ℕ) (l : Line) → items ≡ ls → i < l
     → steps_from bs ls i ≡ record { nr = 1 + i; before = slice_get bs i; after = l } ∷ steps_from bs ls (i + 1)
 next bs ls items i l same within is =
     subst (λ (ls : List Line).
-        steps_from bs ls i ≡ record { nr = 1 + i; before = slice_get bs i; after = l } ∷ steps_from bs ls (i + 1)) same
+    steps_from bs ls i ≡ record { nr = 1 + i; before = slice_get bs i; after = l } ∷ steps_from bs ls (i + 1)) same
     (step_next bs items i l within is)
 
 pub count_line-requires-clause-may : goal.count_line-requires-clause-may
@@ -37,7 +38,7 @@ count_line-requires-clause-may c nr =
     }) ∷ []) (map (share_step s) (steps_from bs ls (i + 1))) c.loop-place.fields.entries
     (subst (λ (ts : List LineStep). MayCount A (map (share_step s) ts) c.loop-place.fields.entries)
     (next bs ls c.deref-line-items.result.now i l c.deref-line-items.ensures.value c.loop-place-test.true
-        c.line-item.is) c.loop-place.invariant.may)
+    c.line-item.is) c.loop-place.invariant.may)
 
 pub loop-place-preserved : goal.loop-place-preserved
 loop-place-preserved c =
@@ -48,13 +49,13 @@ loop-place-preserved c =
     let own : List ShareStep = share_step s (record { nr = 1 + i; before = slice_get bs i; after = l }) ∷ [] in
     let rest : List ShareStep = map (share_step s) (steps_from bs ls (i + 1)) in
     let is =
-        next bs ls c.deref-line-items.result.now i l c.deref-line-items.ensures.value c.loop-place-test.true
-            c.line-item.is in
+    next bs ls c.deref-line-items.result.now i l c.deref-line-items.ensures.value c.loop-place-test.true
+    c.line-item.is in
     let counted = c.in_ok-count_line.ensures (1 + i) in record {
       may =
           may-then A own rest C D
-              (subst (λ (ts : List LineStep). MayCount A (map (share_step s) ts) C) is c.loop-place.invariant.may)
-              counted;
+          (subst (λ (ts : List LineStep). MayCount A (map (share_step s) ts) C) is c.loop-place.invariant.may)
+          counted;
       more = λ E h. c.loop-place.invariant.more E
           (subst (λ (ts : List LineStep). CountsMore A (map (share_step s) ts) C E) (sym is)
           (counts-then A own rest C D E counted h));

@@ -10,5 +10,5 @@ returns c =
     let ns = c.sort_unstable.new.self.items in
     let moved = subst (λ (xs : List ℕ). IsPermutation xs ns) (c.in_ok-numbers.ensures) c.sort_unstable.ensures.permutation in
     numbers_sorted now c.self.inside.orders.entries c.arrived.result.now ns c.self.invariant.0.orders_in_order
-        c.arrived.ensures moved (IsNonDecreasingBy-from_sort (λ n. n) ns c.sort_unstable.ensures.sorted)
+    c.arrived.ensures moved (IsNonDecreasingBy-from_sort (λ n. n) ns c.sort_unstable.ensures.sorted)
     ∙ ap (λ (v : BookView). map (λ o. o.number) (filter (expires now) v.ledger.orders)) c.self.view_is

@@ -1,5 +1,5 @@
-use Rattle.ledger.proofs.Prelude.{◌≡◌, Bor, Each, Field, IfSome, Ledger, List, MatchOption, Name, None, Option, Some,
-    arith, is_at, lookup, name_cmp, option_copied, option_map, sym}
+use Rattle.ledger.proofs.Prelude.{◌≡◌, Bor, Each, Field, IfSome, Ledger, List, MatchOption, Name, None, Option, Some}
+use Rattle.ledger.proofs.Prelude.{arith, is_at, lookup, name_cmp, option_copied, option_map, sym}
 use Rattle.book.proofs.Prelude.{FieldEntry, IsUpToDate, field_of, ledger_of}
 use Rattle.book.proofs.KeyPlaces.{field_found}
 use Rattle.book.proofs.ChangedFields.{each_at_name}
@@ -23,4 +23,4 @@ returns-clause-found c = grind (arith, field_found, told)
 pub returns-clause-up_to_date : goal.returns-clause-up_to_date
 returns-clause-up_to_date c =
     rw (← c.self.view_is) (up (ledger_of c.self.inside) c.args.name.now c.self.inside.fields.entries c.get.result
-        c.self.invariant.1 c.get.ensures)
+    c.self.invariant.1 c.get.ensures)

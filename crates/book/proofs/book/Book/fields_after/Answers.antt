@@ -10,9 +10,9 @@ one P Q (Err e) h p = tt
 pub returns-in-Field : goal.returns-in-Field
 returns-in-Field c = one _ _ c.one_field.result
     (λ fields is.
-        ap (map entry_row) is
-        ∙ (subst (IsFound c.args.self.now.ledger c.args.request.now.command) c.in-Field.is c.requires.found).0
-            c.args.request.now.key c.requires.accepts)
+    ap (map entry_row) is
+    ∙ (subst (IsFound c.args.self.now.ledger c.args.request.now.command) c.in-Field.is c.requires.found).0
+    c.args.request.now.key c.requires.accepts)
     c.one_field.ensures
 
 pub returns : goal.returns

@@ -12,4 +12,4 @@ told key (Some r) there found is e = rw (← is) at e
 pub returns : goal.returns
 returns c =
     rw (← c.self.view_is)
-        (told c.args.key c.get.result _ _ c.get.ensures (kept_found c.args.key c.self.inside.kept.entries))
+    (told c.args.key c.get.result _ _ c.get.ensures (kept_found c.args.key c.self.inside.kept.entries))

@@ -1,5 +1,5 @@
-use Rattle.ledger.proofs.Prelude.{◌∙◌, ◌≡◌, AllZip, Content, Each, Field, Good, IsFieldRow, IsRowsOf, Kept, Ledger,
-    Order, ap, arith, map, map-map, subst, sym}
+use Rattle.ledger.proofs.Prelude.{◌∙◌, ◌≡◌, AllZip, Content, Each, Field, Good, IsFieldRow, IsRowsOf, Kept, Ledger}
+use Rattle.ledger.proofs.Prelude.{Order, ap, arith, map, map-map, subst, sym}
 use Rattle.book.proofs.Prelude.{IsUpToDate, field_of, kept_of, ledger_of, move_of, order_of, told_ledger}
 use Rattle.ledger.specs.Tables.{content_of}
 use Rattle.ledger.proofs.TestResults.{true_not_false}
@@ -20,10 +20,10 @@ returns-in-Ok-false-clause-damaged c _ A g rows =
     let good = subst Good same g in
     let fields = told_rows c.in_ok-entries.entries.fields.items c.args.tables.fields c.in_ok-entries.ensures.fields
     ∙ ap (λ (D : Content). D.fields)
-        (one_content B C (rows_of B) (subst (λ (L : Ledger). IsRowsOf L C) same rows) (rows_are B good)) in
+    (one_content B C (rows_of B) (subst (λ (L : Ledger). IsRowsOf L C) same rows) (rows_are B good)) in
     true_not_false
-        (c.in-Ok-false.ensures.1 (good, (entries_of_rows B c.in_ok-entries.entries.fields.items B.fields fields).1))
-        c.in-Ok-false.field-0-test
+    (c.in-Ok-false.ensures.1 (good, (entries_of_rows B c.in_ok-entries.entries.fields.items B.fields fields).1))
+    c.in-Ok-false.field-0-test
 
 pub from_sorted-requires : goal.from_sorted-requires
 from_sorted-requires c = grind (arith, (map-map (λ (f : Field). f.name) field_of c.in_ok-entries.entries.fields.items))
@@ -40,16 +40,16 @@ returns-clause-ok c =
     let good = c.in-Ok-true.ensures.0 c.in-Ok-true.field-0-test in
     let told = c.in_ok-entries.ensures.told in
     let rows =
-        sym (told_rows c.in_ok-entries.entries.fields.items c.args.tables.fields c.in_ok-entries.ensures.fields)
-        ∙ rows_of_entries B c.in_ok-entries.entries.fields.items good.1 in
+    sym (told_rows c.in_ok-entries.entries.fields.items c.args.tables.fields c.in_ok-entries.ensures.fields)
+    ∙ rows_of_entries B c.in_ok-entries.entries.fields.items good.1 in
     let is : B
-        ≡ ledger_of (record {
-          clock = c.in_ok-entries.entries.clock;
-          fields = c.in-Ok.fields;
-          moves = c.in_ok-entries.entries.moves;
-          orders = c.in-Ok-from_sorted.orders;
-          kept = c.in-Ok-from_sorted-2.kept
-        }) = λ i. record {
+    ≡ ledger_of (record {
+      clock = c.in_ok-entries.entries.clock;
+      fields = c.in-Ok.fields;
+      moves = c.in_ok-entries.entries.moves;
+      orders = c.in-Ok-from_sorted.orders;
+      kept = c.in-Ok-from_sorted-2.kept;
+    }) = λ i. record {
       clock = c.in_ok-entries.entries.clock;
       fields = map field_of (sym c.in-Ok.ensures i);
       moves = map move_of c.in_ok-entries.entries.moves.items;
@@ -74,13 +74,13 @@ invariant_of-result c =
     let B : Ledger = told_ledger c.in_ok-entries.entries in
     let good = c.in-Ok-true.ensures.0 c.in-Ok-true.field-0-test in
     let is : B
-        ≡ ledger_of (record {
-          clock = c.in_ok-entries.entries.clock;
-          fields = c.in-Ok.fields;
-          moves = c.in_ok-entries.entries.moves;
-          orders = c.in-Ok-from_sorted.orders;
-          kept = c.in-Ok-from_sorted-2.kept
-        }) = λ i. record {
+    ≡ ledger_of (record {
+      clock = c.in_ok-entries.entries.clock;
+      fields = c.in-Ok.fields;
+      moves = c.in_ok-entries.entries.moves;
+      orders = c.in-Ok-from_sorted.orders;
+      kept = c.in-Ok-from_sorted-2.kept;
+    }) = λ i. record {
       clock = c.in_ok-entries.entries.clock;
       fields = map field_of (sym c.in-Ok.ensures i);
       moves = map move_of c.in_ok-entries.entries.moves.items;

@@ -12,4 +12,4 @@ told n (Some r) there found is e = rw (← is) at e
 pub returns : goal.returns
 returns c =
     rw (← c.self.view_is)
-        (told c.args.number c.get.result _ _ c.get.ensures (order_found c.args.number c.self.inside.orders.entries))
+    (told c.args.number c.get.result _ _ c.get.ensures (order_found c.args.number c.self.inside.orders.entries))

@@ -1,5 +1,5 @@
-use Rattle.ledger.proofs.Prelude.{◌∙◌, ◌≡◌, Command, FirstFailure, IsAccepted, None, Request, ap, checks, is_some,
-    orders_made, rows_among, subst, sym}
+use Rattle.ledger.proofs.Prelude.{◌∙◌, ◌≡◌, Command, FirstFailure, IsAccepted, None, Request, ap, checks, is_some}
+use Rattle.ledger.proofs.Prelude.{orders_made, rows_among, subst, sym}
 use Rattle.book.proofs.Prelude.{ChangesTo}
 use Rattle.book.specs.Plans.{Fits}
 use Rattle.book.specs.inner.PlansSeen.{plan_of}
@@ -12,12 +12,13 @@ returns c =
     let rows = rows_among c.in_ok-changes.changes.items in
     let makes = c.in_ok-parts.ensures.makes in
     let same : ◌≡◌ {A = Request} (plan_of c.in_ok-parts.parts rows).request r =
-        λ i. record { key = makes.key i; command = makes.command i } in
+    λ i. record { key = makes.key i; command = makes.command i } in
     let fits : Fits A (plan_of c.in_ok-parts.parts rows) = record {
       accepted =
-          subst (IsAccepted A) (sym same)
-              (ap is_some c.in_default.ensures,
-                  subst (λ (k : Command). FirstFailure (checks A k) None) c.command.ensures.value c.in-Ok.ensures.0);
+          subst (IsAccepted A) (sym same) (
+            ap is_some c.in_default.ensures,
+            subst (λ (k : Command). FirstFailure (checks A k) None) c.command.ensures.value c.in-Ok.ensures.0,
+          );
       place = makes.place;
       orders = makes.orders ∙ ap (orders_made A) (sym makes.command);
       changes = subst (λ (r : Request). ChangesTo A r rows) (sym same) c.in_ok-changes.ensures.changes;

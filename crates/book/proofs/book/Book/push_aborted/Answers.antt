@@ -1,7 +1,7 @@
 use Rattle.ledger.specs.declared.order.State.TheVariants.{Aborted}
 use Rattle.book.proofs.Prelude.{Adds, MayMake, steps_under}
-use Rattle.ledger.proofs.Prelude.{Ledger, List, Step, ap, drop, flat_map, get_or, length, subst, sym, ℕ, ◌++◌, ◌+◌, ◌<◌,
-    ◌∙◌, ◌∷◌, ◌≡◌, arith}
+use Rattle.ledger.proofs.Prelude.{Ledger, List, Step, ap, drop, flat_map, get_or, length, subst, sym, ℕ, ◌++◌, ◌+◌, ◌<◌}
+use Rattle.ledger.proofs.Prelude.{◌∙◌, ◌∷◌, ◌≡◌, arith}
 use Rattle.book.specs.declared.book.made.OrderChange.TheVariants.{End}
 use Rattle.book.proofs.OneWay.{adds-nothing, adds-then, makes-first, makes-then}
 use Rattle.std.proofs.lemmas.List.{drop_all, drop_more}
@@ -10,7 +10,7 @@ use Rattle.book.proofs.book.Book.push_aborted.Goals as goal
 -- what is left begins with the steps of that order
 next : (A : Ledger) (ns : List ℕ) (i n : ℕ) → i < length ns → n ≡ get_or ns i n
     → flat_map (steps_under A (End Aborted)) (drop i ns)
-        ≡ steps_under A (End Aborted) n ++ flat_map (steps_under A (End Aborted)) (drop (i + 1) ns)
+    ≡ steps_under A (End Aborted) n ++ flat_map (steps_under A (End Aborted)) (drop (i + 1) ns)
 next A ns i n within is =
     ap (flat_map (steps_under A (End Aborted))) (drop_more ns i n within ∙ ap (λ m. m ∷ drop (i + 1) ns) (sym is))
 
@@ -18,7 +18,7 @@ pub push_abort-requires : goal.push_abort-requires
 push_abort-requires c = let A = c.args.self.now.ledger in let i = c.loop-number.number-index in let ns = c.args.numbers.now in
     makes-first A _ (flat_map (steps_under A (End Aborted)) (drop (i + 1) ns)) c.loop-number.made
     (subst (λ (ss : List Step). MayMake A ss c.loop-number.made)
-        (next A ns i c.number-item.result c.loop-number-test.true c.number-item.is) c.loop-number.invariant.may)
+    (next A ns i c.number-item.result c.loop-number-test.true c.number-item.is) c.loop-number.invariant.may)
 
 pub loop-number-preserved : goal.loop-number-preserved
 loop-number-preserved c =
@@ -37,4 +37,4 @@ returns c =
     let A = c.args.self.now.ledger in let a = c.loop-number.made in
     let past = drop_all c.loop-number.number-index c.args.numbers.now (omega arith) in
     c.loop-number.invariant.more a
-        (subst (λ (ns : List ℕ). Adds A (flat_map (steps_under A (End Aborted)) ns) a a) (sym past) (adds-nothing A a))
+    (subst (λ (ns : List ℕ). Adds A (flat_map (steps_under A (End Aborted)) ns) a a) (sym past) (adds-nothing A a))

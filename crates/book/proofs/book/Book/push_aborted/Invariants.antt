@@ -10,6 +10,6 @@ invariant-loop-number l = record {
   may : MayMake l.self.ledger (flat_map (steps_under l.self.ledger (End Aborted)) (drop l.number-index l.numbers)) l.made;
   more : (new : Made)
       → Adds l.self.ledger (flat_map (steps_under l.self.ledger (End Aborted)) (drop l.number-index l.numbers)) l.made
-          new
+      new
       → Adds l.self.ledger (flat_map (steps_under l.self.ledger (End Aborted)) l.numbers) l.initial.made new;
 }

@@ -1,6 +1,6 @@
 use Rattle.book.proofs.Prelude.{CountsMore, order_of, step_seen}
-use Rattle.ledger.proofs.Prelude.{List, ShareStep, [], ap, append-nil, map, map-append, option_copied, shares_of_step,
-    subst, sym, ◌∙◌, ◌∷◌, Step}
+use Rattle.ledger.proofs.Prelude.{List, ShareStep, [], ap, append-nil, map, map-append, option_copied, shares_of_step}
+use Rattle.ledger.proofs.Prelude.{subst, sym, ◌∙◌, ◌∷◌, Step}
 use Rattle.book.proofs.book.Book.push_step.Goals as goal
 
 pub returns : goal.returns

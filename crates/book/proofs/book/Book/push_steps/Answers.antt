@@ -1,7 +1,7 @@
 use Rattle.ledger.specs.declared.order.State.TheVariants.{Aborted}
 use Rattle.book.proofs.Prelude.{Adds, IsFound, MayMake, changed_order, order_of, steps_under}
-use Rattle.ledger.proofs.Prelude.{Changes, Effect, Good, Ledger, List, OnOk, Opens, Step, ap, effect, expires, filter,
-    flat_map, map, numbered, set_state, steps, subst, sym, ℕ, ◌∙◌, ◌≡◌}
+use Rattle.ledger.proofs.Prelude.{Changes, Effect, Good, Ledger, List, OnOk, Opens, Step, ap, effect, expires, filter}
+use Rattle.ledger.proofs.Prelude.{flat_map, map, numbered, set_state, steps, subst, sym, ℕ, ◌∙◌, ◌≡◌}
 use Rattle.book.specs.inner.Checking.{changed_number}
 use Rattle.book.specs.declared.book.made.OrderChange.TheVariants.{End}
 use Rattle.book.proofs.OneWay.{adds-nothing, may_steps}
@@ -28,7 +28,7 @@ push_changed-requires-clause-change c =
     let found = subst (IsFound A c.args.request.now.command) c.in-Order.is c.requires.found in
     may_change A c.args.request.now n c.change_of-change.result c.requires.accepts.after
     (c.change_of-change.ensures n (ap changed_number c.command-in-Order.ensures.value ∙ found.0)
-        ∙ ap effect c.command-in-Order.ensures.value)
+    ∙ ap effect c.command-in-Order.ensures.value)
 
 pub push_changed-requires-clause-may : goal.push_changed-requires-clause-may
 push_changed-requires-clause-may c =
@@ -38,7 +38,7 @@ push_changed-requires-clause-may c =
     (one_step n change A.orders c.requires.accepts.before.orders_in_order)
     (may_steps A c.args.request.now c.args.made.now (Changes (numbered n) change) c.requires.accepts
     (c.change_of-change.ensures n (ap changed_number c.command-in-Order.ensures.value ∙ found.0)
-        ∙ ap effect c.command-in-Order.ensures.value)
+    ∙ ap effect c.command-in-Order.ensures.value)
     (λ none. cc) c.requires.first)
 
 pub returns-in-Order : goal.returns-in-Order
@@ -49,7 +49,7 @@ returns-in-Order c =
     (sym (one_step n change A.orders c.requires.accepts.before.orders_in_order)
     ∙ ap (λ e. steps e A.orders)
     (c.change_of-change.ensures n (ap changed_number c.command-in-Order.ensures.value ∙ found.0)
-        ∙ ap effect c.command-in-Order.ensures.value)) c.push_changed.ensures
+    ∙ ap effect c.command-in-Order.ensures.value)) c.push_changed.ensures
 
 -- the steps of those that expire, by their numbers
 expiring : (A : Ledger) (now : ℕ) (ns : List ℕ) → Good A → ns ≡ map (λ o. o.number) (filter (expires now) A.orders)

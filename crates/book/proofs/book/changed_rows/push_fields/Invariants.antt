@@ -7,4 +7,4 @@ abbrev pub invariant-loop-place : goal.invariant-loop-place
 invariant-loop-place l =
     rows_among l.changes.items
     ≡ joined (rows_among l.initial.changes.items)
-        (record no_content { fields = map entry_row (take l.place l.fields.entries) })
+    (record no_content { fields = map entry_row (take l.place l.fields.entries) })

@@ -11,13 +11,13 @@ pub loop-place-preserved : goal.loop-place-preserved
 loop-place-preserved c =
     let bs : List Line = lines_before (option_copied c.args.before) in
     let next =
-        step_next bs c.deref-line-items.result.now c.loop-place.place c.line-item.result c.loop-place-test.true
-            c.line-item.is in
+    step_next bs c.deref-line-items.result.now c.loop-place.place c.line-item.result c.loop-place-test.true
+    c.line-item.is in
     grind (arith, append_assoc, appended)
 
 pub returns : goal.returns
 returns c =
     let past =
-        drop_all c.loop-place.place c.args.after.now.1.lines.items
-            (omega (arith, ap (length {A = Line}) c.deref-line-items.ensures.value)) in
+    drop_all c.loop-place.place c.args.after.now.1.lines.items
+    (omega (arith, ap (length {A = Line}) c.deref-line-items.ensures.value)) in
     grind (arith, append-nil)

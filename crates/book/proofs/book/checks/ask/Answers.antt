@@ -5,9 +5,14 @@ use Rattle.book.proofs.book.checks.ask.Goals as goal
 
 pub returns-in-Ok : goal.returns-in-Ok
 returns-in-Ok c A name good up there =
-    let f : FieldEntry = c.args.field in
-    (inr (grants A name f c.args.way c.args.qty up there
-        (ask_granted f.quantity c.args.way c.args.qty (c.in-Ok.ensures.granted.0 refl)), refl), tt)
+    let f : FieldEntry = c.args.field in (
+      inr (
+        grants A name f c.args.way c.args.qty up there
+            (ask_granted f.quantity c.args.way c.args.qty (c.in-Ok.ensures.granted.0 refl)),
+        refl,
+      ),
+      tt,
+    )
 
 pub returns-in-Err : goal.returns-in-Err
 returns-in-Err c A name good up there = inl (

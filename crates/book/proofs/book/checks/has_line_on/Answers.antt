@@ -7,6 +7,6 @@ pub returns : goal.returns
 returns c =
     let f : Name = c.args.name.now in
     find-any (on f) new_line c.any.result c.args.lines.now
-        (cases_from_any _ _ _ (λ (l : OpenLine). on f (new_line l) ≡ true) (λ (l : OpenLine). on f (new_line l) ≡ false)
+    (cases_from_any _ _ _ (λ (l : OpenLine). on f (new_line l) ≡ true) (λ (l : OpenLine). on f (new_line l) ≡ false)
     c.any.ensures.ran (YieldsList-from_slice c.args.lines.now cc) (λ x q k. search (rules, of_calls))
-        (λ x q k. search (rules, of_calls)))
+    (λ x q k. search (rules, of_calls)))

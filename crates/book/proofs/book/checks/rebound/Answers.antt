@@ -9,9 +9,13 @@ returns-in-Ok c A name good up there =
     let e : FieldEntry = c.args.field in let q = e.quantity in let d = bounds_decide A name e c.args.lo c.args.hi good up there in
     let safe = c.in-Ok.ensures.granted.0 refl in let low = safe q.held_to_take 0 (omega arith) (omega arith) in
     let high = safe 0 q.held_to_add (omega arith) (omega arith) in (
-      inr ((λ k. omega (arith, ints)),
-          inr ((λ k. let f = d.0.0 k in omega (arith, ints)),
-              inr ((λ k. let f = d.1.0 k in omega (arith, ints)), refl))),
+      inr (
+        (λ k. omega (arith, ints)),
+        inr (
+          (λ k. let f = d.0.0 k in omega (arith, ints)),
+          inr ((λ k. let f = d.1.0 k in omega (arith, ints)), refl),
+        ),
+      ),
       ap (λ (q : Stock). record { start = e.start; quantity = q }) c.in-Ok.ensures.ok,
     )
 
@@ -19,8 +23,8 @@ pub returns-in-Err-TooLittle : goal.returns-in-Err-TooLittle
 returns-in-Err-TooLittle c A name good up there =
     let d = bounds_decide A name c.args.field c.args.lo c.args.hi good up there in
     let fault =
-        subst (RefusesBounds c.args.field.quantity c.args.lo c.args.hi) c.in-Err-TooLittle.field-0-is
-            c.in-Err-TooLittle.ensures.fault in
+    subst (RefusesBounds c.args.field.quantity c.args.lo c.args.hi) c.in-Err-TooLittle.field-0-is
+    c.in-Err-TooLittle.ensures.fault in
     let taken = fault.1.1.2 in let is = fault.1.1.4 in let below = fault.1.2 in
     inr ((λ k. omega arith), inl (d.0.1 (omega (arith, ints)), refl))
 

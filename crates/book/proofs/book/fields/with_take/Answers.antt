@@ -14,5 +14,5 @@ returns c =
       hi = refl;
       value = omega (arith, ints);
       takes = omega (arith, ints);
-      adds = omega (arith, ints)
+      adds = omega (arith, ints);
     })

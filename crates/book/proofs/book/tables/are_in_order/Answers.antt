@@ -1,8 +1,8 @@
 use Rattle.ledger.proofs.Prelude.{◌∙◌, refl, sym, true≢false}
 use Rattle.ledger.proofs.TestResults.{no}
 use Rattle.book.proofs.book.tables.are_in_order.Goals as goal
-use Rattle.book.proofs.book.tables.are_in_order.Goals.{then-not-are_keys_in_order-via-then-not-are_keys_in_order,
-    then-not-are_keys_in_order-via-else-not-are_keys_in_order+then-not-are_moves_in_order}
+use Rattle.book.proofs.book.tables.are_in_order.Goals.{then-not-are_keys_in_order-via-then-not-are_keys_in_order}
+use Rattle.book.proofs.book.tables.are_in_order.Goals.{then-not-are_keys_in_order-via-else-not-are_keys_in_order+then-not-are_moves_in_order}
 
 pub returns-then-not-are_keys_in_order : goal.returns-then-not-are_keys_in_order
 returns-then-not-are_keys_in_order c = no (λ o. elim c.then-not-are_keys_in_order.branch [
@@ -10,7 +10,7 @@ returns-then-not-are_keys_in_order c = no (λ o. elim c.then-not-are_keys_in_ord
       true≢false (sym (w.if-not-are_keys_in_order.ensures.1 (rw c.deref.ensures.value o.fields)))
   | then-not-are_keys_in_order-via-else-not-are_keys_in_order+then-not-are_moves_in_order w ↦
       true≢false (sym (w.if-not-are_moves_in_order.ensures.1
-          (rw w.deref-else-not-are_keys_in_order.ensures.value o.moves)))
+      (rw w.deref-else-not-are_keys_in_order.ensures.value o.moves)))
 ])
 
 pub returns-then-are_keys_in_order : goal.returns-then-are_keys_in_order

@@ -1,6 +1,7 @@
-use Rattle.ledger.proofs.Prelude.{[], ◌∙◌, ◌∷◌, ◌≡◌, AllZip, DeskCells, Each, IsFieldRow, IsGoodField, IsGoodKept,
-    KeptCells, List, Name, TellsField, ap, arith, field_cells, firm_cells, kept_cells, kept_row, length, line_cells,
-    map, move_cells, move_row, order_cells, places, subst, sym, ℕ}
+use Rattle.ledger.proofs.Prelude.{[], ◌∙◌, ◌∷◌, ◌≡◌, AllZip, DeskCells, Each, IsFieldRow, IsGoodField, IsGoodKept}
+use Rattle.ledger.proofs.Prelude.{KeptCells, List, Name, TellsField, ap, arith, field_cells, firm_cells, kept_cells}
+use Rattle.ledger.proofs.Prelude.{kept_row, length, line_cells, map, move_cells, move_row, order_cells, places, subst}
+use Rattle.ledger.proofs.Prelude.{sym, ℕ}
 use Rattle.book.proofs.Prelude.{FieldEntry, IsFieldTold, IsKeptTold, IsMoveTold, KeptEntry, field_of, kept_of, move_of}
 use Rattle.ledger.specs.declared.rows.FieldRow.{FieldRow}
 use Rattle.ledger.specs.declared.rows.KeptRow.{KeptRow}
@@ -15,14 +16,14 @@ pub returns-in_err-fields-clause-damaged : goal.returns-in_err-fields-clause-dam
 returns-in_err-fields-clause-damaged c = passed_up c.from_residual.result c.in_err-fields.field-0.0 _ c.from_residual.ensures.1
     (λ is A g rows. c.in_err-fields.ensures.damaged is
     (fields_told A c.as_slice.result.now g
-        (subst (λ (fs : List FieldRow). AllZip (IsFieldRow A) A.fields (map field_cells fs)) (sym c.as_slice.ensures)
-            rows.fields)))
+    (subst (λ (fs : List FieldRow). AllZip (IsFieldRow A) A.fields (map field_cells fs)) (sym c.as_slice.ensures)
+    rows.fields)))
 
 pub returns-in_err-moves-clause-damaged : goal.returns-in_err-moves-clause-damaged
 returns-in_err-moves-clause-damaged c = passed_up c.from_residual-in_err-moves.result c.in_err-moves.field-0.0 _
     c.from_residual-in_err-moves.ensures.1
     (λ is A g rows. c.in_err-moves.ensures.damaged is
-        (moves_told A c.as_slice-2.result.now g (ap (map move_cells) c.as_slice-2.ensures ∙ rows.moves)))
+    (moves_told A c.as_slice-2.result.now g (ap (map move_cells) c.as_slice-2.ensures ∙ rows.moves)))
 
 pub returns-in_err-orders-clause-damaged : goal.returns-in_err-orders-clause-damaged
 returns-in_err-orders-clause-damaged c = passed_up c.from_residual-in_err-orders.result c.in_err-orders.field-0.0 _
@@ -31,14 +32,14 @@ returns-in_err-orders-clause-damaged c = passed_up c.from_residual-in_err-orders
     (record {
       orders_are = ap (map order_cells) c.as_slice-3.ensures ∙ rows.orders;
       lines_are = ap (map line_cells) c.as_slice-4.ensures ∙ rows.lines;
-      firms_are = ap (map firm_cells) c.as_slice-5.ensures ∙ rows.firms
+      firms_are = ap (map firm_cells) c.as_slice-5.ensures ∙ rows.firms;
     }))
 
 pub returns-in_err-kept-clause-damaged : goal.returns-in_err-kept-clause-damaged
 returns-in_err-kept-clause-damaged c = passed_up c.from_residual-in_err-kept.result c.in_err-kept.field-0.0 _
     c.from_residual-in_err-kept.ensures.1
     (λ is A g rows. c.in_err-kept.ensures.damaged is
-        (kept_told A c.as_slice-6.result.now g (ap (map kept_cells) c.as_slice-6.ensures ∙ rows.kept)))
+    (kept_told A c.as_slice-6.result.now g (ap (map kept_cells) c.as_slice-6.ensures ∙ rows.kept)))
 
 pub returns-in_default-clause-damaged : goal.returns-in_default-clause-damaged
 returns-in_default-clause-damaged c _ A g rows =
@@ -61,17 +62,17 @@ returns-clause-told c =
       fields = subst (λ (rows : List FieldRow).
           AllZip TellsField (map field_of c.in_ok-fields.fields.items) (map field_cells rows)) c.as_slice.ensures
           (zip-map IsFieldTold TellsField field_of field_cells tells_field c.in_ok-fields.fields.items
-              c.as_slice.result.now c.in_ok-fields.ensures.told);
+          c.as_slice.result.now c.in_ok-fields.ensures.told);
       moves =
           sym (ap (map move_cells) c.as_slice-2.ensures)
           ∙ rows_of IsMoveTold move_of move_row move_cells (λ e row told. told.cells) c.in_ok-moves.moves.items
-              c.as_slice-2.result.now c.in_ok-moves.ensures.told;
+          c.as_slice-2.result.now c.in_ok-moves.ensures.told;
       orders = sym (ap (map order_cells) c.as_slice-3.ensures) ∙ told.orders_are;
       lines = sym (ap (map line_cells) c.as_slice-4.ensures) ∙ told.lines_are;
       kept =
           sym (ap (map kept_cells) c.as_slice-6.ensures)
           ∙ rows_of IsKeptTold kept_of kept_row kept_cells (λ e row told. told.cells) c.in_ok-kept.kept.items
-              c.as_slice-6.result.now c.in_ok-kept.ensures.told;
+          c.as_slice-6.result.now c.in_ok-kept.ensures.told;
       firms = sym (ap (map firm_cells) c.as_slice-5.ensures) ∙ told.firms_are;
     }
 

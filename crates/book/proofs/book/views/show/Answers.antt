@@ -1,5 +1,5 @@
-use Rattle.ledger.proofs.Prelude.{Field, FieldCells, IsInfimum, IsSupremum, ap, held_to_add, held_to_take, pos, refl,
-    settled, subst, sym, ◌+ℤ◌, ◌-ℤ◌, ◌∙◌, ◌≡◌}
+use Rattle.ledger.proofs.Prelude.{Field, FieldCells, IsInfimum, IsSupremum, ap, held_to_add, held_to_take, pos, refl}
+use Rattle.ledger.proofs.Prelude.{settled, subst, sym, ◌+ℤ◌, ◌-ℤ◌, ◌∙◌, ◌≡◌}
 use Rattle.book.proofs.Prelude.{field_of}
 use Rattle.book.proofs.book.views.show.Goals as goal
 use Rattle.ledger.proofs.Bounds.{inf_is, sup_is}
@@ -11,10 +11,10 @@ returns c A good up =
     let f : Field = field_of (c.args.name, c.args.entry.now) in
     let sound = sounds_from_good A good in
     let inf : (settled A f -ℤ held_to_take A f.name) ≡ pos c.inf.result =
-        sym (least_is c.args.entry.now.quantity (pos c.inf.result) c.inf.ensures ∙ ap (λ (r : FieldCells). r.inf) up) in
+    sym (least_is c.args.entry.now.quantity (pos c.inf.result) c.inf.ensures ∙ ap (λ (r : FieldCells). r.inf) up) in
     let sup : (settled A f +ℤ held_to_add A f.name) ≡ pos c.sup.result =
-        sym (greatest_is c.args.entry.now.quantity (pos c.sup.result) c.sup.ensures
-            ∙ ap (λ (r : FieldCells). r.sup) up) in
+    sym (greatest_is c.args.entry.now.quantity (pos c.sup.result) c.sup.ensures
+    ∙ ap (λ (r : FieldCells). r.sup) up) in
     record {
       name = refl;
       lo = c.lo.ensures;

@@ -1,5 +1,5 @@
-use Rattle.ledger.proofs.Prelude.{None, Some, ◌∙◌, ◌≡◌, ◌≤◌, IsStrictlySortedBy, ap, arith, find, length, nat_cmp,
-    option_copied, slice_get, subst, sym}
+use Rattle.ledger.proofs.Prelude.{None, Some, ◌∙◌, ◌≡◌, ◌≤◌, IsStrictlySortedBy, ap, arith, find, length, nat_cmp}
+use Rattle.ledger.proofs.Prelude.{option_copied, slice_get, subst, sym}
 use Rattle.book.specs.OrderLists.{OrderEntries}
 use Rattle.book.specs.inner.OpenOrders.{IsFirstFrom, is_open_from, open_numbers}
 use Rattle.book.proofs.OpenOrders.{first_open, none_open, open_sorted}
@@ -8,7 +8,7 @@ use Rattle.book.proofs.orders.Orders.open_from.Goals as goal
 pub first_from-place-requires : goal.first_from-place-requires
 first_from-place-requires c =
     subst (IsStrictlySortedBy nat_cmp) (sym c.self.invariant.0)
-        (open_sorted c.self.inside.all.entries c.self.invariant.3)
+    (open_sorted c.self.inside.all.entries c.self.invariant.3)
 
 pub returns-then-len-place : goal.returns-then-len-place
 returns-then-len-place c =
@@ -25,7 +25,7 @@ unreachable-requires c =
     let first = subst (λ ms. IsFirstFrom c.args.number ms place) c.self.invariant.0 c.first_from-place.ensures in
     let there = subst (λ ms. slice_get ms place ≡ Some c.get.result.now) c.self.invariant.0 c.get.ensures in
     let (v, under, found) =
-        first_open c.args.number c.self.inside.all.entries place c.get.result.now c.self.invariant.3 first there in
+    first_open c.args.number c.self.inside.all.entries place c.get.result.now c.self.invariant.3 first there in
     let clash = subst (λ r. option_copied r ≡ Some v) c.in-None.is (c.get-2.ensures ∙ under) in
     absurd (cc)
 

@@ -10,7 +10,7 @@ pub returns-in-Ok-clause-alone : goal.returns-in-Ok-clause-alone
 returns-in-Ok-clause-alone g c = λ honest x h.
     let keep = c.self.inside.keep in
     off_alone g.K.Keep keep (λ these only. g.met.K.Keep.some_content keep these honest only) (g.met.K.Keep.among keep)
-        c.put_off.new.kept.items x h
+    c.put_off.new.kept.items x h
 
 pub returns-in-Ok-clause-either : goal.returns-in-Ok-clause-either
 returns-in-Ok-clause-either g c =

@@ -15,13 +15,13 @@ returns-in_default-commit-clause-either g c e honest =
     let same : c.args.self.now.ledger ≡ c.self.inside.book.ledger = sym (ap (λ d. d.ledger) c.self.view_is) in
     let keep = c.make_room-2.new.self in
     let going : g.K.Keep.stopped keep ≡ false =
-        subst (λ k. g.K.Keep.stopped k ≡ false) (sym (c.make_room-2.ensures ∙ ap (λ d. d.keep) c.self.view_is))
-            c.requires.going in
+    subst (λ k. g.K.Keep.stopped k ≡ false) (sym (c.make_room-2.ensures ∙ ap (λ d. d.keep) c.self.view_is))
+    c.requires.going in
     let stored =
-        subst (λ k.
-            g.K.Keep.stopped k ≡ false → g.K.Keep.is_honest k
-            → IsStored (g.K.Keep.holds k) (g.K.Keep.leaves k) c.self.inside.book.ledger) (sym c.make_room-2.ensures)
-            c.self.invariant.stored in
+    subst (λ k.
+    g.K.Keep.stopped k ≡ false → g.K.Keep.is_honest k
+    → IsStored (g.K.Keep.holds k) (g.K.Keep.leaves k) c.self.inside.book.ledger) (sym c.make_room-2.ensures)
+    c.self.invariant.stored in
     subst (λ A. LeavesEither (g.K.Keep.leaves c.commit.new.self) A (accept A c.args.plan.request)) (sym same)
     (leaves_either c.self.inside.book.ledger c.args.plan c.changes-2.result.now c.self.invariant.good c.requires.key
     c.requires.command
@@ -36,13 +36,13 @@ invariant_of-self-2 g c = record {
       let same : c.args.self.now.ledger ≡ c.self.inside.book.ledger = sym (ap (λ d. d.ledger) c.self.view_is) in
       let keep = c.make_room-2.new.self in
       let going : g.K.Keep.stopped keep ≡ false =
-          subst (λ k. g.K.Keep.stopped k ≡ false) (sym (c.make_room-2.ensures ∙ ap (λ d. d.keep) c.self.view_is))
-              c.requires.going in
+      subst (λ k. g.K.Keep.stopped k ≡ false) (sym (c.make_room-2.ensures ∙ ap (λ d. d.keep) c.self.view_is))
+      c.requires.going in
       let stored =
-          subst (λ k.
-              g.K.Keep.stopped k ≡ false → g.K.Keep.is_honest k
-              → IsStored (g.K.Keep.holds k) (g.K.Keep.leaves k) c.self.inside.book.ledger) (sym c.make_room-2.ensures)
-              c.self.invariant.stored in
+      subst (λ k.
+      g.K.Keep.stopped k ≡ false → g.K.Keep.is_honest k
+      → IsStored (g.K.Keep.holds k) (g.K.Keep.leaves k) c.self.inside.book.ledger) (sym c.make_room-2.ensures)
+      c.self.invariant.stored in
       stored_next c.self.inside.book.ledger c.adopt.new.self.ledger c.args.plan c.changes-2.result.now
       c.self.invariant.good c.requires.key c.requires.command
       (subst (λ A. Fits A c.args.plan) same c.requires.fits) c.changes-2.ensures
@@ -66,10 +66,10 @@ returns-clause-answer g c =
     let r = c.args.plan.request in
     let place = c.place-place.ensures ∙ c.requires.fits.place in
     let next =
-        c.adopt.ensures.next
-        ∙ ap (λ (A : Ledger). accept A r) (c.make_room.ensures.same ∙ ap (λ d. d.ledger) c.self.view_is) in
+    c.adopt.ensures.next
+    ∙ ap (λ (A : Ledger). accept A r) (c.make_room.ensures.same ∙ ap (λ d. d.ledger) c.self.view_is) in
     subst (λ (x : ℕ × Ledger). Answers A r (Done x.0) x.1) (λ i. (sym place i, sym next i))
-        (accepted_answered A r c.requires.fits.accepted)
+    (accepted_answered A r c.requires.fits.accepted)
 
 pub invariant_of-self-in_default-commit : goal.invariant_of-self-in_default-commit
 invariant_of-self-in_default-commit g c = record {

@@ -12,5 +12,5 @@ invariant_of-result g c = record {
       (g.met.K.Keep.among c.over.result.keep) c.over.result.changes c.over.ensures.none c.self.inside.book.ledger
       (subst (λ k. IsStored (g.K.Keep.holds k) (g.K.Keep.leaves k) c.self.inside.book.ledger) (sym c.over.ensures.keep)
       (c.self.invariant.stored (sym c.over.ensures.stopped ∙ still)
-          (subst (λ k. g.K.Keep.is_honest k) c.over.ensures.keep honest)));
+      (subst (λ k. g.K.Keep.is_honest k) c.over.ensures.keep honest)));
 }

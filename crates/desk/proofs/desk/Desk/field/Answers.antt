@@ -7,6 +7,6 @@ use Rattle.desk.proofs.desk.Desk.field.Goals as goal
 pub returns : goal.returns
 returns g c =
     subst (λ d. MatchOption c.field.result (field_named d.ledger (name_of c.args.branch c.args.article) ≡ None)
-        (λ view.
-            IsSomeAnd (field_named d.ledger (name_of c.args.branch c.args.article)) (λ f. ShowsField d.ledger f view)))
-        c.self.view_is c.field.ensures
+    (λ view.
+    IsSomeAnd (field_named d.ledger (name_of c.args.branch c.args.article)) (λ f. ShowsField d.ledger f view)))
+    c.self.view_is c.field.ensures

@@ -72,7 +72,7 @@ returns-in-Err-Damaged-clause-unopened g c = record {
   not_a_desk = λ is. absurd (not_a_desk is);
   old_version = λ is. absurd (not_old is);
   stopped = λ is. elim is [
-    inl e ↦ absurd (not_the_store e)
+    | inl e ↦ absurd (not_the_store e)
     | inr more ↦ elim more [ inl e ↦ absurd (not_a_desk e) | inr e ↦ absurd (not_old e) ]
   ];
 }

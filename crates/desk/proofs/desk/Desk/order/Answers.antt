@@ -7,5 +7,5 @@ use Rattle.desk.proofs.desk.Desk.order.Goals as goal
 pub returns : goal.returns
 returns g c =
     subst (λ d. MatchOption c.order.result (order_numbered d.ledger c.args.number ≡ None)
-        (λ view. IsSomeAnd (order_numbered d.ledger c.args.number) (λ o. ShowsOrder o view))) c.self.view_is
-        c.order.ensures
+    (λ view. IsSomeAnd (order_numbered d.ledger c.args.number) (λ o. ShowsOrder o view))) c.self.view_is
+    c.order.ensures

@@ -22,7 +22,7 @@ pub returns-clause-whole : goal.returns-clause-whole
 returns-clause-whole g c is A stands =
     let all = rw (rest (c.args.first - 1) c.args.requests.now) at (c.run.ensures.all.0 is) in
     is_whole A _ c.args.requests.now c.args.first _ (returns-clause-resumed g c A stands)
-        (all_of c.args.requests.now c.args.first _ c.requires.counted c.requires.within all)
+    (all_of c.args.requests.now c.args.first _ c.requires.counted c.requires.within all)
 
 pub returns-clause-either : goal.returns-clause-either
 returns-clause-either g c going is honest A stands =
@@ -30,10 +30,10 @@ returns-clause-either g c going is honest A stands =
     let run = rw same at c.run.ensures.replies in
     let (next, after, either) = rw same at (c.run.ensures.either going is honest) in
     let apart = λ (e : length c.run.result.replies.items ≡ length (drop (c.args.first - 1) c.args.requests.now)).
-        ends_once (sym is ∙ c.run.ensures.all.1 (rw same e)) in
+    ends_once (sym is ∙ c.run.ensures.all.1 (rw same e)) in
     leaves_resumable A _ _ next c.args.requests.now c.args.first _ _ c.requires.counted
-        (not_all _ _ c.args.requests.now c.args.first _ c.requires.counted c.requires.within run apart) stands run after
-        either
+    (not_all _ _ c.args.requests.now c.args.first _ c.requires.counted c.requires.within run apart) stands run after
+    either
 
 pub returns-clause-replies : goal.returns-clause-replies
 returns-clause-replies g c =

@@ -1,5 +1,5 @@
-use Rattle.std.proofs.Common.{◌≡◌, ◌≢◌, ◌∙◌, ◌+◌, ◌++◌, ◌∷◌, ◌⊎◌, [], Err, List, ℕ, ap, drop, inl, inr, length, refl,
-    rules, subst, sym, take}
+use Rattle.std.proofs.Common.{◌≡◌, ◌≢◌, ◌∙◌, ◌+◌, ◌++◌, ◌∷◌, ◌⊎◌, [], Err, List, ℕ, ap, drop, inl, inr, length, refl}
+use Rattle.std.proofs.Common.{rules, subst, sym, take}
 use Rattle.std.proofs.lemmas.List.{drop_more, length-append, take_more}
 use Rattle.words.specs.declared.command.Request.{Request}
 use Rattle.words.specs.declared.reply.Reply.{Reply}
@@ -42,8 +42,8 @@ returns-in-Err-clause-either g c going is honest =
     ∙ take_more requests i r c.loop-request-test.true ∙ ap (λ (x : Request). take i requests ++ x ∷ []) (sym c.request-item.is) in
     let replies = c.loop-request.run.replies.items ++ Done (places M + 1) ∷ [] in
     let runs =
-        runs_on c.args.self.now.ledger M (accept M r) (take i requests) c.loop-request.run.replies.items r
-            (Done (places M + 1)) c.loop-request.invariant.0 (accepted_answered M r stops.accepted) in (
+    runs_on c.args.self.now.ledger M (accept M r) (take i requests) c.loop-request.run.replies.items r
+    (Done (places M + 1)) c.loop-request.invariant.0 (accepted_answered M r stops.accepted) in (
       accept M r,
       (replies, subst (λ (rs : List Request). Runs c.args.self.now.ledger rs replies (accept M r)) (sym longer) runs),
       subst (λ (L : Ledger). LeavesEither (g.K.Keep.leaves c.call_and_tell.new.self.keep) L (accept M r))
@@ -59,25 +59,25 @@ returns-in-Err-clause-accepted g c going is =
     let fault = c.ending_of-run.ensures.stopped.0 is in
     let stops = c.in-Err.ensures.either (ap (λ f. Err f) fault) (c.loop-request.invariant.2 ∙ going) in
     let count : length c.make_room.new.self.replies.items ≡ i =
-        ap (λ (xs : List Reply). length xs) c.make_room.ensures.replies ∙ c.loop-request.invariant.1 in
+    ap (λ (xs : List Reply). length xs) c.make_room.ensures.replies ∙ c.loop-request.invariant.1 in
     let next : take 1 (drop i requests) ≡ r ∷ [] =
-        ap (λ (xs : List Request). take 1 xs) (drop_more requests i r c.loop-request-test.true)
-        ∙ ap (λ (x : Request). x ∷ []) (sym c.request-item.is) in
+    ap (λ (xs : List Request). take 1 xs) (drop_more requests i r c.loop-request-test.true)
+    ∙ ap (λ (x : Request). x ∷ []) (sym c.request-item.is) in
     subst (λ (L : Ledger). HasAccepted L (take 1 (drop (length c.make_room.new.self.replies.items) requests)))
     (sym (c.in-Err.ensures.stopped (ap (λ f. Err f) fault)).1)
     (subst (λ n. HasAccepted c.loop-request.self.ledger (take 1 (drop n requests))) (sym count)
-        (subst (HasAccepted c.loop-request.self.ledger) (sym next) (inl stops.accepted)))
+    (subst (HasAccepted c.loop-request.self.ledger) (sym next) (inl stops.accepted)))
 
 pub returns-in_default-clause-stop : goal.returns-in_default-clause-stop
 returns-in_default-clause-stop g c = record {
   stopped = λ is. absurd (memory_is_no_stop is);
-  going = λ other. c.loop-request.invariant.2
+  going = λ other. c.loop-request.invariant.2;
 }
 
 pub returns-clause-stop : goal.returns-clause-stop
 returns-clause-stop g c = record {
   stopped = λ is. absurd (all_is_no_stop (sym c.loop-request.invariant.6 ∙ is));
-  going = λ other. c.loop-request.invariant.2
+  going = λ other. c.loop-request.invariant.2;
 }
 
 pub returns-in-Err-clause-replies : goal.returns-in-Err-clause-replies
@@ -93,25 +93,25 @@ returns-in-Err-clause-replies g c =
     (subst (λ (ps : List Reply). Runs L (take (length ps) rs) ps c.loop-request.self.ledger)
     (sym {A = List Reply} c.make_room.ensures.replies)
     (subst (λ n. Runs L (take n rs) c.loop-request.run.replies.items c.loop-request.self.ledger) (sym count)
-        c.loop-request.invariant.0))
+    c.loop-request.invariant.0))
 
 pub returns-in-Err-clause-lines : goal.returns-in-Err-clause-lines
 returns-in-Err-clause-lines g c =
     let L = c.args.self.now.ledger in
     let rs = c.args.requests.now in
     let count : length c.make_room.new.self.replies.items ≡ c.loop-request.request-index =
-        ap (λ (xs : List Reply). length xs) c.make_room.ensures.replies ∙ c.loop-request.invariant.1 in
+    ap (λ (xs : List Reply). length xs) c.make_room.ensures.replies ∙ c.loop-request.invariant.1 in
     let same : c.call_and_tell.new.self.ledger ≡ c.loop-request.self.ledger = elim (memory_or_stop c.in-Err.fault) [
       | inl is ↦ ap (λ d. d.ledger) (c.in-Err.ensures.memory (ap (λ f. Err f) is)).0
       | inr is ↦ (c.in-Err.ensures.stopped (ap (λ f. Err f) is)).1
     ] in
     subst (λ B. RepliesAll L (items_of (take (length c.make_room.new.self.replies.items) rs))
-        c.make_room.new.self.lines.items B) (sym same)
+    c.make_room.new.self.lines.items B) (sym same)
     (subst (λ (out : List ℕ).
-        RepliesAll L (items_of (take (length c.make_room.new.self.replies.items) rs)) out c.loop-request.self.ledger)
+    RepliesAll L (items_of (take (length c.make_room.new.self.replies.items) rs)) out c.loop-request.self.ledger)
     (sym {A = List ℕ} c.make_room.ensures.lines)
     (subst (λ n. RepliesAll L (items_of (take n rs)) c.loop-request.run.lines.items c.loop-request.self.ledger)
-        (sym count) c.loop-request.invariant.5))
+    (sym count) c.loop-request.invariant.5))
 
 pub loop-request-preserved : goal.loop-request-preserved
 loop-request-preserved g c =
@@ -134,10 +134,10 @@ loop-request-preserved g c =
       subst (λ (rs : List Request).
           Runs c.args.self.now.ledger rs c.push.new.self.replies.items c.call_and_tell.new.self.ledger) (sym longer)
           (subst (λ (ps : List Reply).
-              Runs c.args.self.now.ledger (take i requests ++ r ∷ []) ps c.call_and_tell.new.self.ledger) (sym told)
-              runs),
+          Runs c.args.self.now.ledger (take i requests ++ r ∷ []) ps c.call_and_tell.new.self.ledger) (sym told)
+          runs),
       ap (λ (xs : List Reply). length xs) told ∙ length-append c.loop-request.run.replies.items (reply ∷ [])
-      ∙ ap (λ n. n + 1) c.loop-request.invariant.1,
+          ∙ ap (λ n. n + 1) c.loop-request.invariant.1,
       search rules,
       search rules,
       goes_on _ _ _ _ c.loop-request.invariant.4 c.call_and_tell.ensures.goes,
@@ -145,9 +145,9 @@ loop-request-preserved g c =
           RepliesAll c.args.self.now.ledger (items_of rs) c.push.new.self.lines.items c.call_and_tell.new.self.ledger)
           (sym longer)
           (subst (λ (out : List ℕ). RepliesAll c.args.self.now.ledger (items_of (take i requests ++ r ∷ [])) out
-              c.call_and_tell.new.self.ledger) (sym lines)
+          c.call_and_tell.new.self.ledger) (sym lines)
           (lines_on c.args.self.now.ledger c.loop-request.self.ledger c.call_and_tell.new.self.ledger (take i requests)
-              r reply c.loop-request.run.lines.items c.loop-request.invariant.5 answer)),
+          r reply c.loop-request.run.lines.items c.loop-request.invariant.5 answer)),
       c.push.ensures.ending ∙ c.make_room.ensures.ending ∙ c.loop-request.invariant.6,
     )
 

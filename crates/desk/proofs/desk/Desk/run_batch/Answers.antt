@@ -13,17 +13,17 @@ use Rattle.desk.proofs.desk.Desk.run_batch.Goals.{in-Ok, in-Err}
 pub returns-then-is_empty-clause-kept : goal.returns-then-is_empty-clause-kept
 returns-then-is_empty-clause-kept g c other =
     subst (λ A. IsBatch A (take (length c.told.result.replies.items) c.args.requests.now) c.told.result.replies.items
-        c.plan_batch-batch.new.book.ledger) (ap (λ d. d.ledger) c.self.view_is)
+    c.plan_batch-batch.new.book.ledger) (ap (λ d. d.ledger) c.self.view_is)
     (batch_told c.self.inside.book.ledger c.plan_batch-batch.new.book.ledger c.args.requests.now _
-        c.told.result.replies.items c.plan_batch-batch.ensures.so_far c.told.ensures.replies)
+    c.told.result.replies.items c.plan_batch-batch.ensures.so_far c.told.ensures.replies)
 
 pub returns-then-is_empty-clause-lines : goal.returns-then-is_empty-clause-lines
 returns-then-is_empty-clause-lines g c other =
     subst (λ A. RepliesAll A (items_of (take (length c.told.result.replies.items) c.args.requests.now))
-        c.told.result.lines.items c.plan_batch-batch.new.book.ledger) (ap (λ d. d.ledger) c.self.view_is)
+    c.told.result.lines.items c.plan_batch-batch.new.book.ledger) (ap (λ d. d.ledger) c.self.view_is)
     (lines_told c.self.inside.book.ledger c.plan_batch-batch.new.book.ledger c.args.requests.now _
-        c.told.result.replies.items c.plan_batch-batch.ensures.so_far c.told.ensures.replies c.told.result.lines.items
-        c.told.ensures.lines)
+    c.told.result.replies.items c.plan_batch-batch.ensures.so_far c.told.ensures.replies c.told.result.lines.items
+    c.told.ensures.lines)
 
 pub returns-clause-kept : goal.returns-clause-kept
 returns-clause-kept g c other = elim c.match-commit.branch [
@@ -59,12 +59,12 @@ returns-clause-failed g c is = elim c.match-commit.branch [
         (batch_fails _ _ (g.K.Keep.holds c.self.inside.keep) c.args.requests.now _ c.deref.result.now
         c.plan_batch-batch.ensures.so_far c.plan_batch-batch.ensures.few c.self.invariant.good c.deref.ensures.value
         (λ none.
-            let empty : c.deref.result.now ≡ [] = none in
-            true≢false (sym (c.is_empty.ensures
-                ∙ ap (λ n. n == 0) (sym c.deref.ensures.len ∙ ap (λ (cs : List Change). length cs) empty))
-                ∙ c.if-is_empty.false))
+        let empty : c.deref.result.now ≡ [] = none in
+        true≢false (sym (c.is_empty.ensures
+        ∙ ap (λ n. n == 0) (sym c.deref.ensures.len ∙ ap (λ (cs : List Change). length cs) empty))
+        ∙ c.if-is_empty.false))
         (λ honest. c.self.invariant.stored
-            (subst (λ k. g.K.Keep.stopped k ≡ false) (sym (ap (λ d. d.keep) c.self.view_is)) c.requires) (c.commit.ensures.honest honest))
+        (subst (λ k. g.K.Keep.stopped k ≡ false) (sym (ap (λ d. d.keep) c.self.view_is)) c.requires) (c.commit.ensures.honest honest))
         (λ honest. c.commit.ensures.either honest (subst (λ k. g.K.Keep.stopped k ≡ false) (sym (ap (λ d. d.keep) c.self.view_is)) c.requires))),
   )
 ]

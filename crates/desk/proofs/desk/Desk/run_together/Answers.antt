@@ -5,8 +5,8 @@ use Rattle.words.specs.declared.reply.Reply.{Reply}
 use Rattle.desk.specs.Desk.{desk_state}
 use Rattle.desk.specs.Lists.{HasRoom}
 use Rattle.desk.specs.declared.run.Ending.TheVariants.{All, Stopped}
-use Rattle.desk.proofs.Batches.{batch_tells, fails_further, fewer_left, nothing_told, slice_is, some_unanswered,
-    tells_further, told_so_far}
+use Rattle.desk.proofs.Batches.{batch_tells, fails_further, fewer_left, nothing_told, slice_is, some_unanswered}
+use Rattle.desk.proofs.Batches.{tells_further, told_so_far}
 use Rattle.desk.proofs.GoesOn.{goes_on}
 use Rattle.desk.proofs.desk.Desk.run_together.Goals as goal
 
@@ -18,16 +18,16 @@ returns-then-is_empty-clause-replies g c =
 pub returns-then-is_stopped-clause-replies : goal.returns-then-is_stopped-clause-replies
 returns-then-is_stopped-clause-replies g c =
     let tells =
-        nothing_told c.args.self.now.ledger c.args.requests.now _ _ c.new-then-is_stopped.ensures.replies
-            c.new-then-is_stopped.ensures.lines in
+    nothing_told c.args.self.now.ledger c.args.requests.now _ _ c.new-then-is_stopped.ensures.replies
+    c.new-then-is_stopped.ensures.lines in
     (_, tells.0, (λ _. refl), tells.1)
 
 pub returns-in_default-clause-replies : goal.returns-in_default-clause-replies
 returns-in_default-clause-replies g c =
     let tells =
-        nothing_told c.args.self.now.ledger c.args.requests.now _ _
-            (c.make_room.ensures.replies ∙ c.new-run.ensures.replies)
-            (c.make_room.ensures.lines ∙ c.new-run.ensures.lines) in
+    nothing_told c.args.self.now.ledger c.args.requests.now _ _
+    (c.make_room.ensures.replies ∙ c.new-run.ensures.replies)
+    (c.make_room.ensures.lines ∙ c.new-run.ensures.lines) in
     (_, tells.0, (λ _. refl), tells.1)
 
 pub returns-then-ne-clause-replies : goal.returns-then-ne-clause-replies
@@ -40,8 +40,8 @@ returns-then-ne-clause-replies g c =
     c.loop-alloc.run.lines.items c.run_batch-batch.result.lines.items c.join.new.self.lines.items c.join.new.self.ending
     size c.loop-alloc.invariant.0 c.join.ensures.replies c.join.ensures.lines
     (λ going.
-        let went : c.run_batch-batch.result.ending ≢ Stopped = λ is. going (c.join.ensures.ending ∙ is) in
-        batch_tells _ _ c.args.requests.now c.len-in-loop-alloc.result _ _ (batch.kept went) (batch.lines went))
+    let went : c.run_batch-batch.result.ending ≢ Stopped = λ is. going (c.join.ensures.ending ∙ is) in
+    batch_tells _ _ c.args.requests.now c.len-in-loop-alloc.result _ _ (batch.kept went) (batch.lines went))
     (λ is. let failed = batch.failed (sym c.join.ensures.ending ∙ is) in (failed.0, failed.1))
 
 pub loop-alloc-preserved : goal.loop-alloc-preserved
@@ -55,9 +55,9 @@ loop-alloc-preserved g c =
     let going : c.run_batch-batch.result.ending ≢ Stopped = λ is. let both = sym all ∙ c.join.ensures.ending ∙ is in cc in
     let few = subst (λ (xs : List Request). length qs ≤ length xs) (slice_is rs c.len-in-loop-alloc.result) batch.few.0 in
     let dropped : length (drop c.len-in-loop-alloc.result rs) ≡ length rs - c.len-in-loop-alloc.result =
-        length-drop c.len-in-loop-alloc.result rs in
+    length-drop c.len-in-loop-alloc.result rs in
     let longer : length c.join.new.self.replies.items ≡ length ps + length qs =
-        ap (λ (xs : List Reply). length xs) c.join.ensures.replies ∙ length-append ps qs in
+    ap (λ (xs : List Reply). length xs) c.join.ensures.replies ∙ length-append ps qs in
     let (tells, within, room, going_before, goes, ending) = c.loop-alloc.invariant in
     let rest : length rs - length ps ≡ length qs + (length rs - length c.join.new.self.replies.items) = omega arith in (
       tells_further c.args.self.now.ledger c.loop-alloc.self.ledger c.run_batch-batch.new.self.ledger rs
@@ -66,9 +66,9 @@ loop-alloc-preserved g c =
       omega arith,
       c.join.ensures.room (length rs - length c.join.new.self.replies.items)
           (subst (λ n. HasRoom n c.loop-alloc.run)
-              (rest
-                  ∙ ap (λ n. n + (length rs - length c.join.new.self.replies.items))
-                      (sym c.run_batch-batch.result.replies.ok.0)) room),
+          (rest
+          ∙ ap (λ n. n + (length rs - length c.join.new.self.replies.items))
+          (sym c.run_batch-batch.result.replies.ok.0)) room),
       batch.stop.going going ∙ going_before,
       goes_on _ _ _ _ goes batch.goes,
       all,
@@ -103,5 +103,5 @@ loop-alloc-smaller g c =
     c.run_batch-batch.result.replies.items c.join.new.self.replies.items
     (c.len-in-loop-alloc.ensures ∙ c.loop-alloc.run.replies.ok.0) c.join.ensures.replies
     (subst (λ n. n < length c.args.requests.now) (c.len.ensures ∙ sym c.len-in-loop-alloc.ensures)
-        c.loop-alloc-test.true)
+    c.loop-alloc-test.true)
     (c.run_batch-batch.ensures.some (sym c.join.ensures.ending ∙ all))

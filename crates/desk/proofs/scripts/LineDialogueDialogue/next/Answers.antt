@@ -8,6 +8,8 @@ same_question : (a b : Item) → Question a ≡ Question b → a ≡ b
 same_question a b is = cc
 
 pub returns-in-Some-clause-question : goal.returns-in-Some-clause-question
-returns-in-Some-clause-question c question is read ended questions found =
-    (c.in-Some.item, same_question _ _ is,
-        (found.0, fed_next _ c.in-Some.item _ _ read ended questions c.in-Some.ensures.items found.1))
+returns-in-Some-clause-question c question is read ended questions found = (
+  c.in-Some.item,
+  same_question _ _ is,
+  (found.0, fed_next _ c.in-Some.item _ _ read ended questions c.in-Some.ensures.items found.1),
+)

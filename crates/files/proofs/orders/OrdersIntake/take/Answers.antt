@@ -11,8 +11,8 @@ returns-in_default-clause-fault c = λ bad rows took. no_row c.args.self.now.don
 pub returns-in_default-take-clause-good : goal.returns-in_default-take-clause-good
 returns-in_default-take-clause-good c = λ good rows took.
     took_first c.args.self.now.done.items c.args.self.now.last c.in_ok-begin.field-0 c.in-Some.row
-        (fields_of c.args.row.now) (sym c.take.ensures.value ∙ c.in_default-take.is) c.in_ok-begin.ensures
-        c.in-Some.ensures.some rows took
+    (fields_of c.args.row.now) (sym c.take.ensures.value ∙ c.in_default-take.is) c.in_ok-begin.ensures
+    c.in-Some.ensures.some rows took
 
 pub returns-then-has_key-clause-good : goal.returns-then-has_key-clause-good
 returns-then-has_key-clause-good c =
@@ -26,8 +26,8 @@ pub returns-then-has_key-clause-fault : goal.returns-then-has_key-clause-fault
 returns-then-has_key-clause-fault c =
     ok_imp c.go_on.result _ _ c.go_on.ensures.fault (λ good h bad rows took.
     no_line_more c.args.self.now.done.items c.args.self.now.last c.in-Some-take.order c.in-Some.row
-        (fields_of c.args.row.now) (sym c.take.ensures.value ∙ c.in-Some-take.is)
-        (sym (c.has_key.ensures.0 c.if-has_key.true)) (h bad) c.in-Some.ensures.some rows took)
+    (fields_of c.args.row.now) (sym c.take.ensures.value ∙ c.in-Some-take.is)
+    (sym (c.has_key.ensures.0 c.if-has_key.true)) (h bad) c.in-Some.ensures.some rows took)
 
 pub returns-clause-good : goal.returns-clause-good
 returns-clause-good c = λ good rows took.

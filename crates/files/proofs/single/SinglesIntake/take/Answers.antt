@@ -25,6 +25,6 @@ returns-clause-good g c =
           (zip_push g.S.Single.says rows c.args.self.now.requests.items (fields_of c.args.row.now)
           (under_key c.in-Some.said.0 c.in_ok-command.command) said
           (subst (λ (k : Command). g.S.Single.says (fields_of c.args.row.now) (under_key c.in-Some.said.0 k))
-              (sym c.in_ok-command.ensures) c.in-Some.ensures.some)))
+          (sym c.in_ok-command.ensures) c.in-Some.ensures.some)))
       | in-Err w ↦ rw w.result-is tt
     ]

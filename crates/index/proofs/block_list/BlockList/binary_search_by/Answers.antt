@@ -11,10 +11,11 @@ loop-low-preserved-in-Less g c = (
   search of_calls,
   λ ord h.
       let before = c.loop-low.invariant.3 ord h in
-      let now = answered g.F.FnMut ord _ _ _ _ (called g.F.FnMut c.f.ensures refl) before.0 in
-      (now.1,
-          behind ord c.args.self.now.items c.loop-low.low c.loop-low.high _ before.1 c.get.result.now c.get.ensures
-              (sym now.0 ∙ c.in-Less.is)),
+      let now = answered g.F.FnMut ord _ _ _ _ (called g.F.FnMut c.f.ensures refl) before.0 in (
+        now.1,
+        behind ord c.args.self.now.items c.loop-low.low c.loop-low.high _ before.1 c.get.result.now c.get.ensures
+            (sym now.0 ∙ c.in-Less.is),
+      ),
 )
 
 pub loop-low-preserved : goal.loop-low-preserved
@@ -24,10 +25,11 @@ loop-low-preserved g c = (
   search of_calls,
   λ ord h.
       let before = c.loop-low.invariant.3 ord h in
-      let now = answered g.F.FnMut ord _ _ _ _ (called g.F.FnMut c.f.ensures refl) before.0 in
-      (now.1,
-          in_front ord c.args.self.now.items c.loop-low.low c.loop-low.high _ before.1 c.get.result.now c.get.ensures
-              (sym now.0 ∙ c.in-Greater.is)),
+      let now = answered g.F.FnMut ord _ _ _ _ (called g.F.FnMut c.f.ensures refl) before.0 in (
+        now.1,
+        in_front ord c.args.self.now.items c.loop-low.low c.loop-low.high _ before.1 c.get.result.now c.get.ensures
+            (sym now.0 ∙ c.in-Greater.is),
+      ),
 )
 
 pub returns-in-Equal-clause-position : goal.returns-in-Equal-clause-position

@@ -12,13 +12,21 @@ pub returns-clause-fits : goal.returns-clause-fits
 returns-clause-fits g c =
     let blocks = map (λ b. b.items) c.self.inside.blocks.items in
     let filled = c.self.invariant.filled in
-    rw (← c.self.view_is) (omega (arith, length-joined c.self.inside.len blocks filled,
-        fits c.self.inside.len blocks filled, length-map c.self.inside.blocks.items (λ b. b.items),
-        c.self.inside.blocks.ok.0))
+    rw (← c.self.view_is) (omega (
+      arith,
+      length-joined c.self.inside.len blocks filled,
+      fits c.self.inside.len blocks filled,
+      length-map c.self.inside.blocks.items (λ b. b.items),
+      c.self.inside.blocks.ok.0,
+    ))
 
 pub returns-clause-small : goal.returns-clause-small
 returns-clause-small g c =
     let blocks = map (λ b. b.items) c.self.inside.blocks.items in
     let filled = c.self.invariant.filled in
-    rw (← c.self.view_is) (omega (arith, length-joined c.self.inside.len blocks filled,
-        fits c.self.inside.len blocks filled, c.self.invariant.few))
+    rw (← c.self.view_is) (omega (
+      arith,
+      length-joined c.self.inside.len blocks filled,
+      fits c.self.inside.len blocks filled,
+      c.self.invariant.few,
+    ))

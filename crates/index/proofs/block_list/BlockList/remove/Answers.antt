@@ -1,8 +1,8 @@
 use Rattle.std.proofs.Common.{deque_capacity}
 use Rattle.index.proofs.Prelude.{◌*◌, ◌+◌, ◌<◌, ◌∙◌, ◌≤◌, ap, arith, length, map, refl, subst, sym}
 use Rattle.index.proofs.Blocks.{is_index, is_within, length-joined}
-use Rattle.index.proofs.TakenOut.{begins, closes, goes_on, has_first, is_next, one_short, roomy, sizes_as_before,
-    sizes_stay, taken}
+use Rattle.index.proofs.TakenOut.{begins, closes, goes_on, has_first, is_next, one_short, roomy, sizes_as_before}
+use Rattle.index.proofs.TakenOut.{sizes_stay, taken}
 use Rattle.index.proofs.block_list.BlockList.remove.Goals as goal
 
 pub index_mut-requires : goal.index_mut-requires

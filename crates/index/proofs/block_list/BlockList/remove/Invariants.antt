@@ -8,7 +8,7 @@ abbrev pub invariant-loop-index : goal.invariant-loop-index
 invariant-loop-index g l =
     (let blocks = l.self-inside.blocks.items in
     IsClosingUp (remove l.fn.self.items l.fn.place) l.self-inside.len (map (λ b. b.items) blocks)
-        (map deque_capacity blocks) l.index)
+    (map deque_capacity blocks) l.index)
     × (l.self-inside.len ≡ l.initial.self-inside.len) × (vec_len l.self-inside.blocks ≡ vec_len l.initial.self-inside.blocks)
     × (vec_capacity l.self-inside.blocks ≡ vec_capacity l.initial.self-inside.blocks)
     × (map deque_capacity l.self-inside.blocks.items ≡ map deque_capacity l.initial.self-inside.blocks.items)

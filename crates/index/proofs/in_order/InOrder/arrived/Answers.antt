@@ -5,4 +5,4 @@ use Rattle.index.proofs.in_order.InOrder.arrived.Goals as goal
 pub returns : goal.returns
 returns g c =
     rw (← c.self.view_is)
-        (search (rules, same_entries c.self.inside.entries.items c.self.inside.order.items c.self.invariant.each_once))
+    (search (rules, same_entries c.self.inside.entries.items c.self.inside.order.items c.self.invariant.each_once))

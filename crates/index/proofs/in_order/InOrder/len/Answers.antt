@@ -7,8 +7,11 @@ returns g c =
     let inside = c.self.inside in
     record {
       len =
-          omega (arith, inside.entries.ok.0,
-              length_in_order inside.entries.items inside.order.items c.self.invariant.each_once,
-              ap (λ v. length v.entries) c.self.view_is);
+          omega (
+            arith,
+            inside.entries.ok.0,
+            length_in_order inside.entries.items inside.order.items c.self.invariant.each_once,
+            ap (λ v. length v.entries) c.self.view_is,
+          );
       rising = rw (← c.self.view_is) c.self.invariant.rising;
     }

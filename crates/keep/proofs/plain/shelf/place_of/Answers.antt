@@ -11,7 +11,7 @@ returns g c =
     let cells = g.R.TableRow.cells in
     let facts = c.binary_search_by.ensures in
     let found =
-        facts.position (λ x. key_cmp g.R.TableRow.which (cells x) (cells c.args.row.now))
-            (always_returns_same _ _ _ (λ a r f' k. search rules)) in
+    facts.position (λ x. key_cmp g.R.TableRow.which (cells x) (cells c.args.row.now))
+    (always_returns_same _ _ _ (λ a r f' k. search rules)) in
     searched_cells cells (key_cmp g.R.TableRow.which) (key_cmp_total g.R.TableRow.which) c.args.row.now
-        c.args.rows.now.items c.binary_search_by.result c.requires facts.bound found
+    c.args.rows.now.items c.binary_search_by.result c.requires facts.bound found

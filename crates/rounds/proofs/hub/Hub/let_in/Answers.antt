@@ -17,8 +17,8 @@ returns-in_default-admit-clause-served g c = λ first loss start now serving.
     let listen = listening_to g.C.Crowd in
     let was = subst (λ v. IsServing talk listen first loss start now v) (sym c.self.view_is) serving in
     let made =
-        c.make_place-place.ensures.served first loss start now
-            (waited_more talk listen first loss start now _ _ was c.next.new.self c.next.ensures) in
+    c.make_place-place.ensures.served first loss start now
+    (waited_more talk listen first loss start now _ _ was c.next.new.self c.next.ensures) in
     let here = subst (λ v. IsServing talk listen first loss start now v) (sym c.self-2.view_is) made in
     waited_more talk listen first loss start now _ _ here c.admit.new.self c.in_default-admit.ensures.err
 
@@ -28,8 +28,8 @@ returns-clause-served g c = λ first loss start now serving.
     let listen = listening_to g.C.Crowd in
     let was = subst (λ v. IsServing talk listen first loss start now v) (sym c.self.view_is) serving in
     let made =
-        c.make_place-place.ensures.served first loss start now
-            (waited_more talk listen first loss start now _ _ was c.next.new.self c.next.ensures) in
+    c.make_place-place.ensures.served first loss start now
+    (waited_more talk listen first loss start now _ _ was c.next.new.self c.next.ensures) in
     let here = subst (λ v. IsServing talk listen first loss start now v) (sym c.self-2.view_is) made in
     entered_more talk listen first loss start now _ _ here c.admit.new.self c.admit.new.stream _ c.in-Ok-admit.ensures.ok
     (λ visits reached. c.seat.ensures.reached loss start now visits reached)

@@ -10,5 +10,5 @@ returns-in-Err-2-clause-served g c = λ first loss start now serving.
     let listen = listening_to g.C.Crowd in
     let was = subst (λ v. IsServing talk listen first loss start now v) (sym c.self.view_is) serving in
     c.close.ensures.served first loss start now
-        (reached_more talk listen first loss start now _ _ was c.read.new.self
-            (λ visits reached. c.read.ensures.reached loss start now visits reached))
+    (reached_more talk listen first loss start now _ _ was c.read.new.self
+    (λ visits reached. c.read.ensures.reached loss start now visits reached))

@@ -10,7 +10,7 @@ abbrev pub invariant-loop-turn : goal.invariant-loop-turn
 invariant-loop-turn g l = record {
   served : (first : g.row.C.Denot) (start : Snapshot)
       → InService (speaks g.D.Dialogue g.C.Stream.Stream) (listening_to g.C.Crowd) g.K.Keep first start l.initial.desk
-          l.initial.self
+      l.initial.self
       → InService (speaks g.D.Dialogue g.C.Stream.Stream) (listening_to g.C.Crowd) g.K.Keep first start l.desk l.self;
   settled : l.desk.keep.changes ≡ [];
   size : length l.self.places.lines ≡ length l.initial.self.places.lines;

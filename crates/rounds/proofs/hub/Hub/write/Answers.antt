@@ -10,8 +10,8 @@ returns-in-Err-2-clause-served g c = λ first loss start now serving.
     let listen = listening_to g.C.Crowd in
     let was = subst (λ v. IsServing talk listen first loss start now v) (sym c.self.view_is) serving in
     c.close-in-Err-2.ensures.served first loss start now
-        (reached_more talk listen first loss start now _ _ was c.write.new.self
-            (λ visits reached. c.write.ensures.reached loss start now visits reached))
+    (reached_more talk listen first loss start now _ _ was c.write.new.self
+    (λ visits reached. c.write.ensures.reached loss start now visits reached))
 
 pub returns-in-Ok-Some-eq0-clause-served : goal.returns-in-Ok-Some-eq0-clause-served
 returns-in-Ok-Some-eq0-clause-served g c = λ first loss start now serving.
@@ -19,5 +19,5 @@ returns-in-Ok-Some-eq0-clause-served g c = λ first loss start now serving.
     let listen = listening_to g.C.Crowd in
     let was = subst (λ v. IsServing talk listen first loss start now v) (sym c.self.view_is) serving in
     c.close.ensures.served first loss start now
-        (reached_more talk listen first loss start now _ _ was c.write.new.self
-            (λ visits reached. c.write.ensures.reached loss start now visits reached))
+    (reached_more talk listen first loss start now _ _ was c.write.new.self
+    (λ visits reached. c.write.ensures.reached loss start now visits reached))

@@ -12,17 +12,17 @@ returns-in-Ok-answer-clause-turn g c = λ h said stands.
     let first = first_of_some g.D.Dialogue.asks v.waiting is.waiting c.requires.waits is.are_waiting in
     let waits = ap (λ v. v.waiting) c.self.view_is ∙ first.are in
     let held =
-        c.index.ensures
-        ∙ drop_first c.self.inside.answered c.self.inside.questions.items first.others first.held c.index.result.now
-            waits in
+    c.index.ensures
+    ∙ drop_first c.self.inside.answered c.self.inside.questions.items first.others first.held c.index.result.now
+    waits in
     let told =
-        c.in-Ok-answer.ensures.told first.question
-            (subst (λ p. g.D.Dialogue.asks p first.question) (sym held) first.asked) in
+    c.in-Ok-answer.ensures.told first.question
+    (subst (λ p. g.D.Dialogue.asks p first.question) (sym held) first.asked) in
     let s : Said g.D.Dialogue.Asked g.D.Dialogue.Told = record {
       connection = v.connection;
       question = first.question;
       kind = told.kind;
-      answer = told.answer
+      answer = told.answer;
     } in (
       s,
       refl,
@@ -30,7 +30,7 @@ returns-in-Ok-answer-clause-turn g c = λ h said stands.
       told_answered talk g.met.D.Dialogue.settled v h said is first s refl,
       λ there. heard_answered talk v c.hide.new.self h said c.requires.asks c.requires.quiet is first s refl
           (hidden_so talk _ v c.hide.new.self _ _ _ c.self.view_is c.reserve.ensures.items told.text_is
-              (c.hide.ensures.hidden there)),
+          (c.hide.ensures.hidden there)),
     )
 
 pub returns-in-Err-Memory-clause-turn : goal.returns-in-Err-Memory-clause-turn
@@ -41,11 +41,12 @@ returns-in-Err-Memory-clause-turn g c = λ h said stands.
     let first = first_of_some g.D.Dialogue.asks v.waiting is.waiting c.requires.waits is.are_waiting in
     let waits = ap (λ v. v.waiting) c.self.view_is ∙ first.are in
     let held =
-        c.index.ensures
-        ∙ drop_first c.self.inside.answered c.self.inside.questions.items first.others first.held c.index.result.now
-            waits in
+    c.index.ensures
+    ∙ drop_first c.self.inside.answered c.self.inside.questions.items first.others first.held c.index.result.now
+    waits in
     let fails =
-        c.in-Err-Memory.ensures.fails first.question
-            (subst (λ p. g.D.Dialogue.asks p first.question) (sym held) first.asked) in
-    (memory_same g.D.Dialogue.language c.in-Err-Memory.field-0 _ first.question _ c.in-Err-Memory.field-0-is fails,
-        λ there. absurd (there refl))
+    c.in-Err-Memory.ensures.fails first.question
+    (subst (λ p. g.D.Dialogue.asks p first.question) (sym held) first.asked) in (
+      memory_same g.D.Dialogue.language c.in-Err-Memory.field-0 _ first.question _ c.in-Err-Memory.field-0-is fails,
+      λ there. absurd (there refl),
+    )

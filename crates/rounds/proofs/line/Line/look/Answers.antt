@@ -14,14 +14,14 @@ returns-in-Question-clause-heard g c = λ h said stands there.
     let asks : here.phase ≡ Asks = search rules in
     let is = subst (λ v. Stands talk v h said) (sym c.self.view_is) stands (λ gone. absurd (cc (asks, gone))) in
     let none : drop here.answered here.questions.items ≡ [] =
-        ap (λ v. v.waiting) c.self.view_is ∙ c.has_question.ensures.none c.if-has_question.false in
+    ap (λ v. v.waiting) c.self.view_is ∙ c.has_question.ensures.none c.if-has_question.false in
     let items = c.push_back_reserved.ensures.items ∙ ap (λ xs. xs ++ c.in-Question.question ∷ []) c.reserve.ensures.items in
     heard_found talk _ _ h said c.in-Question.question is none
     (ap (take here.answered) items
-        ∙ take_front here.answered here.questions.items (c.in-Question.question ∷ []) c.self.invariant.0)
+    ∙ take_front here.answered here.questions.items (c.in-Question.question ∷ []) c.self.invariant.0)
     (ap (drop here.answered) items
-        ∙ drop_front here.answered here.questions.items (c.in-Question.question ∷ []) c.self.invariant.0
-        ∙ ap (λ xs. xs ++ c.in-Question.question ∷ []) none)
+    ∙ drop_front here.answered here.questions.items (c.in-Question.question ∷ []) c.self.invariant.0
+    ∙ ap (λ xs. xs ++ c.in-Question.question ∷ []) none)
     refl refl asks (c.in-Question.ensures.question c.in-Question.question refl)
 
 pub returns-in-More-clause-heard : goal.returns-in-More-clause-heard
@@ -31,12 +31,12 @@ returns-in-More-clause-heard g c = λ h said stands there.
     let asks : here.phase ≡ Asks = search rules in
     let is = subst (λ v. Stands talk v h said) (sym c.self.view_is) stands (λ gone. absurd (cc (asks, gone))) in
     let none : drop here.answered here.questions.items ≡ [] =
-        ap (λ v. v.waiting) c.self.view_is ∙ c.has_question.ensures.none c.if-has_question.false in
+    ap (λ v. v.waiting) c.self.view_is ∙ c.has_question.ensures.none c.if-has_question.false in
     heard_paused talk _ _ h said is none (ap (take here.answered) c.reserve.ensures.items)
     (ap (drop here.answered) c.reserve.ensures.items) refl refl
     (λ read ended questions found.
-        let (still, going, come) = c.in-More.ensures.more refl read ended questions found in
-        (still, λ wants. (going, come), λ over. absurd (cc)))
+    let (still, going, come) = c.in-More.ensures.more refl read ended questions found in
+    (still, λ wants. (going, come), λ over. absurd (cc)))
 
 pub returns-in-Over-clause-heard : goal.returns-in-Over-clause-heard
 returns-in-Over-clause-heard g c = λ h said stands there.
@@ -45,9 +45,9 @@ returns-in-Over-clause-heard g c = λ h said stands there.
     let asks : here.phase ≡ Asks = search rules in
     let is = subst (λ v. Stands talk v h said) (sym c.self.view_is) stands (λ gone. absurd (cc (asks, gone))) in
     let none : drop here.answered here.questions.items ≡ [] =
-        ap (λ v. v.waiting) c.self.view_is ∙ c.has_question.ensures.none c.if-has_question.false in
+    ap (λ v. v.waiting) c.self.view_is ∙ c.has_question.ensures.none c.if-has_question.false in
     heard_paused talk _ _ h said is none (ap (take here.answered) c.reserve.ensures.items)
     (ap (drop here.answered) c.reserve.ensures.items) refl refl
     (λ read ended questions found.
-        let (still, are, ends) = c.in-Over.ensures.over refl read ended questions found in
-        (still, λ wants. absurd (cc), λ over. (are, ends)))
+    let (still, are, ends) = c.in-Over.ensures.over refl read ended questions found in
+    (still, λ wants. absurd (cc), λ over. (are, ends)))

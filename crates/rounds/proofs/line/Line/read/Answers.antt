@@ -15,14 +15,14 @@ returns-in-Ok-clause-came g c =
       connection = ap (λ v. v.connection) c.self.view_is;
       reads =
           subst (λ v. Consumes (g.S.Stream.remaining v.stream) (g.S.Stream.remaining c.read_piece.new.self) bytes)
-              c.self.view_is c.in_ok-count.ensures.bytes.0;
+          c.self.view_is c.in_ok-count.ensures.bytes.0;
       writes =
           subst (λ v. Keeps (g.S.Stream.contents v.stream) (g.S.Stream.contents c.read_piece.new.self)) c.self.view_is
-              c.read_piece.ensures.others;
+          c.read_piece.ensures.others;
       stands = λ h is there. heard_piece talk _ _ h bytes wants refl
           (subst (λ v. IsHeard talk v h []) (sym c.self.view_is) is) refl refl refl refl
           (λ read questions found come. subst (λ xs.
-              g.D.Dialogue.has_found c.take_in.new.self (read ++ xs) (is_end xs) questions) c.front_of.ensures
+          g.D.Dialogue.has_found c.take_in.new.self (read ++ xs) (is_end xs) questions) c.front_of.ensures
           (c.in-Ok.ensures.taken read questions found come));
     }
 
@@ -33,9 +33,9 @@ returns-in-Err-clause-came g c =
       connection = ap (λ v. v.connection) c.self.view_is;
       reads =
           subst (λ v. Consumes (g.S.Stream.remaining v.stream) (g.S.Stream.remaining c.read_piece.new.self) bytes)
-              c.self.view_is c.in_ok-count.ensures.bytes.0;
+          c.self.view_is c.in_ok-count.ensures.bytes.0;
       writes =
           subst (λ v. Keeps (g.S.Stream.contents v.stream) (g.S.Stream.contents c.read_piece.new.self)) c.self.view_is
-              c.read_piece.ensures.others;
+          c.read_piece.ensures.others;
       stands = λ h is there. absurd (there refl);
     }

@@ -16,7 +16,7 @@ returns-clause-free g c =
     let x = c.index_mut.result.now in
     let within = subst (λ v. c.args.place < length v.lines) (sym c.self.view_is) c.requires.place in
     let is_there : slice_get items c.args.place ≡ Some x =
-        slice_get_read items (length items) c.args.place x refl within c.index_mut.ensures.value in
+    slice_get_read items (length items) c.args.place x refl within c.index_mut.ensures.value in
     get_set items c.args.place x c.take-line.new.self is_there ∙ ap Some c.take-line.ensures.after
 
 pub returns-clause-left : goal.returns-clause-left
@@ -27,19 +27,19 @@ returns-clause-left g c =
     let x = c.index_mut.result.now in
     let within = subst (λ v. c.args.place < length v.lines) (sym c.self.view_is) c.requires.place in
     let is_there : slice_get items c.args.place ≡ Some x =
-        slice_get_read items (length items) c.args.place x refl within c.index_mut.ensures.value in
+    slice_get_read items (length items) c.args.place x refl within c.index_mut.ensures.value in
     let left = has_left talk (record { lines = items; connections = here.connections }) c.args.place x c.stream_of.result is_there
     (c.stream_of.ensures ∙ ap (λ o. option_map (λ l. l.stream) o) c.take-line.ensures.value) in
     let gone =
-        subst (λ o. IfSome c.stream_of.result
-            (λ stream. (loss : Option Loss) (start now : Snapshot) (visits : List (Visit g.row.S.Denot))
+    subst (λ o. IfSome c.stream_of.result
+    (λ stream. (loss : Option Loss) (start now : Snapshot) (visits : List (Visit g.row.S.Denot))
     → IsReached talk loss start now visits (record { lines = items; connections = here.connections })
     → (connection : ℕ) × (first : g.row.S.Denot) × (slice_get visits connection ≡ Some (visit_of first))
     × IsReached talk loss start now (set visits connection (record { came = first; left = Some stream }))
-        (record { lines = set items c.args.place o; connections = here.connections })))
+    (record { lines = set items c.args.place o; connections = here.connections })))
     (sym c.take-line.ensures.after) left in
     subst (λ v. IfSome c.stream_of.result
-        (λ stream. (loss : Option Loss) (start now : Snapshot) (visits : List (Visit g.row.S.Denot))
+    (λ stream. (loss : Option Loss) (start now : Snapshot) (visits : List (Visit g.row.S.Denot))
     → IsReached talk loss start now visits v
     → (connection : ℕ) × (first : g.row.S.Denot) × (slice_get visits connection ≡ Some (visit_of first))
     × IsReached talk loss start now (set visits connection (record { came = first; left = Some stream }))
@@ -56,9 +56,9 @@ invariant_of-self g c =
     let x = c.index_mut.result.now in
     let within = subst (λ v. c.args.place < length v.lines) (sym c.self.view_is) c.requires.place in
     let is_there : slice_get items c.args.place ≡ Some x =
-        slice_get_read items (length items) c.args.place x refl within c.index_mut.ensures.value in
+    slice_get_read items (length items) c.args.place x refl within c.index_mut.ensures.value in
     taken_set c.self.inside.unused items c.args.place x c.take-line.new.self is_there
-        (λ none. c.take-line.ensures.after) c.self.invariant
+    (λ none. c.take-line.ensures.after) c.self.invariant
 
 pub returns-clause-none : goal.returns-clause-none
 returns-clause-none g c =
@@ -67,11 +67,11 @@ returns-clause-none g c =
     let x = c.index_mut.result.now in
     let within = subst (λ v. c.args.place < length v.lines) (sym c.self.view_is) c.requires.place in
     let is_there : slice_get items c.args.place ≡ Some x =
-        slice_get_read items (length items) c.args.place x refl within c.index_mut.ensures.value in
+    slice_get_read items (length items) c.args.place x refl within c.index_mut.ensures.value in
     let stays = nobody_left (λ l. l.stream) items here.connections c.args.place x c.stream_of.result is_there
     (c.stream_of.ensures ∙ ap (λ o. option_map (λ l. l.stream) o) c.take-line.ensures.value) in
     let gone = subst (λ o.
-        IfNone c.stream_of.result (placed (set items c.args.place o) here.connections ≡ placed items here.connections))
+    IfNone c.stream_of.result (placed (set items c.args.place o) here.connections ≡ placed items here.connections))
     (sym c.take-line.ensures.after) stays in
     subst (λ v. IfNone c.stream_of.result (placed (set items c.args.place c.take-line.new.self) here.connections ≡ v))
-        c.self.view_is gone
+    c.self.view_is gone

@@ -15,10 +15,10 @@ returns-clause-reached g c = λ loss start now visits r.
     let x = c.index_mut.result.now in
     let within = subst (λ v. c.args.place < length v.lines) (sym c.self.view_is) c.requires.place in
     let is_there : slice_get items c.args.place ≡ Some x =
-        slice_get_read items (length items) c.args.place x refl within c.index_mut.ensures.value in
+    slice_get_read items (length items) c.args.place x refl within c.index_mut.ensures.value in
     reach_looked talk loss start now visits _
-        (subst (λ v. IsReached talk loss start now visits v) (sym c.self.view_is) r) c.args.place x c.look_at.new.line
-        is_there c.look_at.ensures.looked
+    (subst (λ v. IsReached talk loss start now visits v) (sym c.self.view_is) r) c.args.place x c.look_at.new.line
+    is_there c.look_at.ensures.looked
 
 pub invariant_of-self : goal.invariant_of-self
 invariant_of-self g c =
@@ -26,7 +26,7 @@ invariant_of-self g c =
     let x = c.index_mut.result.now in
     let within = subst (λ v. c.args.place < length v.lines) (sym c.self.view_is) c.requires.place in
     let is_there : slice_get items c.args.place ≡ Some x =
-        slice_get_read items (length items) c.args.place x refl within c.index_mut.ensures.value in
+    slice_get_read items (length items) c.args.place x refl within c.index_mut.ensures.value in
     taken_set c.self.inside.unused items c.args.place x c.look_at.new.line is_there
     (looked_none (speaks g.D.Dialogue g.S.Stream) x c.look_at.new.line c.look_at.ensures.looked) c.self.invariant
 

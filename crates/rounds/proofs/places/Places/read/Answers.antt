@@ -15,7 +15,7 @@ returns-clause-reached g c = λ loss start now visits r.
     let x = c.index_mut.result.now in
     let within = subst (λ v. c.args.place < length v.lines) (sym c.self.view_is) c.requires.place in
     let is_there : slice_get items c.args.place ≡ Some x =
-        slice_get_read items (length items) c.args.place x refl within c.index_mut.ensures.value in
+    slice_get_read items (length items) c.args.place x refl within c.index_mut.ensures.value in
     reach_read talk loss start now visits _ (subst (λ v. IsReached talk loss start now visits v) (sym c.self.view_is) r)
     c.read_at.result c.read_at.new.piece c.args.place x c.read_at.new.line is_there c.read_at.ensures
 
@@ -25,10 +25,10 @@ invariant_of-self g c =
     let x = c.index_mut.result.now in
     let within = subst (λ v. c.args.place < length v.lines) (sym c.self.view_is) c.requires.place in
     let is_there : slice_get items c.args.place ≡ Some x =
-        slice_get_read items (length items) c.args.place x refl within c.index_mut.ensures.value in
+    slice_get_read items (length items) c.args.place x refl within c.index_mut.ensures.value in
     taken_set c.self.inside.unused items c.args.place x c.read_at.new.line is_there
     (read_none (speaks g.D.Dialogue g.S.Stream) c.read_at.result c.read_at.new.piece x c.read_at.new.line
-        c.read_at.ensures) c.self.invariant
+    c.read_at.ensures) c.self.invariant
 
 pub returns-clause-others : goal.returns-clause-others
 returns-clause-others g c = λ other ne.

@@ -23,16 +23,16 @@ returns-in-Ok-clause-told g c = λ loss start visits r.
     let heard = heard_in was.history in
     let seats = subst (λ xs. AtEach SameAt xs ask.new.lines) c.deref_mut.ensures.value ask.ensures.seats in
     let asked =
-        ask.ensures.asked heard old (subst (λ xs. InRound talk old old xs heard) (sym c.deref_mut.ensures.value)
-            (round_begins talk loss start old visits _ was)) in
+    ask.ensures.asked heard old (subst (λ xs. InRound talk old old xs heard) (sym c.deref_mut.ensures.value)
+    (round_begins talk loss start old visits _ was)) in
     let round =
-        subst (λ s. InRound talk old s ask.new.lines heard)
-            (λ i. record { ledger = sym c.settle_round.ensures.ledger i; is_stopped = sym c.in-Ok.ensures.ok.0 i })
-            asked in
+    subst (λ s. InRound talk old s ask.new.lines heard)
+    (λ i. record { ledger = sym c.settle_round.ensures.ledger i; is_stopped = sym c.in-Ok.ensures.ok.0 i })
+    asked in
     let size_asked : length ask.new.lines ≡ len = each_size SameAt _ _ ask.ensures.seats ∙ c.deref_mut.ensures.len in
     let mid = take len (ask.new.lines ++ drop (length ask.new.lines) items) in
     let same : c.deref_mut-in-Ok.result.now ≡ ask.new.lines =
-        c.deref_mut-in-Ok.ensures.value ∙ whole_back len ask.new.lines (drop (length ask.new.lines) items) size_asked in
+    c.deref_mut-in-Ok.ensures.value ∙ whole_back len ask.new.lines (drop (length ask.new.lines) items) size_asked in
     let shown = subst (λ xs. AtEach (IsShown talk) xs c.show_all.new.lines) same c.show_all.ensures in
     let size_last : length c.show_all.new.lines ≡ len = each_size (IsShown talk) _ _ shown ∙ size_asked in
     let still : old.is_stopped ≡ true → new ≡ old = λ halted. λ i. record {
@@ -62,15 +62,15 @@ returns-in-Err-clause-lost g c =
     let new = c.settle_round.new.desk in
     let A = c.args.desk.now.ledger in
     let going =
-        going_before c.args.desk.now ask c.is_stopped-was_stopped.result c.is_stopped-was_stopped.ensures.stopped
-            c.ask_all-self-inside.ensures.off c.requires.settled c.in-Err.ensures.err.1 in
+    going_before c.args.desk.now ask c.is_stopped-was_stopped.result c.is_stopped-was_stopped.ensures.stopped
+    c.ask_all-self-inside.ensures.off c.requires.settled c.in-Err.ensures.err.1 in
     let same = c.ask_all-self-inside.ensures.off.keep in
     let still : g.K.Keep.is_honest new.keep.keep
-        → IsStored (g.K.Keep.holds ask.keep.keep) (g.K.Keep.leaves ask.keep.keep) A =
-        λ honest.
+    → IsStored (g.K.Keep.holds ask.keep.keep) (g.K.Keep.leaves ask.keep.keep) A =
+    λ honest.
     subst (λ k. IsStored (g.K.Keep.holds k) (g.K.Keep.leaves k) A) (sym same)
     (c.is_kept.ensures.stored c.requires.settled going
-        (subst (λ k. g.K.Keep.is_honest k) same (c.settle_round.ensures.honest honest))) in (
+    (subst (λ k. g.K.Keep.is_honest k) same (c.settle_round.ensures.honest honest))) in (
       going,
       c.in-Err.ensures.err.0,
       by_test ask.keep.stopped
@@ -95,8 +95,8 @@ returns-in-Err-clause-untold g c = λ loss start visits r.
     let len = c.self.inside.lines.len in
     let ask = c.ask_all-self-inside in
     let going =
-        going_before c.args.desk.now ask.new.desk c.is_stopped-was_stopped.result
-            c.is_stopped-was_stopped.ensures.stopped ask.ensures.off c.requires.settled c.in-Err.ensures.err.1 in
+    going_before c.args.desk.now ask.new.desk c.is_stopped-was_stopped.result
+    c.is_stopped-was_stopped.ensures.stopped ask.ensures.off c.requires.settled c.in-Err.ensures.err.1 in
     let old = snapshot_off c.args.desk.now in
     let last = snapshot_off ask.new.desk in
     let new = snapshot_off c.settle_round.new.desk in
@@ -104,25 +104,25 @@ returns-in-Err-clause-untold g c = λ loss start visits r.
     let heard = heard_in was.history in
     let seats = subst (λ xs. AtEach SameAt xs ask.new.lines) c.deref_mut.ensures.value ask.ensures.seats in
     let round =
-        ask.ensures.asked heard old (subst (λ xs. InRound talk old old xs heard) (sym c.deref_mut.ensures.value)
-            (round_begins talk loss start old visits _ was)) in
+    ask.ensures.asked heard old (subst (λ xs. InRound talk old old xs heard) (sym c.deref_mut.ensures.value)
+    (round_begins talk loss start old visits _ was)) in
     let size_asked : length ask.new.lines ≡ len = each_size SameAt _ _ ask.ensures.seats ∙ c.deref_mut.ensures.len in
     let mid = take len (ask.new.lines ++ drop (length ask.new.lines) items) in
     let same : c.deref_mut-in-Err.result.now ≡ ask.new.lines =
-        c.deref_mut-in-Err.ensures.value
-        ∙ whole_back len ask.new.lines (drop (length ask.new.lines) items) size_asked in
+    c.deref_mut-in-Err.ensures.value
+    ∙ whole_back len ask.new.lines (drop (length ask.new.lines) items) size_asked in
     let left = subst (λ xs. AtEach (IsForgotten talk) xs c.forget_all.new.lines) same c.forget_all.ensures in
     let size_last : length c.forget_all.new.lines ≡ len = each_size (IsForgotten talk) _ _ left ∙ size_asked in
     let loses = ap (λ B. Some (record { before = c.args.desk.now.ledger; behind = B })) c.settle_round.ensures.ledger in
     let stopped : new ≡ stopped_at last.ledger = λ i. record {
       ledger = c.settle_round.ensures.ledger i;
-      is_stopped = c.in-Err.ensures.err.0 i
+      is_stopped = c.in-Err.ensures.err.0 i;
     } in
     subst (λ xs. IsReached talk (Some (lost_between old new)) start new visits
-        (record { lines = xs; connections = c.self.inside.connections }))
+    (record { lines = xs; connections = c.self.inside.connections }))
     (sym (whole_back len c.forget_all.new.lines (drop (length c.forget_all.new.lines) mid) size_last))
     (round_lost talk loss start old visits _ was (Some (lost_between old new)) new last ask.new.lines
-        c.forget_all.new.lines going loses stopped seats round left)
+    c.forget_all.new.lines going loses stopped seats round left)
 
 pub returns-in-Ok-clause-honest : goal.returns-in-Ok-clause-honest
 returns-in-Ok-clause-honest g c = λ honest.
@@ -142,15 +142,15 @@ returns-in-Ok-clause-seats g c =
     let size_asked : length ask.new.lines ≡ len = each_size SameAt _ _ ask.ensures.seats ∙ c.deref_mut.ensures.len in
     let mid = take len (ask.new.lines ++ drop (length ask.new.lines) items) in
     let same : c.deref_mut-in-Ok.result.now ≡ ask.new.lines =
-        c.deref_mut-in-Ok.ensures.value ∙ whole_back len ask.new.lines (drop (length ask.new.lines) items) size_asked in
+    c.deref_mut-in-Ok.ensures.value ∙ whole_back len ask.new.lines (drop (length ask.new.lines) items) size_asked in
     let then = subst (λ xs. AtEach (IsShown talk) xs c.show_all.new.lines) same c.show_all.ensures in
     let size_last : length c.show_all.new.lines ≡ len = each_size (IsShown talk) _ _ then ∙ size_asked in
     let all =
-        each_on SameAt seat_on items ask.new.lines c.show_all.new.lines seats
-            (each_so (IsShown talk) SameAt (seat_shown talk) _ _ then) in
+    each_on SameAt seat_on items ask.new.lines c.show_all.new.lines seats
+    (each_so (IsShown talk) SameAt (seat_shown talk) _ _ then) in
     subst (λ v. AtEach SameAt v.lines (take len (c.show_all.new.lines ++ drop (length c.show_all.new.lines) mid))) c.self.view_is
     (subst (λ xs. AtEach SameAt items xs)
-        (sym (whole_back len c.show_all.new.lines (drop (length c.show_all.new.lines) mid) size_last)) all)
+    (sym (whole_back len c.show_all.new.lines (drop (length c.show_all.new.lines) mid) size_last)) all)
 
 pub returns-in-Err-clause-seats : goal.returns-in-Err-clause-seats
 returns-in-Err-clause-seats g c =
@@ -162,17 +162,17 @@ returns-in-Err-clause-seats g c =
     let size_asked : length ask.new.lines ≡ len = each_size SameAt _ _ ask.ensures.seats ∙ c.deref_mut.ensures.len in
     let mid = take len (ask.new.lines ++ drop (length ask.new.lines) items) in
     let same : c.deref_mut-in-Err.result.now ≡ ask.new.lines =
-        c.deref_mut-in-Err.ensures.value
-        ∙ whole_back len ask.new.lines (drop (length ask.new.lines) items) size_asked in
+    c.deref_mut-in-Err.ensures.value
+    ∙ whole_back len ask.new.lines (drop (length ask.new.lines) items) size_asked in
     let then = subst (λ xs. AtEach (IsForgotten talk) xs c.forget_all.new.lines) same c.forget_all.ensures in
     let size_last : length c.forget_all.new.lines ≡ len = each_size (IsForgotten talk) _ _ then ∙ size_asked in
     let all =
-        each_on SameAt seat_on items ask.new.lines c.forget_all.new.lines seats
-            (each_so (IsForgotten talk) SameAt (seat_forgotten talk) _ _ then) in
+    each_on SameAt seat_on items ask.new.lines c.forget_all.new.lines seats
+    (each_so (IsForgotten talk) SameAt (seat_forgotten talk) _ _ then) in
     subst (λ v. AtEach SameAt v.lines (take len (c.forget_all.new.lines ++ drop (length c.forget_all.new.lines) mid)))
     c.self.view_is
     (subst (λ xs. AtEach SameAt items xs)
-        (sym (whole_back len c.forget_all.new.lines (drop (length c.forget_all.new.lines) mid) size_last)) all)
+    (sym (whole_back len c.forget_all.new.lines (drop (length c.forget_all.new.lines) mid) size_last)) all)
 
 pub show_all-requires-clause-before : goal.show_all-requires-clause-before
 show_all-requires-clause-before g c =
@@ -182,9 +182,9 @@ show_all-requires-clause-before g c =
     let seats = subst (λ xs. AtEach SameAt xs ask.new.lines) c.deref_mut.ensures.value ask.ensures.seats in
     let size_asked : length ask.new.lines ≡ len = each_size SameAt _ _ ask.ensures.seats ∙ c.deref_mut.ensures.len in
     let same : c.deref_mut-in-Ok.result.now ≡ ask.new.lines =
-        c.deref_mut-in-Ok.ensures.value ∙ whole_back len ask.new.lines (drop (length ask.new.lines) items) size_asked in
+    c.deref_mut-in-Ok.ensures.value ∙ whole_back len ask.new.lines (drop (length ask.new.lines) items) size_asked in
     subst (λ xs. AreBefore c.self.inside.unused xs) (sym same)
-        (before_each c.self.inside.unused items ask.new.lines seats c.self.invariant.1)
+    (before_each c.self.inside.unused items ask.new.lines seats c.self.invariant.1)
 
 pub invariant_of-self : goal.invariant_of-self
 invariant_of-self g c =
@@ -196,12 +196,12 @@ invariant_of-self g c =
     let size_asked : length ask.new.lines ≡ len = each_size SameAt _ _ ask.ensures.seats ∙ c.deref_mut.ensures.len in
     let mid = take len (ask.new.lines ++ drop (length ask.new.lines) items) in
     let same : c.deref_mut-in-Ok.result.now ≡ ask.new.lines =
-        c.deref_mut-in-Ok.ensures.value ∙ whole_back len ask.new.lines (drop (length ask.new.lines) items) size_asked in
+    c.deref_mut-in-Ok.ensures.value ∙ whole_back len ask.new.lines (drop (length ask.new.lines) items) size_asked in
     let then = subst (λ xs. AtEach (IsShown talk) xs c.show_all.new.lines) same c.show_all.ensures in
     let size_last : length c.show_all.new.lines ≡ len = each_size (IsShown talk) _ _ then ∙ size_asked in
     let all =
-        each_on SameAt seat_on items ask.new.lines c.show_all.new.lines seats
-            (each_so (IsShown talk) SameAt (seat_shown talk) _ _ then) in
+    each_on SameAt seat_on items ask.new.lines c.show_all.new.lines seats
+    (each_so (IsShown talk) SameAt (seat_shown talk) _ _ then) in
     subst (λ xs. (c.self.inside.unused ≤ length xs) × AreBefore c.self.inside.unused xs)
     (sym (whole_back len c.show_all.new.lines (drop (length c.show_all.new.lines) mid) size_last))
     (taken_each c.self.inside.unused items c.show_all.new.lines all c.self.invariant)
@@ -214,10 +214,10 @@ forget_all-requires-clause-before g c =
     let seats = subst (λ xs. AtEach SameAt xs ask.new.lines) c.deref_mut.ensures.value ask.ensures.seats in
     let size_asked : length ask.new.lines ≡ len = each_size SameAt _ _ ask.ensures.seats ∙ c.deref_mut.ensures.len in
     let same : c.deref_mut-in-Err.result.now ≡ ask.new.lines =
-        c.deref_mut-in-Err.ensures.value
-        ∙ whole_back len ask.new.lines (drop (length ask.new.lines) items) size_asked in
+    c.deref_mut-in-Err.ensures.value
+    ∙ whole_back len ask.new.lines (drop (length ask.new.lines) items) size_asked in
     subst (λ xs. AreBefore c.self.inside.unused xs) (sym same)
-        (before_each c.self.inside.unused items ask.new.lines seats c.self.invariant.1)
+    (before_each c.self.inside.unused items ask.new.lines seats c.self.invariant.1)
 
 pub invariant_of-self-in-Err : goal.invariant_of-self-in-Err
 invariant_of-self-in-Err g c =
@@ -229,13 +229,13 @@ invariant_of-self-in-Err g c =
     let size_asked : length ask.new.lines ≡ len = each_size SameAt _ _ ask.ensures.seats ∙ c.deref_mut.ensures.len in
     let mid = take len (ask.new.lines ++ drop (length ask.new.lines) items) in
     let same : c.deref_mut-in-Err.result.now ≡ ask.new.lines =
-        c.deref_mut-in-Err.ensures.value
-        ∙ whole_back len ask.new.lines (drop (length ask.new.lines) items) size_asked in
+    c.deref_mut-in-Err.ensures.value
+    ∙ whole_back len ask.new.lines (drop (length ask.new.lines) items) size_asked in
     let then = subst (λ xs. AtEach (IsForgotten talk) xs c.forget_all.new.lines) same c.forget_all.ensures in
     let size_last : length c.forget_all.new.lines ≡ len = each_size (IsForgotten talk) _ _ then ∙ size_asked in
     let all =
-        each_on SameAt seat_on items ask.new.lines c.forget_all.new.lines seats
-            (each_so (IsForgotten talk) SameAt (seat_forgotten talk) _ _ then) in
+    each_on SameAt seat_on items ask.new.lines c.forget_all.new.lines seats
+    (each_so (IsForgotten talk) SameAt (seat_forgotten talk) _ _ then) in
     subst (λ xs. (c.self.inside.unused ≤ length xs) × AreBefore c.self.inside.unused xs)
     (sym (whole_back len c.forget_all.new.lines (drop (length c.forget_all.new.lines) mid) size_last))
     (taken_each c.self.inside.unused items c.forget_all.new.lines all c.self.invariant)

@@ -15,7 +15,7 @@ returns-clause-reached g c = λ loss start now visits r.
     let x = c.index_mut.result.now in
     let within = subst (λ v. c.args.place < length v.lines) (sym c.self.view_is) c.requires.place in
     let is_there : slice_get items c.args.place ≡ Some x =
-        slice_get_read items (length items) c.args.place x refl within c.index_mut.ensures.value in
+    slice_get_read items (length items) c.args.place x refl within c.index_mut.ensures.value in
     reach_written talk loss start now visits _ (subst (λ v. IsReached talk loss start now visits v) (sym c.self.view_is) r)
     c.write_at.result g.met.D.Dialogue.settled c.args.place x c.write_at.new.line is_there c.write_at.ensures
 
@@ -25,7 +25,7 @@ invariant_of-self g c =
     let x = c.index_mut.result.now in
     let within = subst (λ v. c.args.place < length v.lines) (sym c.self.view_is) c.requires.place in
     let is_there : slice_get items c.args.place ≡ Some x =
-        slice_get_read items (length items) c.args.place x refl within c.index_mut.ensures.value in
+    slice_get_read items (length items) c.args.place x refl within c.index_mut.ensures.value in
     taken_set c.self.inside.unused items c.args.place x c.write_at.new.line is_there
     (written_none (speaks g.D.Dialogue g.S.Stream) c.write_at.result x c.write_at.new.line c.write_at.ensures) c.self.invariant
 

@@ -12,7 +12,7 @@ returns-in-Current-clause-upgrades g c clean =
     record {
       done = on_ok_weaker c.expect_current.result
           (newest_read (state g.S.Store c.args.conn.now) (state g.S.Store c.expect_current.new.conn)
-              (λ is_open trees left. g.met.S.Store.settled c.expect_current.new.conn.store trees is_open left))
+          (λ is_open trees left. g.met.S.Store.settled c.expect_current.new.conn.store trees is_open left))
           (c.expect_current.ensures.read clean);
       desk = λ told. (not_older (state g.S.Store c.args.conn.now).now is.1, (c.expect_current.ensures.desk clean told).0);
       unchanged = search rules;
@@ -25,10 +25,12 @@ returns-in-Old-clause-upgrades g c clean =
     record {
       done = on_ok_weaker c.upgrade.result
           (newest_made (state g.S.Store c.args.conn.now) (state g.S.Store c.upgrade.new.conn)
-              (λ is_open trees left. g.met.S.Store.settled c.upgrade.new.conn.store trees is_open left))
+          (λ is_open trees left. g.met.S.Store.settled c.upgrade.new.conn.store trees is_open left))
           (c.upgrade.ensures.made clean);
-      desk = λ told. ((c.upgrade.ensures.desk clean told).0,
-          λ x has _. lacks_one (state g.S.Store c.args.conn.now).now x _ is.2 is.3 has);
+      desk = λ told. (
+        (c.upgrade.ensures.desk clean told).0,
+        λ x has _. lacks_one (state g.S.Store c.args.conn.now).now x _ is.2 is.3 has,
+      );
       unchanged = search rules;
       either = search rules;
     }

@@ -13,9 +13,9 @@ returns-clause-put g c clean =
 pub returns-clause-alone : goal.returns-clause-alone
 returns-clause-alone g c clean =
     on_ok_weaker c.commit_to-done.result
-        (λ done x held. leaves_now (state g.S.Store c.commit_to-done.new.conn) x
-            (λ trees left. g.met.S.Store.settled c.commit_to-done.new.conn.store trees done.is_open left) done.settled
-            held) (c.commit_to-done.ensures.put clean)
+    (λ done x held. leaves_now (state g.S.Store c.commit_to-done.new.conn) x
+    (λ trees left. g.met.S.Store.settled c.commit_to-done.new.conn.store trees done.is_open left) done.settled
+    held) (c.commit_to-done.ensures.put clean)
 
 pub returns-clause-either : goal.returns-clause-either
 returns-clause-either g c clean going x held alone =

@@ -8,9 +8,9 @@ pub returns-clause-found : goal.returns-clause-found
 returns-clause-found g c clean =
     let same : c.self.inside.conn ≡ c.args.self.now.connection = ap (λ k. k.connection) c.self.view_is in
     rw same at (IfOk-weaker c.load_from-loaded.result _ _
-        (found_of (state g.S.Store c.self.inside.conn) (state g.S.Store c.load_from-loaded.new.conn)
+    (found_of (state g.S.Store c.self.inside.conn) (state g.S.Store c.load_from-loaded.new.conn)
     (λ is_open trees left. g.met.S.Store.settled c.load_from-loaded.new.conn.store trees is_open left))
-        (c.load_from-loaded.ensures.read clean))
+    (c.load_from-loaded.ensures.read clean))
 
 pub returns-clause-version : goal.returns-clause-version
 returns-clause-version g c =

@@ -8,16 +8,16 @@ pub returns-clause-rows : goal.returns-clause-rows
 returns-clause-rows g c clean =
     let text = c.select_text in
     rows table.Desk text.result.now (text.ensures.desk refl) (state g.S.Store c.args.conn.now)
-        (state g.S.Store c.query_all.new.self) c.query_all.result c.requires (c.query_all.ensures.ok clean)
+    (state g.S.Store c.query_all.new.self) c.query_all.result c.requires (c.query_all.ensures.ok clean)
 
 pub returns-clause-same : goal.returns-clause-same
 returns-clause-same g c clean =
     let text = c.select_text in
     same table.Desk text.result.now (text.ensures.desk refl) (state g.S.Store c.args.conn.now)
-        (state g.S.Store c.query_all.new.self) c.query_all.result c.requires (c.query_all.ensures.ok clean)
+    (state g.S.Store c.query_all.new.self) c.query_all.result c.requires (c.query_all.ensures.ok clean)
 
 pub returns-clause-survives : goal.returns-clause-survives
 returns-clause-survives g c =
     let text = c.select_text in
     survives table.Desk text.result.now (text.ensures.desk refl) (state g.S.Store c.args.conn.now)
-        (state g.S.Store c.query_all.new.self) c.requires c.query_all.ensures.survives
+    (state g.S.Store c.query_all.new.self) c.requires c.query_all.ensures.survives

@@ -22,7 +22,7 @@ returns-in-Ok-clause-found g c clean these only =
     let opened = c.in-Ok.ensures.opened clean in
     let parts = and_parts _ _ found.honest in
     let before : AreClean g.D.Disk c.close-files.result.log c.close-files.result.db =
-        and_from _ _ (c.crash.ensures.clean parts.0) (c.crash-2.ensures.clean parts.1) in
+    and_from _ _ (c.crash.ensures.clean parts.0) (c.crash-2.ensures.clean parts.1) in
     let sure_now = subst (λ p. AreClean g.D.Disk p.0 p.1) c.close-files.ensures before in
     let none : IsClean (view it) = no_doubt _ (clean_is it.pool ∙ sure_now) in
     let left = may_after it _ _ _ c.close-files.ensures before (c.crash.ensures.left, c.crash-2.ensures.left) in
@@ -40,13 +40,13 @@ returns-in-Ok-clause-left g c clean =
     let opened = c.in-Ok.ensures.opened clean in
     let parts = and_parts _ _ found.honest in
     let before : AreClean g.D.Disk c.close-files.result.log c.close-files.result.db =
-        and_from _ _ (c.crash.ensures.clean parts.0) (c.crash-2.ensures.clean parts.1) in
+    and_from _ _ (c.crash.ensures.clean parts.0) (c.crash-2.ensures.clean parts.1) in
     let sure_now = subst (λ p. AreClean g.D.Disk p.0 p.1) c.close-files.ensures before in
     let none : IsClean (view it) = no_doubt _ (clean_is it.pool ∙ sure_now) in
     let left = may_after it _ _ _ c.close-files.ensures before (c.crash.ensures.left, c.crash-2.ensures.left) in
     subst (λ (d : Database). ∥ (file_state c.args.keep.connection).may_leave d.trees ∥₁) (sym opened.0.clean)
     (∥∥₁_map (next_run it (c.store_of-store.ensures.numbered none) (c.store_of-store.ensures.sound none) _ left
-        (file_state c.in-Ok.again) (record { holds = found.holds; reads = found.reads }))
+    (file_state c.in-Ok.again) (record { holds = found.holds; reads = found.reads }))
     (λ may_be. c.store_of-store.ensures.quiet.outcomes (file_state c.in-Ok.again).committed.trees may_be))
 
 no_more : {m n : ℕ} → m ≤ n → n ≡ 0 → m ≡ 0
@@ -57,9 +57,9 @@ returns-in-Ok-clause-honest g c clean =
     let it = c.store_of-store.result in
     let parts = and_parts _ _ (c.in-Ok.ensures.found clean).honest in
     let before : AreClean g.D.Disk c.close-files.result.log c.close-files.result.db =
-        and_from _ _ (c.crash.ensures.clean parts.0) (c.crash-2.ensures.clean parts.1) in
+    and_from _ _ (c.crash.ensures.clean parts.0) (c.crash-2.ensures.clean parts.1) in
     let sure_now = subst (λ p. AreClean g.D.Disk p.0 p.1) c.close-files.ensures before in
     let none : doubt (view it).is_clean ≡ 0 = no_doubt _ (clean_is it.pool ∙ sure_now) in
     let quiet : doubt (view c.args.keep.connection.store).is_clean ≤ doubt (view it).is_clean =
-        c.store_of-store.ensures.quiet.clean in
+    c.store_of-store.ensures.quiet.clean in
     no_more quiet none

@@ -17,7 +17,7 @@ returns-clause-alone g c clean x held =
     let same : c.over_files.result.connection ≡ c.in_ok-conn.conn = ap (λ k. k.connection) c.over_files.ensures.keeper in
     subst (λ h. LeavesOnly (file_state h).may_leave (x ∷ [])) (sym same)
     (c.over_files.ensures.alone (c.in_ok-conn.ensures.open (subst (λ h. HasCleanDisk (file_state h)) same clean)) x
-        (subst (λ h. Holds (file_state h).now x) same held))
+    (subst (λ h. Holds (file_state h).now x) same held))
 
 pub returns-clause-left : goal.returns-clause-left
 returns-clause-left g c clean =

@@ -9,15 +9,15 @@ use Rattle.sql_keep.proofs.trials.recovery.reopen_and_load.Goals as goal
 pub returns-clause-found : goal.returns-clause-found
 returns-clause-found g c clean these only =
     IfOk-weaker c.load-tables.result _ _
-        (λ tables found. is_among (Holds (file_state c.in_ok-again.again.connection).now) these tables found.one
-            (c.in_ok-again.ensures.found (c.load-tables.ensures.honest clean) these only))
-        (c.load-tables.ensures.found clean)
+    (λ tables found. is_among (Holds (file_state c.in_ok-again.again.connection).now) these tables found.one
+    (c.in_ok-again.ensures.found (c.load-tables.ensures.honest clean) these only))
+    (c.load-tables.ensures.found clean)
 
 pub returns-clause-desk : goal.returns-clause-desk
 returns-clause-desk g c clean these only desks refused =
     ∥∥₁_elim (c.in_ok-again.ensures.found (c.load-tables.ensures.honest clean) these only) (λ p q. absurd p)
     (λ f. (c.load-tables.ensures.version clean).desk refused f.0 (holds_tables _ f.0 f.1)
-        (is_desk (Holds (file_state c.in_ok-again.again.connection).now) these f desks))
+    (is_desk (Holds (file_state c.in_ok-again.again.connection).now) these f desks))
 
 pub returns-clause-alone : goal.returns-clause-alone
 returns-clause-alone g c clean =

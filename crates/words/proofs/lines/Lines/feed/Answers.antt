@@ -15,7 +15,7 @@ returns-in-Ok-restart-clause-ok c =
     c.in-Ok-ended_items.ended.0.items c.restart.new.self
     c.end_line.ensures.one c.in-Some.ensures.parts c.in-Ok-end_line.ensures.ok
     (subst (λ (new : Option (List ℕ)).
-        EndsBehind c.in-Ok-end_line.first (parts_at 10 c.in-Some.after.now) c.in-Ok-ended_items.ended.0.items new)
+    EndsBehind c.in-Ok-end_line.first (parts_at 10 c.in-Some.after.now) c.in-Ok-ended_items.ended.0.items new)
     (sym c.in-Ok-restart.ensures.ok)
     c.in-Ok-ended_items.ensures.items)
 

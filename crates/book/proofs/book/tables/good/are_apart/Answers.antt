@@ -1,6 +1,6 @@
-use Rattle.ledger.proofs.Prelude.{Bor, IsDistinct, List, MatchOption, None, Option, Some, [], ap, arith, false, find,
-    get_or, is_some, length, line_name, map, on, refl, same_name, subst, suc, sym, take, true, true≢false, zero, ℕ, ◌<◌,
-    ◌∙◌, ◌∷◌, ◌≡◌}
+use Rattle.ledger.proofs.Prelude.{Bor, IsDistinct, List, MatchOption, None, Option, Some, [], ap, arith, false, find}
+use Rattle.ledger.proofs.Prelude.{get_or, is_some, length, line_name, map, on, refl, same_name, subst, suc, sym, take}
+use Rattle.ledger.proofs.Prelude.{true, true≢false, zero, ℕ, ◌<◌, ◌∙◌, ◌∷◌, ◌≡◌}
 use Rattle.ledger.specs.declared.order.Line.{Line}
 use Rattle.book.proofs.book.tables.good.are_apart.Goals as goal
 use Rattle.book.proofs.CheckAnswers.{apart_push}
@@ -16,9 +16,9 @@ none_before [] i d lt apart = absurd (omega arith)
 none_before (l ∷ ls) zero d lt apart = refl
 none_before (l ∷ ls) (suc i) d lt apart =
     let away =
-        other_way (line_name l) (line_name (get_or ls i d))
-            (each_get (λ m. same_name (line_name l) (line_name m) ≡ false) ls i d (omega arith)
-                (each-unmap (λ n. same_name (line_name l) n ≡ false) line_name ls apart.0)) in
+    other_way (line_name l) (line_name (get_or ls i d))
+    (each_get (λ m. same_name (line_name l) (line_name m) ≡ false) ls i d (omega arith)
+    (each-unmap (λ n. same_name (line_name l) n ≡ false) line_name ls apart.0)) in
     rw away (none_before ls i d (omega arith) apart.1)
 
 pub loop-i-init : goal.loop-i-init
@@ -41,7 +41,7 @@ loop-i-preserved c =
     subst (λ (ls : List Line). IsDistinct same_name (map line_name ls))
     (sym (take-step c.args.lines.now c.loop-i.i c.index-lines-i.result c.loop-i-test.true c.index-lines-i.is))
     (apart_push (take c.loop-i.i c.args.lines.now) c.index-lines-i.result c.loop-i.invariant
-        (none_found (on (line_name c.index-lines-i.result)) (take c.loop-i.i c.args.lines.now) none))
+    (none_found (on (line_name c.index-lines-i.result)) (take c.loop-i.i c.args.lines.now) none))
 
 pub returns-then-is_some : goal.returns-then-is_some
 returns-then-is_some c = grind (arith, no, none_before, some_if)

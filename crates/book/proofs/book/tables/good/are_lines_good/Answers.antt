@@ -7,7 +7,7 @@ use Rattle.book.proofs.book.tables.good.are_lines_good.Goals as goal
 pub returns : goal.returns
 returns c =
     tested _ c.all.result c.args.lines.now
-        (cases_from_all _ _ _ (λ (l : Line). IsLevel l.held × (l.used ≤ l.held))
+    (cases_from_all _ _ _ (λ (l : Line). IsLevel l.held × (l.used ≤ l.held))
     (λ (l : Line). IsLevel l.held × (l.used ≤ l.held) → ⊥)
     c.all.ensures.ran (YieldsList-from_slice c.args.lines.now cc) (λ x q k. search (rules, of_calls))
     (λ x q k. search (rules, of_calls)))

@@ -7,7 +7,7 @@ use Rattle.book.proofs.book.tables.good.are_moves_good.Goals as goal
 pub returns : goal.returns
 returns c =
     each-tested (IsMoveByItself c.args.places) move_of c.all.result c.args.moves.now
-        (cases_from_all _ _ _ (λ e. IsMoveByItself c.args.places (move_of e))
+    (cases_from_all _ _ _ (λ e. IsMoveByItself c.args.places (move_of e))
     (λ e. IsMoveByItself c.args.places (move_of e) → ⊥)
     c.all.ensures.ran (YieldsList-from_slice c.args.moves.now cc) (λ x q k. search (rules, of_calls))
     (λ x q k. search (rules, of_calls)))

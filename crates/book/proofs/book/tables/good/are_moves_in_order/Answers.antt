@@ -12,4 +12,4 @@ returns c =
     in_order nat_cmp nat_cmp_total (λ (m : Move). m.place) move_of before (λ x y. lt_is x.place y.place)
     c.args.moves.now c.is_sorted_by.result
     (c.is_sorted_by.ensures.cases before
-        (always_returns_same _ (λ a r. r ≡ before a.0.now a.1.0.now) _ (λ a r f k. search (rules, of_calls))))
+    (always_returns_same _ (λ a r. r ≡ before a.0.now a.1.0.now) _ (λ a r f k. search (rules, of_calls))))

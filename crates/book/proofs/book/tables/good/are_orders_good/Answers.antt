@@ -7,6 +7,6 @@ use Rattle.book.proofs.book.tables.good.are_orders_good.Goals as goal
 pub returns : goal.returns
 returns c =
     each-tested IsOrderByItself order_of c.all.result c.args.orders.now
-        (cases_from_all _ _ _ (λ e. IsOrderByItself (order_of e)) (λ e. IsOrderByItself (order_of e) → ⊥)
+    (cases_from_all _ _ _ (λ e. IsOrderByItself (order_of e)) (λ e. IsOrderByItself (order_of e) → ⊥)
     c.all.ensures.ran (YieldsList-from_slice c.args.orders.now cc) (λ x q k. search (rules, of_calls))
-        (λ x q k. search (rules, of_calls)))
+    (λ x q k. search (rules, of_calls)))

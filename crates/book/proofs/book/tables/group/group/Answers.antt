@@ -1,5 +1,6 @@
-use Rattle.ledger.proofs.Prelude.{[], ◌++◌, ◌+◌, ◌<◌, ◌∙◌, ◌∷◌, ◌≡◌, LineCells, List, Order, ap, arith, drop, drop-drop,
-    flat_map, get_or, length, length-drop, line_cells, lines_from, map, map-append, order_lines, subst, sym, ℕ}
+use Rattle.ledger.proofs.Prelude.{[], ◌++◌, ◌+◌, ◌<◌, ◌∙◌, ◌∷◌, ◌≡◌, LineCells, List, Order, ap, arith, drop, drop-drop}
+use Rattle.ledger.proofs.Prelude.{flat_map, get_or, length, length-drop, line_cells, lines_from, map, map-append}
+use Rattle.ledger.proofs.Prelude.{order_lines, subst, sym, ℕ}
 use Rattle.book.proofs.Prelude.{BeginsOther, Head, IsLineTold, OrderEntry, head_of, order_of}
 use Rattle.ledger.specs.declared.rows.LineRow.{LineRow}
 use Rattle.book.proofs.LineGroups.{Tail, drop-step, left_step, lines_step, none_left, tail-first}
@@ -24,19 +25,21 @@ returns-in_err-own-clause-damaged c =
     passed_up c.from_residual.result c.in_err-own.field-0.0 _ c.from_residual.ensures.1 (λ is orders sorted tell.
     let head = c.head-item.result in
     let left =
-        left_here c.args.heads.now c.loop-head.head-index head (map line_cells (drop c.loop-head.start c.args.rows.now))
-            c.loop-head-test.true c.head-item.is (c.loop-head.invariant.left orders sorted tell) in
+    left_here c.args.heads.now c.loop-head.head-index head (map line_cells (drop c.loop-head.start c.args.rows.now))
+    c.loop-head-test.true c.head-item.is (c.loop-head.invariant.left orders sorted tell) in
     let first =
-        tail-first head (drop (c.loop-head.head-index + 1) c.args.heads.now)
-            (map line_cells (drop c.loop-head.start c.args.rows.now)) left in
+    tail-first head (drop (c.loop-head.head-index + 1) c.args.heads.now)
+    (map line_cells (drop c.loop-head.start c.args.rows.now)) left in
     c.in_err-own.ensures.damaged is first.own first.rest first.others
-        (first.lines_are ∙ ap (map line_cells) (sym c.behind-rows_left.ensures)))
+    (first.lines_are ∙ ap (map line_cells) (sym c.behind-rows_left.ensures)))
 
 pub returns-then-start-rows-clause-damaged : goal.returns-then-start-rows-clause-damaged
 returns-then-start-rows-clause-damaged c _ orders sorted tell =
-    grind (arith,
-        (none_left c.args.heads.now c.loop-head.head-index c.args.rows.now c.loop-head.start c.loop-head-test.false
-            c.loop-head.invariant.within c.if-start-rows.true (c.loop-head.invariant.left orders sorted tell)))
+    grind (
+      arith,
+      (none_left c.args.heads.now c.loop-head.head-index c.args.rows.now c.loop-head.start c.loop-head-test.false
+          c.loop-head.invariant.within c.if-start-rows.true (c.loop-head.invariant.left orders sorted tell)),
+    )
 
 pub loop-head-preserved : goal.loop-head-preserved
 loop-head-preserved c =
@@ -47,21 +50,22 @@ loop-head-preserved c =
     let rows = drop start c.args.rows.now in
     let same = c.behind-rows_left.ensures in
     let told =
-        subst (λ (rows : List LineRow).
-            lines_from head.number 1 own ++ map line_cells (drop (length own) rows) ≡ map line_cells rows) same
-            c.in_ok-own.ensures.told in
+    subst (λ (rows : List LineRow).
+    lines_from head.number 1 own ++ map line_cells (drop (length own) rows) ≡ map line_cells rows) same
+    c.in_ok-own.ensures.told in
     let end = subst (λ (rows : List LineRow). BeginsOther head.number (drop (length own) rows)) same c.in_ok-own.ensures.end in
     let further : drop (length own) rows ≡ drop (start + c.len-start.result) c.args.rows.now =
-        drop-drop (length own) start c.args.rows.now ∙ ap (λ k. drop k c.args.rows.now) (omega arith) in
-    let order : ℕ × OrderEntry =
-        (head.number,
-            record {
-              kind = head.kind;
-              until = head.until;
-              state = head.state;
-              firm = head.firm;
-              lines = c.in_ok-own.own
-            }) in
+    drop-drop (length own) start c.args.rows.now ∙ ap (λ k. drop k c.args.rows.now) (omega arith) in
+    let order : ℕ × OrderEntry = (
+      head.number,
+      record {
+        kind = head.kind;
+        until = head.until;
+        state = head.state;
+        firm = head.firm;
+        lines = c.in_ok-own.own;
+      },
+    ) in
     let pushed : map order_of c.push.new.self.items ≡ map order_of c.loop-head.orders.items ++ order_of order ∷ [] =
     ap (map order_of) c.in-Ok-push.ensures.items ∙ map-append order_of c.loop-head.orders.items (order ∷ []) in
     record {
@@ -78,8 +82,8 @@ loop-head-preserved c =
           flat_map order_lines os ++ map line_cells (drop (start + c.len-start.result) c.args.rows.now)
           ≡ map line_cells c.args.rows.now) (sym pushed)
           (subst (λ (left : List LineRow).
-              flat_map order_lines (map order_of c.loop-head.orders.items ++ order_of order ∷ []) ++ map line_cells left
-              ≡ map line_cells c.args.rows.now) further
+          flat_map order_lines (map order_of c.loop-head.orders.items ++ order_of order ∷ []) ++ map line_cells left
+          ≡ map line_cells c.args.rows.now) further
           (lines_step (map order_of c.loop-head.orders.items) (order_of order) (map line_cells (drop (length own) rows))
           (map line_cells rows) (map line_cells c.args.rows.now) c.loop-head.invariant.lines
           told));
@@ -87,5 +91,5 @@ loop-head-preserved c =
           Tail (drop (i + 1) c.args.heads.now) (map line_cells left)) further
           (left_step head (drop (i + 1) c.args.heads.now) own rows told end
           (left_here c.args.heads.now i head (map line_cells rows) c.loop-head-test.true c.head-item.is
-              (c.loop-head.invariant.left orders sorted tell)));
+          (c.loop-head.invariant.left orders sorted tell)));
     }

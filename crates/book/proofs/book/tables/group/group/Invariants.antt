@@ -1,7 +1,7 @@
 -- the orders so far have the heads so far and the rows of lines up to the start of the rest, and whatever good orders all
 -- the rows tell, those left are told by the heads and rows that are left
-use Rattle.ledger.proofs.Prelude.{◌++◌, ◌≡◌, ◌≤◌, IsStrictlySortedBy, List, Order, drop, flat_map, length, line_cells,
-    map, nat_cmp, order_lines, take}
+use Rattle.ledger.proofs.Prelude.{◌++◌, ◌≡◌, ◌≤◌, IsStrictlySortedBy, List, Order, drop, flat_map, length, line_cells}
+use Rattle.ledger.proofs.Prelude.{map, nat_cmp, order_lines, take}
 use Rattle.book.proofs.Prelude.{TellOrders, head_of, order_of}
 use Rattle.book.proofs.LineGroups.{Tail}
 use Rattle.book.proofs.book.tables.group.group.Given as goal

@@ -1,5 +1,5 @@
-use Rattle.ledger.proofs.Prelude.{◌++◌, ◌∙◌, ◌≡◌, LineCells, List, ap, arith, drop, length, length-take-le, line_cells,
-    lines_from, map, map-append, subst, sym, take, take-append-drop, true≢false}
+use Rattle.ledger.proofs.Prelude.{◌++◌, ◌∙◌, ◌≡◌, LineCells, List, ap, arith, drop, length, length-take-le, line_cells}
+use Rattle.ledger.proofs.Prelude.{lines_from, map, map-append, subst, sym, take, take-append-drop, true≢false}
 use Rattle.book.proofs.Prelude.{BeginsOther, IsLineTold}
 use Rattle.ledger.specs.declared.rows.LineRow.{LineRow}
 use Rattle.book.proofs.LineGroups.{begins-cells, number-cells, numbered-from, own_rows, split_rows}
@@ -23,7 +23,7 @@ returns-then-not-are_numbered-clause-damaged c _ own rest others e =
     (number-cells c.args.number (take n rows) c.run_length-count.ensures.run)
     (begins-cells c.args.number (drop n rows) c.run_length-count.ensures.end) (e ∙ sym (cut rows n)) in
     true≢false (sym (c.are_numbered.ensures.1 (numbered-from c.args.number 1 own (take n rows) parts.0))
-        ∙ c.if-not-are_numbered.true)
+    ∙ c.if-not-are_numbered.true)
 
 pub returns-in-Ok-clause-told : goal.returns-in-Ok-clause-told
 returns-in-Ok-clause-told c =
@@ -32,8 +32,8 @@ returns-in-Ok-clause-told c =
     let own : lines_from c.args.number 1 c.in-Ok.own.items ≡ map line_cells (take n rows) =
     ap (lines_from c.args.number 1) c.in-Ok.ensures.items
     ∙ own_rows c.args.number 1 (take n c.args.lines.now) (take n rows)
-        (zip-take IsLineTold n c.args.lines.now rows c.requires) c.run_length-count.ensures.run
-        (c.are_numbered.ensures.0 c.if-not-are_numbered.false) in
+    (zip-take IsLineTold n c.args.lines.now rows c.requires) c.run_length-count.ensures.run
+    (c.are_numbered.ensures.0 c.if-not-are_numbered.false) in
     ap (λ (first : List LineCells). first ++ map line_cells (drop (length c.in-Ok.own.items) rows)) own
     ∙ ap (λ k. map line_cells (take n rows) ++ map line_cells (drop k rows)) (own_length c) ∙ cut rows n
 

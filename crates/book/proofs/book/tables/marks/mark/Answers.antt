@@ -22,10 +22,10 @@ loop-head-preserved c =
     elim c.if-is_named.branch [
       | then-is_named w ↦ subst (MarkedSoFar cells (set heads i new) (i + 1) rows) (sym w.next-is)
           (step_if_named cells heads i c.head-item.result new rows next c.loop-head.invariant within refl
-              w.if-is_named.true (c.is_of-is_named.ensures.0 w.if-is_named.true))
+          w.if-is_named.true (c.is_of-is_named.ensures.0 w.if-is_named.true))
       | else-is_named w ↦ subst (MarkedSoFar cells (set heads i new) (i + 1) rows) (sym w.next-is)
           (step_if_unnamed cells heads i c.head-item.result new rows next c.loop-head.invariant within refl
-              w.if-is_named.false (λ named. true_not_false (c.is_of-is_named.ensures.1 named) w.if-is_named.false))
+          w.if-is_named.false (λ named. true_not_false (c.is_of-is_named.ensures.1 named) w.if-is_named.false))
     ]
 
 pub returns-clause-marked : goal.returns-clause-marked
@@ -33,7 +33,7 @@ returns-clause-marked c t =
     let past : length c.loop-head.heads ≤ c.loop-head.head-index = omega arith in
     let all : c.loop-head.next ≡ length c.args.rows.now = grind arith in
     all_marked (map head_row c.args.heads.now) c.loop-head.heads c.loop-head.head-index c.args.rows.now c.loop-head.next
-        c.loop-head.invariant past all
+    c.loop-head.invariant past all
 
 pub returns-clause-damaged : goal.returns-clause-damaged
 returns-clause-damaged c less heads sorted same rows = grind (arith, all_named)

@@ -9,7 +9,7 @@ loop-line-init c = record {
   there = tt;
   sums =
       sym (added-nothing (lines_numbers c.args.state c.args.firm []) (grind arith) c.args.fields.now c.args.sums.now);
-  small = λ k small. let more : k ≤ k + 0 = omega arith in each-small-up k (k + 0) c.args.sums.now more small
+  small = λ k small. let more : k ≤ k + 0 = omega arith in each-small-up k (k + 0) c.args.sums.now more small;
 }
 
 pub add_line-requires : goal.add_line-requires
@@ -21,7 +21,7 @@ add_line-requires c =
       long = grind arith;
       room =
           each-small-up (most_of_all + most_of_line * i) (most_of_all + most_of_all) c.loop-line.sums up
-              (c.loop-line.invariant.small most_of_all c.requires.sums.room);
+          (c.loop-line.invariant.small most_of_all c.requires.sums.room);
     }
 
 pub loop-line-preserved : goal.loop-line-preserved
@@ -34,17 +34,17 @@ loop-line-preserved c =
     record {
       there =
           each-next (λ l. IsField c.args.fields.now (line_name l)) lines i line c.loop-line-test.true c.line-item.is
-              c.loop-line.invariant.there (c.if-not-add_line.ensures.there.0 refl);
+          c.loop-line.invariant.there (c.if-not-add_line.ensures.there.0 refl);
       sums = c.add_line.ensures.sums
           ∙ ap (added (lines_numbers state firm (line ∷ [])) c.args.fields.now) c.loop-line.invariant.sums
           ∙ added-twice (lines_numbers state firm (take i lines)) (lines_numbers state firm (line ∷ []))
-              (lines_numbers state firm (take (i + 1) lines))
-              (line-step state firm lines i line c.loop-line-test.true c.line-item.is) c.args.fields.now
-              c.args.sums.now;
+          (lines_numbers state firm (take (i + 1) lines))
+          (line-step state firm lines i line c.loop-line-test.true c.line-item.is) c.args.fields.now
+          c.args.sums.now;
       small = λ k small.
           let more : (k + most_of_line * i) + most_of_line ≡ k + most_of_line * (i + 1) = omega arith in
           subst (λ m. Each (IsSmall m) c.add_line.new.sums) more
-              (c.add_line.ensures.small (k + most_of_line * i) (c.loop-line.invariant.small k small));
+          (c.add_line.ensures.small (k + most_of_line * i) (c.loop-line.invariant.small k small));
     }
 
 pub returns-clause-small : goal.returns-clause-small

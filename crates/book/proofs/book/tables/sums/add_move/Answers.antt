@@ -10,11 +10,11 @@ add_on-requires-clause-sums c =
 pub returns-clause-small : goal.returns-clause-small
 returns-clause-small c k small =
     c.add_on.ensures.small k most_of_move small
-        (record {
-          low = omega (arith, ints);
-          high = omega (arith, ints);
-          take_low = omega (arith, ints);
-          take_high = omega (arith, ints);
-          add_low = omega (arith, ints);
-          add_high = omega (arith, ints)
-        })
+    (record {
+      low = omega (arith, ints);
+      high = omega (arith, ints);
+      take_low = omega (arith, ints);
+      take_high = omega (arith, ints);
+      add_low = omega (arith, ints);
+      add_high = omega (arith, ints);
+    })

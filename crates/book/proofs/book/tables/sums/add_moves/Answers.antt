@@ -8,7 +8,7 @@ pub loop-entry-init : goal.loop-entry-init
 loop-entry-init c = record {
   there = tt;
   sums = sym (added-nothing (numbers_on [] []) (λ f. refl) c.args.fields.now c.args.sums.now);
-  small = c.requires.sums.room
+  small = c.requires.sums.room;
 }
 
 pub add_move-requires-clause-sums : goal.add_move-requires-clause-sums
@@ -23,14 +23,14 @@ loop-entry-preserved c =
     record {
       there =
           each-next (λ m. IsField c.args.fields.now (move_of m).field) moves i entry c.loop-entry-test.true
-              c.entry-item.is c.loop-entry.invariant.there (c.if-not-add_move.ensures.there.0 refl);
+          c.entry-item.is c.loop-entry.invariant.there (c.if-not-add_move.ensures.there.0 refl);
       sums = c.add_move.ensures.sums
           ∙ ap (added (numbers_on (entry ∷ []) []) c.args.fields.now) c.loop-entry.invariant.sums
           ∙ added-twice (numbers_on (take i moves) []) (numbers_on (entry ∷ []) []) (numbers_on (take (i + 1) moves) [])
-              (move-step moves i entry c.loop-entry-test.true c.entry-item.is) c.args.fields.now c.args.sums.now;
+          (move-step moves i entry c.loop-entry-test.true c.entry-item.is) c.args.fields.now c.args.sums.now;
       small =
           subst (λ k. Each (IsSmall k) c.add_move.new.sums) more
-              (c.add_move.ensures.small (most_of_move * i) c.loop-entry.invariant.small);
+          (c.add_move.ensures.small (most_of_move * i) c.loop-entry.invariant.small);
     }
 
 pub returns-clause-small : goal.returns-clause-small

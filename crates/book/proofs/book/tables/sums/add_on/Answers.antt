@@ -11,9 +11,11 @@ returns-in-Some-clause-sums c = grind (arith, added-at)
 
 pub returns-in-Some-clause-small : goal.returns-in-Some-clause-small
 returns-in-Some-clause-small c k m small part =
-    grind (arith,
-        (each-small-set k m c.in-Some.place nothing c.args.part.now c.args.sums.now
-            (omega (arith, c.in-Some.ensures.within)) small part))
+    grind (
+      arith,
+      (each-small-set k m c.in-Some.place nothing c.args.part.now c.args.sums.now
+          (omega (arith, c.in-Some.ensures.within)) small part),
+    )
 
 pub returns-in-None-clause-sums : goal.returns-in-None-clause-sums
 returns-in-None-clause-sums c = grind (arith, added-none)

@@ -9,7 +9,7 @@ pub loop-entry-init : goal.loop-entry-init
 loop-entry-init c = record {
   there = tt;
   sums = sym (added-nothing (numbers_on [] []) (λ f. refl) c.args.fields.now c.args.sums.now);
-  small = c.requires.sums.room
+  small = c.requires.sums.room;
 }
 
 pub add_lines-requires-clause-sums : goal.add_lines-requires-clause-sums
@@ -25,18 +25,18 @@ loop-entry-preserved c =
     record {
       there =
           each-next (λ o. AreLinesOnFields fields o.1.lines.items) orders i entry c.loop-entry-test.true c.entry-item.is
-              c.loop-entry.invariant.there
-              (subst (AreLinesOnFields fields) c.deref.ensures.value (c.if-not-add_lines.ensures.there.0 refl));
+          c.loop-entry.invariant.there
+          (subst (AreLinesOnFields fields) c.deref.ensures.value (c.if-not-add_lines.ensures.there.0 refl));
       sums = c.if-not-add_lines.ensures.sums refl
           ∙ ap (λ (lines : List Line). added (lines_numbers entry.1.state entry.1.firm lines) fields c.loop-entry.sums)
-              c.deref.ensures.value
+          c.deref.ensures.value
           ∙ ap (added (lines_numbers entry.1.state entry.1.firm entry.1.lines.items) fields) c.loop-entry.invariant.sums
           ∙ added-twice (numbers_on [] (take i orders)) (lines_numbers entry.1.state entry.1.firm entry.1.lines.items)
-              (numbers_on [] (take (i + 1) orders)) (order-step orders i entry c.loop-entry-test.true c.entry-item.is)
-              fields c.args.sums.now;
+          (numbers_on [] (take (i + 1) orders)) (order-step orders i entry c.loop-entry-test.true c.entry-item.is)
+          fields c.args.sums.now;
       small =
           subst (λ k. Each (IsSmall k) c.add_lines.new.sums) more
-              (c.if-not-add_lines.ensures.small refl (most_of_moves + most_of_lines * i) c.loop-entry.invariant.small);
+          (c.if-not-add_lines.ensures.small refl (most_of_moves + most_of_lines * i) c.loop-entry.invariant.small);
     }
 
 pub returns-clause-small : goal.returns-clause-small

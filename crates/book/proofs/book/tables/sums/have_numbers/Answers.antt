@@ -22,4 +22,4 @@ loop-i-preserved c numbers same =
     let within = c.loop-i-test.true in
     each-next (λ e. HasNumbers (numbers e.0) e.1) fields i f within c.index-fields-i.is (c.loop-i.invariant numbers same)
     (subst (λ n. HasNumbers n f.1) (at_hand c.args.sums.now fields i f numbers same within c.index-fields-i.is)
-        (c.if-not-has_numbers.ensures.0 refl))
+    (c.if-not-has_numbers.ensures.0 refl))

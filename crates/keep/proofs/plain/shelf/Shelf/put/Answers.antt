@@ -10,9 +10,11 @@ use Rattle.keep.proofs.plain.shelf.Shelf.put.Goals as goal
 pub returns-in-Desk-clause-put : goal.returns-in-Desk-clause-put
 returns-in-Desk-clause-put c =
     let one = subst (λ (x : Change). All IsTheRow (row_of x).desk) c.in-Desk.is c.requires.one in
-    rw (c.in-Desk.is,
-        desk_put (desk_cells c.in-Desk.row) (desk_cells c.args.self.now.desk)
-            (All-head IsTheRow (desk_cells c.in-Desk.row) [] one) c.requires.order.desk) refl
+    rw (
+      c.in-Desk.is,
+      desk_put (desk_cells c.in-Desk.row) (desk_cells c.args.self.now.desk)
+          (All-head IsTheRow (desk_cells c.in-Desk.row) [] one) c.requires.order.desk,
+    ) refl
 
 pub returns-in-Field-clause-put : goal.returns-in-Field-clause-put
 returns-in-Field-clause-put c = rw (c.in-Field.is, c.put_row.ensures.put) refl

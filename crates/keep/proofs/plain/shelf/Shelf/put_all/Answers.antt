@@ -13,8 +13,8 @@ pub put-requires-clause-one : goal.put-requires-clause-one
 put-requires-clause-one c =
     let left = into_iter_items c.next.new.self in
     one_first c.in-Some.change left
-        (subst (λ (cs : List Change). All IsTheRow (rows_among cs).desk) c.in-Some.ensures.steps.0
-            c.loop-change.invariant.one)
+    (subst (λ (cs : List Change). All IsTheRow (rows_among cs).desk) c.in-Some.ensures.steps.0
+    c.loop-change.invariant.one)
 
 pub loop-change-preserved : goal.loop-change-preserved
 loop-change-preserved c =
@@ -23,12 +23,12 @@ loop-change-preserved c =
     let one = subst (λ (cs : List Change). All IsTheRow (rows_among cs).desk) split c.loop-change.invariant.one in
     let room = subst (λ (cs : List Change). HasRoom (length cs) c.loop-change.self) split c.loop-change.invariant.room in
     let longer : length (into_iter_items c.loop-change.change-iterator) ≡ length (c.in-Some.change ∷ left) =
-        ap (λ (cs : List Change). length cs) split in
+    ap (λ (cs : List Change). length cs) split in
     record {
       long = omega (arith, longer, c.loop-change.invariant.long, c.in-Some.ensures.steps.1);
       order =
           stays_in_order c.in-Some.change c.loop-change.self c.put.new.self (one_first c.in-Some.change left one)
-              c.put.ensures.put c.loop-change.invariant.order;
+          c.put.ensures.put c.loop-change.invariant.order;
       one = one_later c.in-Some.change left one;
       room = c.put.ensures.room (length left) (rw add-one room);
       put =
