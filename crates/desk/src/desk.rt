@@ -53,8 +53,8 @@ impl<K: Keep> Desk<K> {
     /// adds nothing to what a stop may leave, of whatever version that is.
     ///
     /// `NotADesk` is answered only where the keeper does not hold the seven tables with one row of `desk` of the
-    /// newest version; `OldVersion` only where what it holds is of an older version, and there nothing else is
-    /// answered but `Memory` and `Store`; `Damaged` only where the rows are those of no good ledger. `Store` says
+    /// newest version; `OldVersion` only where what it holds is of an older version, and there besides only
+    /// `Memory` and `Store` are answered; `Damaged` only where the rows are those of no good ledger. `Store` says
     /// that the store failed or that the keeper was stopped before, `Memory` that memory was refused. What is said
     /// about rows and versions holds while the disk is honest.
     pub fn open(alloc: Global, keep: K) -> Result<Desk<K>, (OpenFault, K)>

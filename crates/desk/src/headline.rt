@@ -52,12 +52,12 @@ pub fn run_and_stop<K: Keep>(alloc: Global, desk: Desk<K>, requests: &[Request])
 /// Cuts the keeper off at this moment, and opens the desk that is found then. Returns that desk, or `None` where the
 /// keeper does not recover.
 ///
-/// Every future of the ledger found is honoured. What a stop of the program may leave is given as a list of contents.
-/// While the disk is honest, the rows of the ledger found stand in each list of all that a stop could leave before the
-/// call; and whether the opening fails or not, another stop leaves one content of that list and nothing else. Where
-/// such a list has only rows of good ledgers, the opening fails, if at all, for want of memory or by the store. A fault
-/// says about the keeper that recovered what it says for `Desk::open`: with `Store`, the keeper that is given back is
-/// stopped.
+/// Every future of the ledger found is honoured. What a stop of the program may leave is given as a list of
+/// contents. Take a list that has all that a stop could leave before the call. While the disk is honest, the rows of
+/// the ledger found stand in this list; and whether the opening fails or not, another stop leaves one content of the
+/// list and nothing else. Where the list has only rows of good ledgers, the opening fails, if at all, for want of
+/// memory or by the store. A fault says about the keeper that recovered what it says for `Desk::open`: with `Store`,
+/// the keeper that is given back is stopped.
 pub fn cut_and_open<K: Recover>(
     alloc: Global,
     keep: K,
@@ -87,8 +87,8 @@ pub fn cut_and_open<K: Recover>(
 /// then fails, if at all, for want of memory or by the store, and another stop of the program leaves nothing but rows
 /// of such ledgers. From the ledger found on, whatever uses, releases, commits, aborts, `firm` and expiries come, in
 /// any order, each field is within its bounds, and no order that is open then is refused its commit under a new key.
-/// What was opened is what a keeper could leave that was stopped exactly where the run ended `Stopped`. A fault says what
-/// it says for `cut_and_open`.
+/// Some keeper could have left what was opened, and that keeper was stopped exactly where the run ended `Stopped`. A
+/// fault says what it says for `cut_and_open`.
 pub fn run_cut_and_open<K: Recover>(
     alloc: Global,
     desk: Desk<K>,
@@ -238,7 +238,8 @@ pub fn script_and_stop<K: Keep, R: Read, W: Write>(
 /// the one after a prefix of the lines that were read. The prefix holds every line whose reply line was written whole,
 /// and at most one more; after a script that ended `Ok` it holds all lines. The opening then fails, if at all, for want
 /// of memory or by the store. Every future of the ledger found is honoured. A fault of the opening says what it says
-/// for `cut_and_open`; a fault of the script says what it says for `script`, about the keeper that was cut off.
+/// for `cut_and_open`; a fault of the script says what it says for `script`, about some keeper that could have left
+/// what was opened.
 pub fn script_cut_and_open<K: Recover, R: Read, W: Write>(
     alloc: Global,
     desk: Desk<K>,

@@ -192,7 +192,8 @@ pub fn session<S: Start, M: Machine, R: Read, W: Write>(
 
 /// Makes the desk in the file at the path one of the newest version, where it is of an older version; a desk of the
 /// newest version stays as it is. `start` names the bytes of the file. The keeper comes back over what the file then
-/// holds, and is still open. Whatever is answered, a stop leaves what was found, or the whole of the newest version.
+/// holds, and is still open. Where the file holds the tables of a version as it was made, and opens, a stop leaves what
+/// was found, or the whole of the newest version, whatever is answered.
 /// For a file that is not there or has no bytes the answer is `NotADesk`, and none is made.
 pub fn upgrade<S: Start>(
     rt: &HostRuntime,

@@ -383,8 +383,8 @@ impl Book {
         Ok(made)
     }
 
-    /// Returns the numbers of the orders that an expiry at that moment aborts, in their order. Of the calls at a
-    /// book that is there, this one alone walks over all orders.
+    /// Returns the numbers of the orders that an expiry at that moment aborts, in their order. Apart from
+    /// `Book::of_tables`, which makes a book, this call alone walks over all orders.
     pub fn due(&self, alloc: Global, now: Moment) -> Result<Vec<OrderNo>, Memory>
         ensures { IfOk result (λ numbers. numbers.items ≡ map (λ o. o.number)
             (filter (expires now) self.now.ledger.orders)) }

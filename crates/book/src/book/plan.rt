@@ -66,8 +66,8 @@ impl Plan {
         self.parts.place
     }
 
-    /// Returns the rows that the request changes, those of each table in the order of its key. Put into the tables,
-    /// they make these the rows of the ledger that `Book::adopt` leaves.
+    /// Returns the rows that the request changes, those of each table in the order of its key. Where
+    /// they are put into the tables, the tables hold the rows of the ledger that `Book::adopt` leaves.
     pub fn changes(&self) -> &[Change]
         ensures { rows_among result.now ≡ self.now.changes }
     {
