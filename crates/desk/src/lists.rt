@@ -88,8 +88,8 @@ fn answer_list<K: Keep, W: Write>(
 /// done is answered. `Read` is never returned.
 ///
 /// `Stopped` is returned only where the desk is stopped. Where the desk was not stopped before the call, the store has
-/// failed at one request, or with `together` at one batch, and a request of these is accepted. None of their lines is
-/// written. Where the disk is honest, a stop of the program then leaves the rows after the requests whose lines are
+/// failed at one request, or with `together` at one batch: that request, or one of that batch, is accepted, and no line
+/// of it, or of the batch, is written. Where the disk is honest, a stop of the program then leaves the rows after the requests whose lines are
 /// written, or the rows after that request or batch. The desk shows the ledger before the request, or the ledger after
 /// the batch.
 ///

@@ -165,8 +165,8 @@ impl<K: Keep> Desk<K> {
     /// after those before it, and what a batch of them changes is kept in one transaction; only then are there replies.
     /// A batch ends with the list, where memory is refused, and where an accepted request would come after a refused
     /// one. The reason for the last is that no refusal is kept: a refused request that comes again is decided anew.
-    /// Were it decided at a ledger after an accepted request of its own batch, it might be decided otherwise. Since
-    /// batches end so, a caller who goes on after the last reply of a run that ended `Stopped` gets the replies of a
+    /// Were an accepted request of its batch behind it, it might be decided otherwise when it comes again after that one
+    /// was kept. Since batches end so, a caller who goes on after the last reply of a run that ended `Stopped` gets the replies of a
     /// run that was never cut. Room for all replies and their lines is made first.
     ///
     /// After `All` and `Memory` the ledger is the one after the requests that are answered, and over an honest disk a
