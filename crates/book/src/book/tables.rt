@@ -90,8 +90,8 @@ fn read_orders(
     group(alloc, &heads, lines, &told)
 }
 
-/// Returns what the rows say, where they are those of a ledger, good or not. The rows of each table are freed as soon
-/// as they are read.
+/// Returns what the rows say, where they are those of a ledger, good or not. The rows of order lines are freed as soon
+/// as they are read, those of the other tables at the end of the call.
 fn read_tables(alloc: Global, tables: Tables) -> Result<Entries, TablesFault>
     ensures told { IfOk result (λ entries. TellsLedger (told_ledger entries) (content_of tables)) }
     ensures form { IfOk result (λ entries. IsInForm (told_ledger entries)) }
