@@ -165,8 +165,8 @@ fn answer_come<D: Dialogue, K: Keep, W: Write>(
 /// After a fault, what is written is a beginning of the answers to what was read. It has the answers to all that the
 /// desk has done, but after a failing write the last of them may be missing or cut. So where memory is refused, all
 /// that is done is answered. `Memory` is returned where memory was refused for an answer, or else for taking a piece of
-/// the input in: then either the call has read nothing at all, or all questions that came whole before that piece
-/// are answered, and nothing of that piece is.
+/// the input in: then all questions that came whole before that piece are answered, and nothing of that piece is. (The
+/// clause `memory` also allows that nothing was read, as it may be where a dialogue cannot be begun.)
 ///
 /// `Stopped` is returned only where the desk is stopped. Where the desk was not stopped before the call and the disk is
 /// honest, a stop of the program then leaves the rows before the request at which the keeper failed, or those after it.

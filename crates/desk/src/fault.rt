@@ -107,7 +107,7 @@ impl From<WriteFault> for ScriptFault {
     }
 }
 
-/// Returns the fault of an opening that a fault of the load becomes.
+/// Returns the fault with which an opening ends whose load ended with that fault.
 pub(crate) fn load_fault(fault: KeepFault) -> OpenFault
     ensures memory { fault ≡ KeepFault.Memory → result ≡ OpenFault.Memory }
     ensures desk { result ≡ OpenFault.NotADesk ↔ fault ≡ KeepFault.NotADesk }

@@ -153,8 +153,8 @@ impl Book {
         }
     }
 
-    /// Puts the field of the order line, as the line leaves it, into `fields`, where the line changes the field's
-    /// stock. `place` is the index of the line in the order.
+    /// Puts the field of the order line, as the line leaves it, into `fields`, where the line is new or changed.
+    /// `place` is the index of the line in the order.
     fn count_line(
         &self,
         fields: &mut Fields,
@@ -183,8 +183,8 @@ impl Book {
         put(fields, name, entry)
     }
 
-    /// Puts into `fields`, for each line of the order that changes its field's stock as the order becomes `after`, the
-    /// field with its new numbers.
+    /// Puts into `fields`, for each line of the order that is new or changes as the order becomes `after`, the field
+    /// with its new numbers, which may be the old ones.
     pub(super) fn count_order(
         &self,
         fields: &mut Fields,
@@ -204,7 +204,7 @@ impl Book {
     }
 
     /// Returns the fields that the accepted request makes or changes, as they are after it: the one that its checks
-    /// found (`found`), or else those whose stock the orders change (`counted`).
+    /// found (`found`), or else those that the orders count in anew (`counted`).
     pub(super) fn fields_after(
         &self,
         alloc: Global,

@@ -251,7 +251,7 @@ fn copy_of_order(alloc: Global, entry: &OrderEntry, more: usize) -> Result<Order
 }
 
 /// What an accepted command makes of the orders, step by step: the orders as they are after it, the fields whose
-/// stock their lines change, and the rows that change.
+/// numbers their lines make anew, and the rows that change.
 #[derive(Drop)]
 pub(super) struct Made {
     pub orders: Vec<Order>,

@@ -58,7 +58,7 @@ pub(super) fn changes_line(before: Option<&Line>, line: &Line) -> bool
     }
 }
 
-/// Returns whether the stock of the line's field changes.
+/// Returns whether the numbers of the line's field are made anew. They may come out as they were.
 pub(super) fn changes_stock(
     before: Option<&OrderEntry>,
     after: &Order,
