@@ -153,8 +153,8 @@ impl Book {
         }
     }
 
-    /// Puts the field of the order line, as the line leaves it, into `fields`, where the line is new or changed.
-    /// `place` is the index of the line in the order.
+    /// Puts the field of the order line, as the line leaves it, into `fields`, where the order is new, ends
+    /// or becomes firm, or the line is new or changed. `place` is the index of the line in the order.
     fn count_line(
         &self,
         fields: &mut Fields,
@@ -183,8 +183,8 @@ impl Book {
         put(fields, name, entry)
     }
 
-    /// Puts into `fields`, for each line of the order that is new or changes as the order becomes `after`, the field
-    /// with its new numbers, which may be the old ones.
+    /// Puts into `fields`, for each line of the order that counts anew as the order becomes `after`, the field with its
+    /// new numbers, which may be the old ones.
     pub(super) fn count_order(
         &self,
         fields: &mut Fields,
