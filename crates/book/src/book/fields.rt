@@ -153,8 +153,9 @@ impl Book {
         }
     }
 
-    /// Puts the field of the order line, as the line leaves it, into `fields`, where the order is new, ends
-    /// or becomes firm, or the line is new or changed. `place` is the index of the line in the order.
+    /// Puts the field of the order line, as the line leaves it, into `fields`, where the line counts anew: the
+    /// order is new, ends or becomes firm, or the line holds another amount or, in a firm order, has used another.
+    /// `place` is the index of the line in the order.
     fn count_line(
         &self,
         fields: &mut Fields,
