@@ -2,7 +2,9 @@
 //!
 //! Two words are kept apart here. A *stop* is whatever ends the program, as a kill or a power cut. A desk or a keeper
 //! is *stopped* once a load or a commit of the keeper has failed while the program ran on: from then on it carries out
-//! nothing more. What docstrings say a stop leaves is said of a stop of the program right after the call.
+//! nothing more. What docstrings say a stop leaves is said of a stop of the program right after the call. Of a desk that
+//! puts its commits off it is said of the time when `settle` has come back; until then a stop leaves what the inner
+//! keeper holds.
 //!
 //! In the methods of a type, the prover learns the type's invariant where a field of the value is first used; elsewhere
 //! it learns what the contract of a called method says. So here and there a field is read, or a method is called, and
