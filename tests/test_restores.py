@@ -74,14 +74,14 @@ class Restores(ProgramCase):
         expect(os.listdir(os.path.dirname(path)) == ["desk.db"], "something is left over")
 
     def test_one_of_two_restores_is_refused(self):
-        """Both restore to one name at once, ten times: one succeeds, the other says what is there."""
+        """Both restore to one name at once, ten times: one succeeds, the other says what is there, or that the copy is in use."""
         _, copy = copy_of_a_desk(self.program, self.folder)
         with ThreadPoolExecutor(2) as pool:
             for number in range(10):
                 words = restore_words(self.program, copy, os.path.join(self.folder, f"restored{number}.db"))
                 ends = sorted(pool.map(ended, [words, words]))
                 expect([end[0] for end in ends] == [0, 1], f"{ends}")
-                expect(ends[1][2].endswith(" is there already\n"), f"{ends}")
+                expect(ends[1][2].endswith(" is there already\n") or f"{copy} is in use: " in ends[1][2], f"{ends}")
                 expect(bytes_of(words[2]) == bytes_of(copy), "other bytes")
 
     @needs_sqlite

@@ -53,7 +53,8 @@ def ended(
         cwd=folder,
         env=environment,
         capture_output=True,
-        timeout=SECONDS,
+        # a large script may take long on a busy machine
+        timeout=4 * SECONDS,
         # what goes beyond the limit is refused, and raises no signal
         restore_signals=limit is None,
         preexec_fn=limit and (lambda: resource.setrlimit(limit[0], (limit[1], limit[1]))),
