@@ -1,5 +1,6 @@
 """Tests of the first run: each crate is proved once, after those that it stands on, and a line says so; where a crate is not
-proved, the run ends with what rt said. In place of rt stands a script that notes where it was called, and with which words."""
+proved, the run ends with what rt said. In place of rt stands a script that notes where it was called, and with which words.
+No two runs of it are in one tree at a time."""
 
 import os
 import shutil
@@ -12,7 +13,12 @@ from support.programs import End
 
 CRATES = "# lowest first\nlow: thiserror\nside:\nmid: low itoa\ntop: mid side low\nlow_tests: low\n"
 TABLE = "|crate|its proof|by the clock|\n|---|---|---|\n|`low`|9|120|\n|`side`|9|60|\n|`mid`|9|90|\n|`top`|9|240|\n"
+# fails where another run works in the same tree
 RT = """#!/bin/sh
+mkdir ../busy || exit 1
+sleep 0.2
+rmdir ../busy
+[ "$1" = lib ] || : >built
 echo "${PWD##*/} $*" >>"$CALLS"
 if [ "${PWD##*/}" = "$REFUSED" ]; then echo "fn f: not proved"; exit 1; fi
 """
@@ -52,6 +58,7 @@ class Build(unittest.TestCase):
         self.assertEqual(sorted(begun), ["low lib", "mid lib", "side lib", "top run"])
         self.assertLess(begun.index("low lib"), begun.index("mid lib"))
         self.assertEqual(begun[-1], "top run")
+        self.assertTrue(os.path.exists(os.path.join(self.folder, "crates", "top", "built")), "the program is in another tree")
         lines = told.decode().splitlines()
         self.assertEqual(sum("of 4: proving; about" in line for line in lines), 4, told)
         # the longest way is over low and mid: 450 seconds
