@@ -29,6 +29,7 @@ class Build(unittest.TestCase):
         self.folder = tempfile.mkdtemp()
         self.addCleanup(shutil.rmtree, self.folder)
         shutil.copy(os.path.join(TOP, "build"), self.folder)
+        self.write("HANDLES", "Handles allowed: none.\n")
         for name, text in [("crates.txt", CRATES), ("docs/PROOFS.md", TABLE), ("bin/rt", RT), ("crates/top/src/main.rt", "")]:
             self.write(name, text)
         for name in ["low", "side", "mid"]:
