@@ -355,7 +355,7 @@ pub no_changes : (xs : List Change) (n : ℕ) → n ≡ length xs → (n == 0) �
 no_changes [] n is none = refl
 no_changes (x ∷ xs) n is none = let zero = eqb-true n 0 none in absurd (omega arith)
 
--- ---- a commit more, before that of a batch, that puts nothing in (for a control of more-edits)
+-- ---- a commit more, before that of a batch, that puts nothing in (for a control of edits)
 
 -- what is one content, and the same again, is that or another
 wider : (x y z : Content) → IsAmong (x ∷ x ∷ []) z → IsAmong (x ∷ y ∷ []) z
