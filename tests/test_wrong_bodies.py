@@ -40,13 +40,13 @@ PROVER = r"""#!/usr/bin/env python3
 import os, re, sys
 text = open("src/lib.rt").read()
 sums = {"two": r"1 \+ 1|2", "three": r"two\(\) \+ 1|1 \+ two\(\)", "Sum::four": r"2 \+ 2|4"}
-found = dict(zip(sums, re.findall(r"\{\n +(.*)\n *\}\n", text)))
+found = dict(zip(sums, re.findall(r"(?:u8|^) *\{\s+([^{}]*?)\s+\}\n", text, re.MULTILINE)))
 with open(os.environ["CALLS"], "a") as file:
     file.write(" ".join(sys.argv[sys.argv.index("--jobs") + 2:]) + "\n")
 if "broken" in text:
     print("error[syntax]: broken")
     sys.exit(1)
-wrong = [name for name, sum in sums.items() if not re.fullmatch(sum, found[name])]
+wrong = [name for name, sum in sums.items() if not re.fullmatch(sum + r"|unreachable!\(\)", found[name])]
 only = [sys.argv[at + 1] for at, word in enumerate(sys.argv) if word == "--only"] or list(sums)
 for name in only:
     path = "Rattle.small.proofs." + name.replace("::", ".")

@@ -1,5 +1,5 @@
-"""Checks of a crate in a copy, in which each function that is not looked at has a hole for its proof. The prover then takes it by
-its contract, and proves the functions that are looked at alone."""
+"""Checks of a crate in a copy, in which each function that is not looked at has no body, and a hole for its proof. The prover
+then takes it by its contract, and proves the functions that are looked at alone."""
 
 import contextlib
 import os
@@ -8,10 +8,10 @@ import resource
 import shutil
 import subprocess
 import tempfile
-from collections.abc import Collection, Mapping
+from collections.abc import Collection, Iterable, Mapping
 from dataclasses import dataclass
 
-from wrong_bodies.functions import Function, functions_of, sources_of
+from wrong_bodies.functions import Function, functions_of, sources_in
 
 PARTS = ["src", "specs", "proofs"]
 # a proof whose only word is a hole
@@ -148,7 +148,25 @@ def copy_parts(folder: str, to: str) -> None:
             shutil.copytree(os.path.join(folder, part), os.path.join(to, part))
 
 
-def write_stub(folder: str, function: Function) -> None:
+def without_body(text: str, function: Function) -> str:
+    """The text of a source in which a function does nothing, on as many lines as before."""
+    lines = text.count("\n", function.body, function.end)
+    return text[: function.body] + "{ unreachable!()" + "\n" * lines + " }" + text[function.end :]
+
+
+def write_stubs(room: str, functions: Iterable[Function]) -> None:
+    """Takes the bodies of these functions away, and puts holes in the place of their proofs."""
+    for function in sorted(functions, key=lambda it: -it.begin):
+        write_hole(room, function)
+        path = os.path.join(room, function.file)
+        with open(path, encoding="utf-8") as file:
+            text = file.read()
+        if text[function.body : function.end] != "{}":
+            with open(path, "w", encoding="utf-8") as file:
+                file.write(without_body(text, function))
+
+
+def write_hole(folder: str, function: Function) -> None:
     """Puts a hole in the place of a function's proof."""
     place = os.path.join(folder, function.folder)
     os.makedirs(place, exist_ok=True)
@@ -169,9 +187,8 @@ def check(libraries: Libraries, crate: str, texts: Mapping[str, str], looked_at:
                 file.write(text)
         words = [os.path.join(libraries.kit, "bin", "rattle"), "check", *libraries.words(crate)]
         if looked_at is not None:
-            for function in functions_of(crate, sources_of(libraries.top, crate)):
-                if function not in looked_at:
-                    write_stub(room, function)
+            own = {it.words for it in looked_at}
+            write_stubs(room, (it for it in functions_of(crate, sources_in(room)) if it.words not in own))
             words += ["--allow-holes", *(word for it in looked_at for word in ("--only", it.name))]
         run = subprocess.run(
             words,

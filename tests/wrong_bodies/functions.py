@@ -14,12 +14,14 @@ IMPL = re.compile(r"impl(<(?:[^<>]|<[^<>]*>)*>)? (?:(.*) for )?(.*?)(?: where .*
 
 @dataclass(frozen=True)
 class Function:
-    """A function with a body: the words of its name below the crate, and where its text begins and ends in its file."""
+    """A function with a body: the words of its name below the crate, and where in its file its text begins, its body begins,
+    and both end."""
 
     crate: str
     words: tuple[str, ...]
     file: str
     begin: int
+    body: int
     end: int
 
     @property
@@ -64,17 +66,20 @@ def modules_of(file: str) -> list[str]:
     return [] if path in ("lib", "main") else path.split("/")
 
 
-def end_of(text: str, head: re.Match[str]) -> int:
-    """Where the body behind this head ends; -1 where a semicolon stands in its place, as in a trait."""
+def body_of(text: str, head: re.Match[str]) -> tuple[int, int] | None:
+    """Where the body behind this head begins and ends; none where a semicolon stands in its place, as in a trait."""
     if head[3].endswith("}"):
-        return head.end()
+        return text.index("{", head.start(3)), head.end()
     # the next line that stands as far left, and is not the end of the parameters or `where`
     begin = re.compile(rf"^{head[1]}(?!where$|\)[^{{]*$)[^ \n].*$", re.MULTILINE).search(text, head.end())
     if begin and begin[0].endswith("{}"):
-        return begin.end()
-    if head[3].endswith(" {") or begin and re.fullmatch(r"(\).* )?\{", begin[0].strip()):
-        return text.index(f"\n{head[1]}}}\n", head.end()) + len(head[1]) + 2
-    return -1
+        return begin.end() - 2, begin.end()
+    end = text.find(f"\n{head[1]}}}\n", head.end()) + len(head[1]) + 2
+    if head[3].endswith(" {"):
+        return head.end() - 1, end
+    if begin and re.fullmatch(r"(\).* )?\{", begin[0].strip()):
+        return begin.end() - 1, end
+    return None
 
 
 def functions_in(crate: str, file: str, text: str, homes: dict[str, list[str]]) -> list[Function]:
@@ -82,17 +87,16 @@ def functions_in(crate: str, file: str, text: str, homes: dict[str, list[str]]) 
     owners = [(line.start(), line[1]) for line in OWNER.finditer(text)]
     found = []
     for head in FUNCTION.finditer(text):
-        end = end_of(text, head)
+        body = body_of(text, head)
         above = [line for at, line in owners if at < head.start()] if head[1] else []
         place = owner_of(above[-1], modules_of(file), homes) if above else modules_of(file)
-        if end >= 0:
-            found.append(Function(crate, (*place, head[2]), file, head.start(), end))
+        if body:
+            found.append(Function(crate, (*place, head[2]), file, head.start(), *body))
     return found
 
 
-def sources_of(top: str, crate: str) -> dict[str, str]:
-    """The texts of a crate's sources, by their paths in the crate."""
-    folder = os.path.join(top, "crates", crate)
+def sources_in(folder: str) -> dict[str, str]:
+    """The texts of the sources of the crate in a folder, by their paths there."""
     texts = {}
     for path in sorted(glob.glob(f"{folder}/src/**/*.rt", recursive=True)):
         with open(path, encoding="utf-8") as file:

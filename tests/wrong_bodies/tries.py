@@ -8,7 +8,7 @@ from dataclasses import dataclass, replace
 
 from wrong_bodies.checks import AT_LIMIT, Libraries, Told, check
 from wrong_bodies.edits import BadEdit, Edit, swapped
-from wrong_bodies.functions import Function, functions_of, sources_of
+from wrong_bodies.functions import Function, functions_of, sources_in
 from wrong_bodies.results import Results, sum_of_crate
 
 # what a try can come to: an edit that is wrong says nothing
@@ -43,7 +43,7 @@ class Crate:
 
     def __init__(self, top: str, name: str):
         self.name, self.folder = name, os.path.join(top, "crates", name)
-        self.texts = sources_of(top, name)
+        self.texts = sources_in(self.folder)
         self.functions = functions_of(name, self.texts)
 
     def read(self, path: str) -> str:
