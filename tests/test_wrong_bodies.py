@@ -202,11 +202,9 @@ class Choices(unittest.TestCase):
         expect(not runs.one_of_each(crate, [Edit("c", "edits", "limits.a.edit", "", [])]), "chosen")
 
 
-class Reading(unittest.TestCase):
-    def test_functions_have_the_names_of_their_proofs(self) -> None:
-        texts = {
-            "src/lib.rt": "pub struct Desk<K>(K);\n",
-            "src/run.rt": """impl<K: Keep> Desk<K> {
+NAMED = {
+    "src/lib.rt": "pub struct Desk<K>(K);\n",
+    "src/run.rt": """impl<K: Keep> Desk<K> {
     pub fn run(&mut self, requests: &[Request]) -> Run
     where
         K: Drop,
@@ -249,8 +247,12 @@ pub fn law()
     ensures { true }
 {}
 """,
-        }
-        found = [it.name for it in functions.functions_of("c", texts)]
+}
+
+
+class Reading(unittest.TestCase):
+    def test_functions_have_the_names_of_their_proofs(self) -> None:
+        found = [it.name for it in functions.functions_of("c", NAMED)]
         want = ["Desk::run", "Desk+Deferred+K::settle", "run::MemoryFromAllocFailed::from"]
         want += ["run::Tuple2KeyKeptEntryToldKeptRow::read", "run::Keep::make_room", "run::law"]
         expect(found == want, f"{found}")
