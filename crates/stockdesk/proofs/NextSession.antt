@@ -24,8 +24,8 @@ use Rattle.stockdesk.specs.Outside.{Outside}
 use Rattle.stockdesk.specs.Sessions.{IsNoDesk}
 use Rattle.stockdesk.specs.Work.{IsFoundAfterWork, WorkCut, WorkDone}
 use Rattle.stockdesk.specs.declared.session.Fault.{Fault}
-use Rattle.stockdesk.specs.declared.work.Work.{Work}
-use Rattle.stockdesk.specs.declared.work.Work.TheVariants.{Requests, Script, Serve, ServeAtOnce, Sheet}
+use Rattle.command_line.specs.declared.work.Work.{Work}
+use Rattle.command_line.specs.declared.work.Work.TheVariants.{Requests, Script, Serve, ServeAtOnce, Sheet}
 use Rattle.stockdesk.proofs.Meetings.{many_left}
 use Rattle.stockdesk.proofs.SessionParts.{not_unbegun}
 

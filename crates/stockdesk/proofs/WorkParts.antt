@@ -21,8 +21,8 @@ use Rattle.stockdesk.specs.Requests.{FileCut}
 use Rattle.stockdesk.specs.Sessions.{IsUnbegun, Session, desk_left}
 use Rattle.stockdesk.specs.Work.{WorkCut, WorkInPart, WorkWhole}
 use Rattle.stockdesk.specs.declared.session.Fault.{Fault}
-use Rattle.stockdesk.specs.declared.work.Work.{Work}
-use Rattle.stockdesk.specs.declared.work.Work.TheVariants.{Requests, Script, Serve, ServeAtOnce, Sheet}
+use Rattle.command_line.specs.declared.work.Work.{Work}
+use Rattle.command_line.specs.declared.work.Work.TheVariants.{Requests, Script, Serve, ServeAtOnce, Sheet}
 use Rattle.stockdesk.proofs.Connections.{port_unwritten, port_whole}
 use Rattle.stockdesk.proofs.SessionParts.{cut_begins, not_unbegun, nothing_read, told_begun}
 

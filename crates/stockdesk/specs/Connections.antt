@@ -19,7 +19,7 @@ use Rattle.rounds.specs.Rounds.{AreSaid, Loss}
 use Rattle.rounds.specs.Lines.{Said}
 use Rattle.rounds.specs.Services.{HasMet}
 use Rattle.stockdesk.specs.Outside.{Gathering, Listening, Outside}
-use Rattle.stockdesk.specs.declared.loopback.Service.{Service}
+use Rattle.command_line.specs.declared.work.Service.{Service}
 use Rattle.stockdesk.specs.declared.session.Fault.{Fault}
 
 -- ---- the port

@@ -12,12 +12,12 @@ use Rattle.stockdesk.specs.Connections.{PortBegun, PortTold}
 use Rattle.stockdesk.specs.Requests.{RequestsAnswered}
 use Rattle.stockdesk.specs.Runs.{AnswersText, BeginsText}
 use Rattle.stockdesk.specs.Sheets.{SheetBegun, SheetWritten}
-use Rattle.stockdesk.specs.Tasks.{Asks, stockdesk}
-use Rattle.stockdesk.specs.declared.sheet.SheetOf.{SheetOf}
-use Rattle.stockdesk.specs.declared.tasks.Task.{Task}
-use Rattle.stockdesk.specs.declared.tasks.Task.TheVariants.{InFile, InMemory, Init, Upgrade}
-use Rattle.stockdesk.specs.declared.work.Work.{Work}
-use Rattle.stockdesk.specs.declared.work.Work.TheVariants.{Requests, Script, Serve, ServeAtOnce, Sheet}
+use Rattle.command_line.specs.Tasks.{Asks, stockdesk}
+use Rattle.command_line.specs.declared.work.SheetOf.{SheetOf}
+use Rattle.command_line.specs.declared.tasks.Task.{Task}
+use Rattle.command_line.specs.declared.tasks.Task.TheVariants.{InFile, InMemory, Init, Upgrade}
+use Rattle.command_line.specs.declared.work.Work.{Work}
+use Rattle.command_line.specs.declared.work.Work.TheVariants.{Requests, Script, Serve, ServeAtOnce, Sheet}
 
 -- ---- replies to requests
 

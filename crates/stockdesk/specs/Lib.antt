@@ -6,5 +6,4 @@ pub mod Requests
 pub mod Sheets
 pub mod Closing
 pub mod Work
-pub mod Tasks
 pub mod Done

@@ -16,8 +16,8 @@ use Rattle.files.specs.Orders.{SayOrders, order_header}
 use Rattle.files.specs.declared.fault.FileFault.{FileFault}
 use Rattle.stockdesk.specs.Outside.{Paths}
 use Rattle.stockdesk.specs.Sessions.{IsBadFile, IsCutAs}
-use Rattle.stockdesk.specs.declared.requests.Kind.{Kind}
-use Rattle.stockdesk.specs.declared.requests.Kind.TheVariants.{Bounds, Deliveries, Orders}
+use Rattle.command_line.specs.declared.work.Kind.{Kind}
+use Rattle.command_line.specs.declared.work.Kind.TheVariants.{Bounds, Deliveries, Orders}
 use Rattle.stockdesk.specs.declared.session.Fault.{Fault}
 
 -- ---- the file

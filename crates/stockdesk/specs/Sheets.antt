@@ -4,8 +4,8 @@ use Rattle.std.specs.Io.KnownBytes.{Appends}
 use Rattle.ledger.specs.Ledger.{Ledger}
 use Rattle.files.specs.Sheets.{IsArticleSheet, IsBranchSheet}
 use Rattle.stockdesk.specs.declared.session.Fault.{Fault}
-use Rattle.stockdesk.specs.declared.sheet.SheetOf.{SheetOf}
-use Rattle.stockdesk.specs.declared.sheet.SheetOf.TheVariants.{Article, Branch}
+use Rattle.command_line.specs.declared.work.SheetOf.{SheetOf}
+use Rattle.command_line.specs.declared.work.SheetOf.TheVariants.{Article, Branch}
 
 -- the text is the sheet of that branch or article
 abbrev pub IsSheet : SheetOf → Ledger → List ℕ → Type 0

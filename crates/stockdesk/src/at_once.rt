@@ -6,41 +6,15 @@ ghost use Rattle.stockdesk.specs.Connections.{IsCrowdFault, Listens, ManyCut, Me
 ghost use Rattle.stockdesk.specs.Outside.{gathering, outside};
 ghost use Rattle.stockdesk.specs.Work.{Ends};
 
-use crate::loopback::{Service, tell_listener};
+use crate::loopback::tell_listener;
 use crate::machine::Machine;
 use crate::session::Fault;
+use command_line::{AtOnce, Service};
 use desk::Desk;
 use keep::Keep;
 use rounds::{Crowd, ServiceFault, Terms, serve_rounds};
 use std::io::Write;
-use std::num::NonZeroUsize;
 use web::HttpDialogue;
-
-/// How many connections are served at once.
-#[derive(Clone, Copy)]
-pub struct AtOnce {
-    /// How many questions are answered in a round, at the most.
-    pub together: NonZeroUsize,
-    /// How many connections may be open at once, where the words say that.
-    pub clients: Option<NonZeroUsize>,
-}
-
-/// How many connections may be open at once where the words say nothing.
-const CLIENTS: usize = 1_000;
-
-impl AtOnce {
-    /// Returns how many connections may be open at once.
-    fn most_clients(&self) -> usize
-        ensures said { IfSome self.now.clients (λ clients. result ≡ non_zero_usize_get clients) }
-        ensures unsaid { IfNone self.now.clients (result ≡ 1000) }
-        ensures some { 1 ≤ result }
-    {
-        match self.clients {
-            Some(clients) => clients.get(),
-            None => CLIENTS,
-        }
-    }
-}
 
 /// Returns how the end of a service is reported: as a fault of the store where the keeper is stopped, and else as want
 /// of memory where the desk is stopped.

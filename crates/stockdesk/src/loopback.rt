@@ -16,13 +16,6 @@ use std::alloc::{AllocError, Global};
 use std::io::{self, ErrorKind, Write};
 use words::write_whole;
 
-/// Where a desk is served, and to how many connections. Port 0 is any that is free.
-#[derive(Clone, Copy)]
-pub struct Service {
-    pub port: u16,
-    pub connections: u32,
-}
-
 /// Serves so many connections on a desk that is not stopped, one after the other as they come, and closes each after
 /// its answers. A fault of a connection ends only that connection. After an error, all connections that came are
 /// served: `Socket` says that no further connection could be had, `Store` that the last one stopped the desk.

@@ -8,8 +8,8 @@ ghost use Rattle.clap.specs.Words.{kind_of};
 ghost use Rattle.stockdesk.specs.Done.{DoesAsked, DoesAskedInPart};
 ghost use Rattle.stockdesk.specs.Runs.{AnswersText, BeginsText};
 ghost use Rattle.stockdesk.specs.Sessions.{IsBadFile, IsNoDesk, IsUnbegun};
-ghost use Rattle.stockdesk.specs.Tasks.{AreWordsFor};
-ghost use Rattle.stockdesk.specs.declared.tasks.Task.{Task};
+ghost use Rattle.command_line.specs.Tasks.{AreWordsFor};
+ghost use Rattle.command_line.specs.declared.tasks.Task.{Task};
 
 mod at_once;
 mod crowd;
@@ -23,16 +23,15 @@ mod perform;
 mod requests;
 mod session;
 mod sheet;
-mod tasks;
 mod upgrade;
 mod work;
 
 use crate::machine::Host;
 use crate::perform::perform;
 use crate::session::Fault;
-use crate::tasks::read_task;
 use clap::Error as WordsError;
 use clap::error::ErrorKind as WordsKind;
+use command_line::read_task;
 use std::alloc::Global;
 use std::env::{self, Env};
 use std::io::{self, ErrorKind, Read, Write};

@@ -9,7 +9,8 @@ ghost use Rattle.stockdesk.specs.Sessions.{IsUnbegun};
 use crate::machine::Host;
 use crate::new_desk::new_desk;
 use crate::session::Fault;
-use crate::work::{Work, session};
+use crate::work::session;
+use command_line::Work;
 use sqlite::Connection;
 use std::io::{Read, Write};
 

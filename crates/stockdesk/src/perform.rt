@@ -7,8 +7,8 @@ ghost use Rattle.stockdesk.specs.Sessions.{IsUnbegun};
 
 use crate::machine::Machine;
 use crate::session::Fault;
-use crate::tasks::Task;
 use crate::{file, memory};
+use command_line::Task;
 use sqlite::Unknown;
 use std::io::{Read, Write};
 

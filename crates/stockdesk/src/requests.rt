@@ -11,6 +11,7 @@ ghost use Rattle.files.specs.declared.fault.FileFault.{FileFault};
 
 use crate::machine::Machine;
 use crate::session::Fault;
+use command_line::Kind;
 use desk::{Desk, answer_lists};
 use files::{FileFault, read_bounds, read_deliveries, read_orders};
 use keep::Keep;
@@ -18,14 +19,6 @@ use std::alloc::Global;
 use std::io::{ErrorKind, Read, Write};
 use std::num::NonZeroUsize;
 use words::Request;
-
-/// What a file of requests holds.
-#[derive(Clone, Copy)]
-pub enum Kind {
-    Orders,
-    Deliveries,
-    Bounds,
-}
 
 /// Reads the requests of a file.
 fn read<R: Read + Drop>(alloc: Global, kind: Kind, reader: R) -> Result<Vec<Request>, FileFault>

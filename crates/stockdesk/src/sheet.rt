@@ -5,17 +5,10 @@ ghost use Rattle.stockdesk.specs.Sheets.{SheetCut, SheetWritten};
 
 use crate::session::Fault;
 use book::Book;
-use escrow::{Article, Branch};
+use command_line::SheetOf;
 use files::{SheetFault, article_sheet, branch_sheet};
 use std::alloc::Global;
 use std::io::Write;
-
-/// What a sheet shows.
-#[derive(Clone, Copy)]
-pub enum SheetOf {
-    Branch(Branch),
-    Article(Article),
-}
 
 impl From<SheetFault> for Fault {
     ghost use Rattle.std.specs.Prelude.{◌≡◌, ◌⊎◌};

@@ -10,31 +10,16 @@ ghost use Rattle.stockdesk.specs.Outside.{outside};
 ghost use Rattle.stockdesk.specs.Sessions.{IsNoDesk, session_on};
 ghost use Rattle.stockdesk.specs.Work.{Ends, GoesOnFrom, IsOnOneDesk, WorkCut, WorkDone, WorkInPart, WorkWhole};
 
-use crate::at_once::{AtOnce, serve_at_once};
-use crate::loopback::{Service, listen_at, serve_all};
+use crate::at_once::serve_at_once;
+use crate::loopback::{listen_at, serve_all};
 use crate::machine::Machine;
-use crate::requests::{Kind, answer_file};
+use crate::requests::answer_file;
 use crate::session::Fault;
-use crate::sheet::{SheetOf, write_sheet};
+use crate::sheet::write_sheet;
+use command_line::Work;
 use desk::{Desk, script};
 use keep::Keep;
 use std::io::{Read, Write};
-use std::num::NonZeroUsize;
-
-/// What is done on a desk.
-#[derive(Clone, Copy)]
-pub enum Work<'a> {
-    /// To play a script, from the reader to the writer.
-    Script,
-    /// To answer the requests of the file at this path, one after the other or in batches of at most so many.
-    Requests(Kind, &'a str, Option<NonZeroUsize>),
-    /// To write a sheet of the desk.
-    Sheet(SheetOf),
-    /// To serve the desk to one connection after the other.
-    Serve(Service),
-    /// To serve the desk to many connections at once.
-    ServeAtOnce(Service, AtOnce),
-}
 
 /// Does work on a desk that the caller lends for it. Its calls of `is_stopped` do nothing when run; the prover learns
 /// that the desk is in order.

@@ -1,7 +1,7 @@
 use Rattle.std.proofs.Common.{arith, sym, true≢false}
 use Rattle.std.proofs.Math.Logic.{inl, inr}
 use Rattle.std.proofs.KnownBytes.{Keeps-refl}
-use Rattle.stockdesk.specs.declared.tasks.Task.TheVariants.{InMemory}
+use Rattle.command_line.specs.declared.tasks.Task.TheVariants.{InMemory}
 use Rattle.stockdesk.proofs.SessionParts.{runs_nothing, told_unbegun}
 use Rattle.stockdesk.proofs.go.Goals as goal
 

@@ -3,7 +3,7 @@ use Rattle.desk.specs.Streams.{only_written}
 use Rattle.desk.proofs.Faults.{of_error}
 use Rattle.files.specs.declared.fault.FileFault.{FileFault}
 use Rattle.stockdesk.specs.Requests.{IsFileFault, NamesFirstOf}
-use Rattle.stockdesk.specs.declared.requests.Kind.{Kind}
+use Rattle.command_line.specs.declared.work.Kind.{Kind}
 use Rattle.stockdesk.specs.declared.session.Fault.{Fault}
 use Rattle.stockdesk.proofs.WorkParts.{cut_of}
 use Rattle.stockdesk.proofs.requests.answer_file.Goals as goal

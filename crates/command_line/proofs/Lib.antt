@@ -1,0 +1,2 @@
+mod PlainWords
+mod TaskWords
