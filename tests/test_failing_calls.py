@@ -5,13 +5,16 @@ import contextlib
 import errno
 import itertools
 import os
+import shutil
 import socket
 
 from support.cases import needs_strict_tables
 from support.failing import Failing, FailingCase, Failure
 from support.messages import answer, compact, message
-from support.programs import IO, SECONDS, STORE, End, done, expect, new_desk, note
+from support.older import older, upgraded
+from support.programs import IO, SECONDS, STORE, WELL, End, done, expect, new_desk, note
 from support.service import NotServed, Service
+from support.tables import rows_of
 from support.works import REQUESTS, SCRIPT, SHEETS, WORKS, OnCopies, Work, copy_desk
 
 # two of the errors ask for another try; a write with the error 0 takes no byte, which is no error to the system
@@ -129,6 +132,28 @@ class FailingCalls(FailingCase):
     def test_a_work_ends_at_a_call_of_its_store_that_fails(self):
         for work in [SHEETS[0], SCRIPT, REQUESTS[1]]:
             self.on_copies(work).expect_cut_alike("store", [STORE], errno.EIO)
+
+    def test_an_upgrade_is_whole_where_a_call_of_its_store_fails(self):
+        """It leaves all of version 1, which is then upgraded, or all of version 2."""
+        old = older(self.folder, "transfer")
+        new = upgraded(self.program, shutil.copyfile(old, os.path.join(self.folder, "new.db")))
+        old_rows, new_rows = rows_of(old), rows_of(new)
+
+        def cut(failure: Failure, lane: str) -> bool:
+            copy_desk(old, path := os.path.join(lane, "desk.db"))
+            end, came = self.failing.ended(["upgrade", path], "", failure, lane)
+            expect(end == WELL or came and end == STORE, f"{failure}: {end}")
+            expect(rows_of(path) in [new_rows, *([] if end == WELL else [old_rows])], f"{failure}: other rows")
+            expect(rows_of(upgraded(self.program, path)) == new_rows, f"{failure}: other rows at last")
+            return end == STORE
+
+        with self.failing.lane() as lane:
+            copy_desk(old, path := os.path.join(lane, "desk.db"))
+            count = self.failing.count("store", ["upgrade", path], "", lane)
+        failures = [Failure("store", number, is_for_good) for number in range(1, count + 1) for is_for_good in (False, True)]
+        cuts = self.failing.attempt(failures, cut)
+        expect(any(cuts), "none was cut")
+        note(f"upgrade: {sum(cuts)} of {len(cuts)}")
 
     def test_a_connection_ends_at_a_read_or_a_write_that_fails(self):
         connections = Connections(self.failing, self.folder)

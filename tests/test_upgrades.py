@@ -1,12 +1,13 @@
-"""Tests of files that a program of version 1 wrote: what each command answers to them, and what they are once they are
-upgraded."""
+"""Tests of files that a program of version 1 wrote: what each command answers to them, what they are once they are upgraded, and
+what makes them files that are not."""
 
+import contextlib
 import os
 import random
 import subprocess
 import time
 
-from support.cases import ProgramCase
+from support.cases import ProgramCase, needs_strict_tables
 from support.older import OLDER, older, upgraded
 from support.programs import (
     NOT_A_DESK,
@@ -25,6 +26,18 @@ from support.programs import (
 from support.tables import rows_of, sqlite3
 
 ROUNDS = 50
+
+# what makes a file no desk of version 1, and how its upgrade ends
+CHANGES = [
+    ("DROP TABLE kept", NOT_A_DESK),
+    ("DELETE FROM desk", NOT_A_DESK),
+    ("UPDATE desk SET version = 2", NOT_A_DESK),
+    ("UPDATE desk SET version = 0", NOT_A_DESK),
+    ("INSERT INTO desk VALUES (2, 1, 0, 0)", NOT_A_DESK),
+    ("CREATE TABLE firm (number INTEGER NOT NULL PRIMARY KEY) STRICT", NOT_A_DESK),
+    # a table beside those of a version
+    ("CREATE TABLE note (n INTEGER) STRICT", STORE),
+]
 
 
 class Upgrades(ProgramCase):
@@ -75,6 +88,20 @@ class Upgrades(ProgramCase):
         found = bytes_of(new)
         upgraded(self.program, new)
         expect(bytes_of(new) == found, "a new desk was changed")
+
+    @needs_strict_tables
+    def test_only_the_two_versions_are_upgraded(self):
+        """A file that is of neither stays as it was."""
+        for change, end in CHANGES:
+            path = older(self.folder, "transfer")
+            with contextlib.closing(sqlite3.connect(path)) as database, database:
+                database.execute(change)
+            found = bytes_of(path)
+            try:
+                expect_end(self.program, ["upgrade", path], end)
+            except AssertionError as fault:
+                raise AssertionError(f"{change}: {fault}") from fault
+            expect(bytes_of(path) == found, f"{change}: the file was changed")
 
     def test_a_killed_upgrade_leaves_either_version(self):
         """What is left is all of version 1, which can then be upgraded, or all of version 2."""

@@ -126,11 +126,11 @@ class Cuts:
                 self.cut(disk, self.recorded.told(written) if made else None)
 
 
-def try_cuts(program: str, folder: str, recorded: Recorded, seed: int, count: int) -> None:
+def try_cuts(program: str, folder: str, recorded: Recorded, seed: int, count: int, blind_count: int = BLIND_CUTS) -> None:
     cuts, blind = (Cuts(program, folder, recorded, Random(seed)) for _ in range(2))
     cuts.after_each(Disk(recorded.folder, recorded.files), recorded.calls, count)
     expect(cuts.lost == 0, f"seed {seed}: {cuts.lost} of {cuts.tried} cuts lost something")
-    blind.after_each(Disk(recorded.folder, recorded.files), without_some_syncs(recorded.calls), BLIND_CUTS)
+    blind.after_each(Disk(recorded.folder, recorded.files), without_some_syncs(recorded.calls), blind_count)
     expect(blind.lost > 0, f"seed {seed}: no sync is missed")
     note(f"seed {seed}: {cuts.tried} cuts after {len(recorded.calls)} calls, {cuts.openings} of them in an opening, too")
     note(f"with every other sync left out {blind.lost} of {blind.tried} lose something")

@@ -1,14 +1,8 @@
-//! Tests of the libraries, each by what callers see.
+//! Tests of the libraries, each by what only a caller of a library sees. What the program shows is tested in `tests/`.
 #![tactic(auto)]
 
 #[cfg(test)]
-mod books;
-#[cfg(test)]
 mod desks;
-#[cfg(test)]
-mod keepers;
-#[cfg(test)]
-mod of_book;
 #[cfg(test)]
 mod of_desk;
 #[cfg(test)]

@@ -9,7 +9,7 @@ const COUNT: u32 = 3000;
 
 /// Returns the key that comes in at a place: each number below 3,001 but one, out of order, since 3,001 is a prime.
 fn key_at(place: u32) -> u32 {
-    (u64::from(place) * 7919 % 3001) as u32
+    place.wrapping_mul(7919) % 3001
 }
 
 /// Returns entries that came out of order, each with the place at which it came.
@@ -65,7 +65,7 @@ fn takes_other_values(entries: &mut InOrder<u32, u32>) -> bool {
     if entries.len() > 7 {
         *entries.nth_mut(7) = 4;
     }
-    entries.get(&9000) == Some(&5) && entries.nth(7).map(|entry| entry.1) == Some(4)
+    entries.get(&9000) == Some(&5) && matches!(entries.nth(7), Some((_, 4)))
 }
 
 #[test]

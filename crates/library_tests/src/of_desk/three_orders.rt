@@ -12,7 +12,7 @@ use words::{Refusal, Reply, Request};
 /// How many requests there are.
 pub(super) const COUNT: usize = 8;
 
-const LINES: [&str; COUNT] = [
+static LINES: [&str; COUNT] = [
     "H1 field N1 A-1 0 100 40",
     "H2 open 7 500 take N1 A-1 10",
     "H3 open 8 500 take N1 A-1 12",
@@ -23,7 +23,7 @@ const LINES: [&str; COUNT] = [
     "H8 commit 8",
 ];
 
-static REPLIES: [Reply; COUNT] = [
+pub(super) static REPLIES: [Reply; COUNT] = [
     Reply::Done(1),
     Reply::Done(2),
     Reply::Done(3),
@@ -41,8 +41,23 @@ pub(super) const SCRIPT: &str =
 pub(super) const ANSWERS: &str =
     "H1 done 1\nH2 done 2\nH3 done 3\nH4 done 4\nH5 done 5\nH6 done 6\nH7 refused 13 TooLittle 0\nH8 done 7\n";
 
+/// Returns how many lines of the answers are whole in a beginning of this length.
+pub(super) fn lines_in(length: usize) -> usize {
+    match length {
+        0..10 => 0,
+        10..20 => 1,
+        20..30 => 2,
+        30..40 => 3,
+        40..50 => 4,
+        50..60 => 5,
+        60..86 => 6,
+        86..96 => 7,
+        _ => 8,
+    }
+}
+
 /// All rows before the first request, and after each of them.
-static ROWS: [&str; 9] = [
+pub(crate) static ROWS: [&str; 9] = [
     "Tables { desk: DeskRow { one: 1, version: 2, clock: 0, places: 0 }, fields: Rows { rows: [] }, moves: Rows { rows: [] }, orders: Rows { rows: [] }, lines: Rows { rows: [] }, kept: Rows { rows: [] }, firms: Rows { rows: [] } }",
     "Tables { desk: DeskRow { one: 1, version: 2, clock: 0, places: 1 }, fields: Rows { rows: [FieldRow { branch: \"N1\", article: \"A-1\", lo: 0, hi: 100, start: 40, value: 40, inf: 40, sup: 40 }] }, moves: Rows { rows: [] }, orders: Rows { rows: [] }, lines: Rows { rows: [] }, kept: Rows { rows: [KeptRow { reqkey: \"H1\", place: 1, words: \"field N1 A-1 0 100 40\" }] }, firms: Rows { rows: [] } }",
     "Tables { desk: DeskRow { one: 1, version: 2, clock: 0, places: 2 }, fields: Rows { rows: [FieldRow { branch: \"N1\", article: \"A-1\", lo: 0, hi: 100, start: 40, value: 40, inf: 30, sup: 40 }] }, moves: Rows { rows: [] }, orders: Rows { rows: [OrderRow { number: 7, kind: 0, until: 500, state: 0 }] }, lines: Rows { rows: [LineRow { number: 7, nr: 1, branch: \"N1\", article: \"A-1\", way: 0, held: 10, used: 0 }] }, kept: Rows { rows: [KeptRow { reqkey: \"H1\", place: 1, words: \"field N1 A-1 0 100 40\" }, KeptRow { reqkey: \"H2\", place: 2, words: \"open 7 500 take N1 A-1 10\" }] }, firms: Rows { rows: [] } }",
@@ -75,19 +90,10 @@ pub(super) fn expect_rows<K: Keep>(
     }
 }
 
-/// Returns the next items after the first `before`, at most `most`.
-pub(super) fn next_of<T>(items: &[T], before: usize, most: usize) -> Result<&[T], Fail> {
-    let rest = items.get(before..).ok_or("no such number")?;
-    match rest.get(..most) {
-        Some(some) => Ok(some),
-        None => Ok(rest),
-    }
-}
-
-/// The replies must be those to the next requests after the first `before`, of at most `most`, and to all of these
-/// exactly where the run ended `All`. Returns how many they are.
-pub(super) fn expect_replies(run: &Run, before: usize, most: usize) -> Result<usize, Fail> {
-    let replies = next_of(REPLIES.as_slice(), before, most)?;
+/// The replies must be those to the requests after the first `before`, to all of them exactly where the run ended
+/// `All`. Returns how many they are.
+pub(super) fn expect_replies(run: &Run, before: usize) -> Result<usize, Fail> {
+    let replies = REPLIES.get(before..).ok_or("no such number")?;
     let count = run.replies.len();
     if replies.get(..count) != Some(run.replies.as_slice()) {
         Err("another reply")?;

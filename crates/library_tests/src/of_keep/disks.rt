@@ -1,44 +1,19 @@
 //! Stores over disks in memory that fail after so many calls, and after a power cut.
 
-ghost use Rattle.std.specs.Prelude.{IsTrue, IfOk};
+ghost use Rattle.std.specs.Prelude.{IsTrue};
 ghost use Rattle.sqlite_disk.specs.Memory.{memory_is_usable};
 
-use crate::keepers::create;
-use sqlite::{Alter, Connection, FileStore, Files, Options};
+use super::expect_new;
+use keep::{KeepFault, Recover};
+use ledger::Tables;
+use sql_keep::{SqlKeep, reopen_and_load};
+use sqlite::{Alter, Connection, Files, Options};
 use sqlite_disk::{Crash, Disk, Fuse, Memory};
 use std::alloc::Global;
 use std::test::Fail;
 
-pub(crate) fn open<D: Disk + Drop>(
-    alloc: Global,
-    files: Files<D>,
-) -> Result<Connection<FileStore<D>>, Files<D>>
-    requires { IsTrue (D.Disk.is_usable files.log) × IsTrue (D.Disk.is_usable files.db) }
-{
-    match Connection::open_files(alloc, files, Options::new(1)) {
-        Ok(conn) => Ok(conn),
-        Err((_, left)) => Err(left.into_files()),
-    }
-}
-
-fn files_of<D: Disk + Drop>(conn: Connection<FileStore<D>>) -> Files<D> {
-    match conn.close_files() {
-        Ok(files) => files,
-        Err((_, store)) => store.close(),
-    }
-}
-
-fn copy(alloc: Global, bytes: &[u8]) -> Result<Memory, Fail>
-    ensures { IfOk result (λ m. IsTrue (memory_is_usable m)) }
-{
-    let mut file = Memory::new(alloc);
-    file.write_at(0, bytes)?;
-    file.sync()?;
-    Ok(file)
-}
-
 /// Returns files without bytes.
-pub(crate) fn new_files(alloc: Global) -> Files<Memory>
+fn new_files(alloc: Global) -> Files<Memory>
     ensures { IsTrue (memory_is_usable result.log) × IsTrue (memory_is_usable result.db) }
 {
     Files {
@@ -47,106 +22,112 @@ pub(crate) fn new_files(alloc: Global) -> Files<Memory>
     }
 }
 
-/// Returns files with these bytes.
-pub(crate) fn copies(alloc: Global, log: &[u8], db: &[u8]) -> Result<Files<Memory>, Fail>
-    ensures { IfOk result (λ f. IsTrue (memory_is_usable f.log) × IsTrue (memory_is_usable f.db)) }
-{
-    let log = copy(alloc, log)?;
-    let db = copy(alloc, db)?;
-    Ok(Files { log, db })
+/// Returns a keeper of a new desk over the connection.
+fn made<S: Alter + Drop>(conn: Connection<S>) -> Result<SqlKeep<S>, KeepFault> {
+    let mut conn = conn;
+    if conn.is_autocommit() {
+        SqlKeep::create_over(&mut conn)?;
+    }
+    if conn.is_autocommit() {
+        Ok(SqlKeep::over(conn))
+    } else {
+        Err(KeepFault::Store)
+    }
 }
 
-/// Something to do over a connection, whatever its store is.
+/// Something to do with the keeper of a new desk that recovers.
 pub(crate) trait Visit {
-    type Found: Drop;
-
-    /// Does it. Returns the connection as it is then, and what was found.
-    fn over<S: Alter + Drop>(
+    /// Does it. Returns how many requests were answered.
+    fn with<K: Recover + Drop>(
         &self,
         alloc: Global,
-        conn: Connection<S>,
-    ) -> Result<(Connection<S>, Self::Found), Fail>;
+        keep: K,
+        options: K::Options,
+    ) -> Result<usize, Fail>;
 }
 
-/// Does it over the files. Returns the files back, with what was found where they could be opened.
-pub(crate) fn over_files<D: Disk + Drop, V: Visit>(
+/// Returns the keeper that was opened, which must have loaded a new desk.
+fn with_new_desk<K: Drop>(
+    alloc: Global,
+    opened: Option<(K, Result<Tables, KeepFault>)>,
+) -> Result<K, Fail> {
+    let Some((keep, found)) = opened else {
+        return Err("not reopened")?;
+    };
+    expect_new(alloc, found?)?;
+    Ok(keep)
+}
+
+/// Makes a new desk in these files, cuts the power and loads it anew where that is wanted, and does it then. Returns how
+/// many requests were answered; none where no desk is made.
+fn over_files<D: Crash + Drop, V: Visit>(
     alloc: Global,
     files: Files<D>,
     work: &V,
-) -> Result<(Files<D>, Option<V::Found>), Fail>
+    is_cut_first: bool,
+) -> Result<usize, Fail>
     requires { IsTrue (D.Disk.is_usable files.log) × IsTrue (D.Disk.is_usable files.db) }
 {
-    match open(alloc, files) {
-        Err(files) => Ok((files, None)),
-        Ok(conn) => {
-            let (conn, found) = work.over(alloc, conn)?;
-            Ok((files_of(conn), Some(found)))
+    let Ok(conn) = Connection::open_files(alloc, files, Options::new(1)) else {
+        return Ok(0);
+    };
+    let Ok(mut keep) = made(conn) else {
+        return Ok(0);
+    };
+    if is_cut_first {
+        keep = with_new_desk(alloc, reopen_and_load(alloc, keep, Options::new(3)))?;
+    }
+    work.with(alloc, keep, Options::new(5))
+}
+
+/// Does it in new files that fail after so many calls of the log, or of the other one. Returns how many requests were
+/// answered.
+fn at_call<V: Visit>(
+    alloc: Global,
+    work: &V,
+    (of_log, of_database): (u64, u64),
+    is_cut_first: bool,
+) -> Result<usize, Fail> {
+    let files = new_files(alloc);
+    let fused = Files {
+        log: Fuse::new(files.log, of_log),
+        db: Fuse::new(files.db, of_database),
+    };
+    over_files(alloc, fused, work, is_cut_first)
+}
+
+/// Does it in new files that never fail, once the power was cut and the new desk was loaded anew.
+pub(crate) fn behind_a_cut<V: Visit>(alloc: Global, work: &V) -> Result<usize, Fail> {
+    at_call(alloc, work, (u64::MAX, u64::MAX), true)
+}
+
+/// Does it with a failure at each call of one of the files in turn, from the one behind so many on, up to the first time
+/// that so many requests are answered. The first failures must leave no time for a request. Returns how many failures
+/// left time for some requests, and not for all.
+pub(crate) fn at_each_call<V: Visit>(
+    alloc: Global,
+    work: &V,
+    on_log: bool,
+    first: u64,
+    count: usize,
+) -> Result<u64, Fail> {
+    let mut cuts = 0u64;
+    for calls in first..first.saturating_add(200) {
+        let failing = if on_log {
+            (calls, u64::MAX)
+        } else {
+            (u64::MAX, calls)
+        };
+        let told = at_call(alloc, work, failing, false)?;
+        if told == count {
+            return Ok(cuts);
+        }
+        if told > 0 {
+            cuts = cuts.saturating_add(1);
+        }
+        if told > 0 && calls == first {
+            Err("begun too late")?;
         }
     }
-}
-
-/// Makes a new desk.
-struct Making;
-
-impl Visit for Making {
-    type Found = ();
-
-    fn over<S: Alter + Drop>(
-        &self,
-        _alloc: Global,
-        mut conn: Connection<S>,
-    ) -> Result<(Connection<S>, ()), Fail> {
-        create(&mut conn)?;
-        Ok((conn, ()))
-    }
-}
-
-/// Returns the files that the work makes out of new ones.
-pub(crate) fn files_made<V: Visit>(alloc: Global, work: &V) -> Result<Files<Memory>, Fail>
-    ensures { IfOk result (λ f. IsTrue (memory_is_usable f.log) × IsTrue (memory_is_usable f.db)) }
-{
-    let (files, found) = over_files(alloc, new_files(alloc), work)?;
-    if found.is_none() {
-        Err("not opened")?;
-    }
-    copies(alloc, files.log.bytes(), files.db.bytes())
-}
-
-/// Returns the files of a new desk.
-pub(crate) fn desk_files(alloc: Global) -> Result<Files<Memory>, Fail>
-    ensures { IfOk result (λ f. IsTrue (memory_is_usable f.log) × IsTrue (memory_is_usable f.db)) }
-{
-    files_made(alloc, &Making)
-}
-
-/// Returns the bytes that the next opening finds, after a power cut or without one.
-pub(crate) fn left_by(
-    alloc: Global,
-    mut files: Files<Fuse<Memory>>,
-    is_cut: bool,
-) -> Result<Files<Memory>, Fail>
-    ensures { IfOk result (λ f. IsTrue (memory_is_usable f.log) × IsTrue (memory_is_usable f.db)) }
-{
-    if is_cut {
-        files.log.crash();
-        files.db.crash();
-    }
-    copies(alloc, files.log.inner().bytes(), files.db.inner().bytes())
-}
-
-/// Which of the two files fails, and whether the power is cut at the end.
-pub(crate) const CUTS: [(bool, bool); 4] = [
-    (true, false),
-    (true, true),
-    (false, false),
-    (false, true),
-];
-
-/// Returns so many calls to the one of the files that is to fail, and any number to the other.
-pub(crate) fn calls_to(on_log: bool, calls: u64) -> (u64, u64) {
-    if on_log {
-        (calls, u64::MAX)
-    } else {
-        (u64::MAX, calls)
-    }
+    Err("never ended")?
 }
