@@ -103,6 +103,7 @@ impl Model for Book {
 
 impl Book {
     /// Returns the book of a new desk: its clock stands at 0, and nothing else is in it. Takes no memory.
+    #[tactic(auto, using(ledger::proofs::Runs::good_new))]
     pub fn new(alloc: Global) -> Book
         ensures ledger { result.ledger ≡ new_ledger }
         ensures room { result.room ≡ record { fields = 0; moves = 0; orders = 0; kept = 0 } }
