@@ -284,3 +284,11 @@ returns-in-Err-clause-halts g c = λ halted.
     going_before c.args.desk.now c.ask_all-self-inside.new.desk c.is_stopped-was_stopped.result
     c.is_stopped-was_stopped.ensures.stopped c.ask_all-self-inside.ensures.off c.requires.settled c.in-Err.ensures.err.1 in
     absurd (true≢false (sym halted ∙ going))
+
+pub returns-in-Ok-clause-same : goal.returns-in-Ok-clause-same
+returns-in-Ok-clause-same g c =
+    (each_size SameAt _ _ (returns-in-Ok-clause-seats g c), ap (λ v. v.connections) c.self.view_is)
+
+pub returns-in-Err-clause-same : goal.returns-in-Err-clause-same
+returns-in-Err-clause-same g c =
+    (each_size SameAt _ _ (returns-in-Err-clause-seats g c), ap (λ v. v.connections) c.self.view_is)
