@@ -198,6 +198,14 @@ whole_back {X = X} n xs ys e = subst (λ (k : ℕ). take k (xs ++ ys) ≡ xs) e 
     whole [] (y ∷ ys) = refl
     whole (x ∷ xs) ys = ap (λ (zs : List X). x ∷ zs) (whole xs ys)
 
+-- a place before one bound is before each greater one
+pub before_too : {n m k : ℕ} → n < m → m ≤ k → n < k
+before_too lt le = omega arith
+
+-- a place within a list is within each list of the same length
+pub within_too : {X Y : Type 0} (xs : List X) (ys : List Y) {n m : ℕ} → n < m → m ≤ length xs → length ys ≡ length xs → n < length ys
+within_too xs ys lt le same = omega (arith, lt, le, same)
+
 -- one of two, by a test
 pub by_test : {X Y : Type 0} (b : Bool) → (b ≡ false → X) → (b ≡ true → Y) → X ⊎ Y
 by_test false h k = inl (h refl)

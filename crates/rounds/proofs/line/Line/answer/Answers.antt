@@ -1,6 +1,7 @@
-use Rattle.std.proofs.Common.{◌∙◌, ap, refl, subst, sym}
+use Rattle.std.proofs.Common.{◌∙◌, ◌≤◌, ap, length, refl, subst, sym}
 use Rattle.rounds.specs.Lines.{Said, speaks}
 use Rattle.rounds.proofs.OneLine.{drop_first, first_of_some, heard_answered, hidden_so, memory_same, told_answered}
+use Rattle.rounds.proofs.Settings.{off_same}
 use Rattle.rounds.proofs.line.Line.answer.Goals as goal
 
 pub returns-in-Ok-answer-clause-turn : goal.returns-in-Ok-answer-clause-turn
@@ -50,3 +51,31 @@ returns-in-Err-Memory-clause-turn g c = λ h said stands.
       memory_same g.D.Dialogue.language c.in-Err-Memory.field-0 _ first.question _ c.in-Err-Memory.field-0-is fails,
       λ there. absurd (there refl),
     )
+
+pub invariant_of-self : goal.invariant_of-self
+invariant_of-self g c = c.self.invariant
+
+pub invariant_of-self-in-Ok-answer : goal.invariant_of-self-in-Ok-answer
+invariant_of-self-in-Ok-answer g c = c.self.invariant
+
+pub invariant_of-self-in-Err-Memory : goal.invariant_of-self-in-Err-Memory
+invariant_of-self-in-Err-Memory g c = c.self.invariant
+
+pub hide-requires : goal.hide-requires
+hide-requires g c = subst (λ v. 1 ≤ length v.waiting) (sym c.self.view_is) c.requires.waits
+
+pub returns-in_default-clause-turn : goal.returns-in_default-clause-turn
+returns-in_default-clause-turn g c = λ h said stands. (refl, λ there. absurd (there refl))
+
+pub returns-in_default-clause-same : goal.returns-in_default-clause-same
+returns-in_default-clause-same g c = (ap (λ v. v.connection) c.self.view_is, ap (λ v. v.stream) c.self.view_is)
+
+pub returns-in_default-clause-off : goal.returns-in_default-clause-off
+returns-in_default-clause-off g c = off_same c.args.desk.now
+
+pub returns-in-Ok-answer-clause-same : goal.returns-in-Ok-answer-clause-same
+returns-in-Ok-answer-clause-same g c =
+    (c.hide.ensures.same.0 ∙ ap (λ v. v.connection) c.self.view_is, c.hide.ensures.same.1 ∙ ap (λ v. v.stream) c.self.view_is)
+
+pub returns-in-Err-Memory-clause-same : goal.returns-in-Err-Memory-clause-same
+returns-in-Err-Memory-clause-same g c = (ap (λ v. v.connection) c.self.view_is, ap (λ v. v.stream) c.self.view_is)

@@ -1,4 +1,5 @@
 use Rattle.std.proofs.Common.{◌≡◌, ◌∙◌, ◌≤◌, ◌++◌, Some, ap, drop, false, length, subst, sym, take, true}
+use Rattle.std.proofs.lemmas.Bool.{true≢false}
 use Rattle.desk.specs.Deferred.{snapshot_off}
 use Rattle.desk.specs.Desk.{IsStored, LeavesEither}
 use Rattle.rounds.specs.Histories.{IsReached, heard_in}
@@ -239,3 +240,55 @@ invariant_of-self-in-Err g c =
     subst (λ xs. (c.self.inside.unused ≤ length xs) × AreBefore c.self.inside.unused xs)
     (sym (whole_back len c.forget_all.new.lines (drop (length c.forget_all.new.lines) mid) size_last))
     (taken_each c.self.inside.unused items c.forget_all.new.lines all c.self.invariant)
+
+pub ask_all-self-inside-requires-clause-going : goal.ask_all-self-inside-requires-clause-going
+ask_all-self-inside-requires-clause-going g c = c.requires.going
+
+pub ask_all-self-inside-requires-clause-within : goal.ask_all-self-inside-requires-clause-within
+ask_all-self-inside-requires-clause-within g c =
+    subst (λ xs. c.self.inside.unused ≤ length xs) (sym c.deref_mut.ensures.value) c.self.invariant.0
+
+pub show_all-requires-clause-within : goal.show_all-requires-clause-within
+show_all-requires-clause-within g c =
+    subst (λ n. c.self.inside.unused ≤ n)
+    (sym (ap length c.deref_mut.ensures.value) ∙ c.deref_mut.ensures.len ∙ sym c.deref_mut-in-Ok.ensures.len)
+    c.self.invariant.0
+
+pub returns-in-Ok-clause-settled : goal.returns-in-Ok-clause-settled
+returns-in-Ok-clause-settled g c = c.settle_round.ensures.none
+
+pub forget_all-requires-clause-within : goal.forget_all-requires-clause-within
+forget_all-requires-clause-within g c =
+    subst (λ n. c.self.inside.unused ≤ n)
+    (sym (ap length c.deref_mut.ensures.value) ∙ c.deref_mut.ensures.len ∙ sym c.deref_mut-in-Err.ensures.len)
+    c.self.invariant.0
+
+pub returns-in-Err-clause-settled : goal.returns-in-Err-clause-settled
+returns-in-Err-clause-settled g c = c.settle_round.ensures.none
+
+pub returns-in-Ok-clause-untold : goal.returns-in-Ok-clause-untold
+returns-in-Ok-clause-untold g c = tt
+
+pub returns-in-Ok-clause-lost : goal.returns-in-Ok-clause-lost
+returns-in-Ok-clause-lost g c = tt
+
+pub returns-in-Err-clause-told : goal.returns-in-Err-clause-told
+returns-in-Err-clause-told g c = tt
+
+pub returns-in-Err-clause-kept : goal.returns-in-Err-clause-kept
+returns-in-Err-clause-kept g c = tt
+
+pub returns-in-Err-clause-halts : goal.returns-in-Err-clause-halts
+returns-in-Err-clause-halts g c = λ halted.
+    let going =
+    going_before c.args.desk.now c.ask_all-self-inside.new.desk c.is_stopped-was_stopped.result
+    c.is_stopped-was_stopped.ensures.stopped c.ask_all-self-inside.ensures.off c.requires.settled c.in-Err.ensures.err.1 in
+    absurd (true≢false (sym halted ∙ going))
+
+pub returns-in-Ok-clause-same : goal.returns-in-Ok-clause-same
+returns-in-Ok-clause-same g c =
+    (each_size SameAt _ _ (returns-in-Ok-clause-seats g c), ap (λ v. v.connections) c.self.view_is)
+
+pub returns-in-Err-clause-same : goal.returns-in-Err-clause-same
+returns-in-Err-clause-same g c =
+    (each_size SameAt _ _ (returns-in-Err-clause-seats g c), ap (λ v. v.connections) c.self.view_is)
