@@ -22,7 +22,7 @@ use crate::deferred::Deferred;
 use crate::fault::{CallFault, OpenFault, load_fault};
 use crate::run::{Ending, Run};
 use crate::telling::{AsReply, Teller, tell_reply};
-use crate::together::plan_batch;
+use crate::together::{let_go, plan_batch};
 use book::{Book, FieldView, OrderView, Plan, Planned, TablesFault};
 use escrow::{Article, Branch, OrderNo};
 use keep::Keep;
@@ -192,12 +192,15 @@ impl<K: Keep> Desk<K> {
     {
         let place = plan.place();
         let Ok(()) = self.book.make_room(&plan) else {
+            let_go(plan);
             return Err(CallFault::Memory);
         };
         let Ok(()) = self.keep.make_room(alloc, plan.changes()) else {
+            let_go(plan);
             return Err(CallFault::Memory);
         };
         let Ok(()) = self.keep.commit(plan.changes()) else {
+            let_go(plan);
             return Err(CallFault::Stopped);
         };
         self.book.adopt(plan);
