@@ -165,7 +165,10 @@ impl<K: Keep> Desk<K> {
         // does nothing when run; the prover learns that the key and the command are in range
         request.key.as_bytes();
         request.command.words();
-        let done = teller.tell(alloc, request.key, &Reply::Done(plan.place()))?;
+        let Ok(done) = teller.tell(alloc, request.key, &Reply::Done(plan.place())) else {
+            let_go(plan);
+            return Err(CallFault::Memory);
+        };
         self.carry_out(alloc, plan)?;
         Ok(done)
     }
