@@ -22,7 +22,7 @@ use crate::deferred::Deferred;
 use crate::fault::{CallFault, OpenFault, load_fault};
 use crate::run::{Ending, Run};
 use crate::telling::{AsReply, Teller, tell_reply};
-use crate::together::plan_batch;
+use crate::together::{let_go, plan_batch};
 use book::{Book, FieldView, OrderView, Plan, Planned, TablesFault};
 use escrow::{Article, Branch, OrderNo};
 use keep::Keep;
@@ -165,7 +165,10 @@ impl<K: Keep> Desk<K> {
         // does nothing when run; the prover learns that the key and the command are in range
         request.key.as_bytes();
         request.command.words();
-        let done = teller.tell(alloc, request.key, &Reply::Done(plan.place()))?;
+        let Ok(done) = teller.tell(alloc, request.key, &Reply::Done(plan.place())) else {
+            let_go(plan);
+            return Err(CallFault::Memory);
+        };
         self.carry_out(alloc, plan)?;
         Ok(done)
     }
@@ -192,12 +195,15 @@ impl<K: Keep> Desk<K> {
     {
         let place = plan.place();
         let Ok(()) = self.book.make_room(&plan) else {
+            let_go(plan);
             return Err(CallFault::Memory);
         };
         let Ok(()) = self.keep.make_room(alloc, plan.changes()) else {
+            let_go(plan);
             return Err(CallFault::Memory);
         };
         let Ok(()) = self.keep.commit(plan.changes()) else {
+            let_go(plan);
             return Err(CallFault::Stopped);
         };
         self.book.adopt(plan);

@@ -78,6 +78,11 @@ pub(crate) enum Joined {
     Memory,
 }
 
+/// Drops a plan. (Here alone the prover walks through all that a plan owns.)
+pub(crate) fn let_go(plan: Plan) {
+    let _plan = plan;
+}
+
 /// Takes in an accepted request and adopts its plan. Where memory is refused, nothing has changed.
 fn take_in(alloc: Global, batch: &mut Batch, book: &mut Book, key: Key, plan: Plan) -> Joined
     requires fits { Fits book.old.ledger plan }
@@ -91,12 +96,15 @@ fn take_in(alloc: Global, batch: &mut Batch, book: &mut Book, key: Key, plan: Pl
     ensures memory { result ≢ Joined.Behind }
 {
     let Ok(()) = batch.changes.reserve(plan.changes().len()) else {
+        let_go(plan);
         return Joined::Memory;
     };
     let Ok(()) = book.make_room(&plan) else {
+        let_go(plan);
         return Joined::Memory;
     };
     let Ok(()) = batch.tell(alloc, key, Reply::Done(plan.place())) else {
+        let_go(plan);
         return Joined::Memory;
     };
     append(&mut batch.changes, book.adopt(plan));
@@ -127,6 +135,7 @@ fn join(alloc: Global, batch: &mut Batch, book: &mut Book, request: &Request) ->
         }
         Ok(Planned::Accept(plan)) => {
             if batch.has_refused {
+                let_go(plan);
                 return Joined::Behind;
             }
             return take_in(alloc, batch, book, request.key, plan);
