@@ -364,7 +364,7 @@ def found_deal(number: int, desks: Sequence[Desk]) -> Deal | None:
             return None
     names = ", ".join(side.desk.name for side in (firsts or sides))
     if not firsts:
-        raise Foreign(f"order {number} is at {names}, whose first desk is none of those named, or was rolled over")
+        raise Foreign(f"order {number} is at {names}, whose first desk is none of those named, or has forgotten it")
     if len(firsts) > 1:
         raise Foreign(f"order {number} is of several deals, with the first desks {names}")
     others = [side for side in sides if side is not firsts[0]]

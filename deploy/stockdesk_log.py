@@ -6,7 +6,7 @@ entry. An entry is a head line and, behind `lines`, the commands, each as a line
     begin PLACES DIGEST      the first entry of a log that begins with a certain desk: the desk has so many places, and what is
                              kept at them has that digest; the digest of nothing is an empty word
     mark BASE                a command behind it that was asked for before it does not count; BASE is the mark before
-    end                      nothing behind it counts: the desk is rolled over, or its program changed
+    end                      nothing behind it counts: the desk is rolled up, or its program changed
 
 Any other value is no entry, and all machines pass over it."""
 

@@ -9,6 +9,7 @@ import fcntl
 import filecmp
 import os
 import pathlib
+import re
 import shutil
 import signal
 import sqlite3
@@ -34,9 +35,15 @@ LOG_WITH_A_PAGE = LOG_HEAD + 24 + 512
 # how many bytes the system is asked for at once
 CHUNK = 1 << 30
 
+# names of the files that rolls leave beside a desk
+OLD_FILE = re.compile(r"old-[0-9]{8}T[0-9]{6}Z(-[0-9]+)?\.db")
+
 # how often a desk in use is copied again, and how many seconds lie between two tries
 READINGS = 20
 PAUSE = 0.05
+
+# what may be done with a desk's file: its owner alone may read and write it
+OWN = 0o600
 
 # folders of runs, for files that have no name yet
 WORKPLACE = ".stockdesk-"
@@ -109,7 +116,8 @@ def fault_of(run: subprocess.Popen | subprocess.CompletedProcess, errors: str) -
 def open_desk(program: str, path: str, name: str) -> None:
     """Has the program open the desk in a file and close it again: so the program judges the rows, and copies the log into the
     file. Fault: it does not; `name` is what the fault calls the file."""
-    words, folder = [program, "run", os.path.basename(path)], os.path.dirname(path)
+    # so no name begins as an option does
+    words, folder = [program, "run", os.path.join(".", os.path.basename(path))], os.path.dirname(path)
     run = subprocess.run(words, cwd=folder, stdin=subprocess.DEVNULL, capture_output=True, check=False)
     fault = fault_of(run, run.stderr.decode(errors="replace"))
     if fault is None and has_pages(path + LOG):
@@ -195,7 +203,8 @@ def kept_shut(path: str) -> Iterator[None]:
     with opened(path) as file:
         try:
             fcntl.fcntl(file, fcntl.F_OFD_SETLK, lock_of(fcntl.F_RDLCK))
-            is_free = not is_in_use(file)
+            # a run that put another file there meanwhile had the old one shut
+            is_free = not is_in_use(file) and os.path.samestat(os.fstat(file.fileno()), os.stat(path))
         except (BlockingIOError, PermissionError):
             is_free = False
         if not is_free:
@@ -207,8 +216,8 @@ def kept_shut(path: str) -> Iterator[None]:
 
 
 def copy(source: str, target: str) -> None:
-    """Copies a file's bytes and rights over those of another, or into a new one, by the fastest means that the system has for the
-    two. The owner of the copy may write it. The copy is not synced."""
+    """Copies a file's bytes over those of another, or into a new one, by the fastest means that the system has for the two. Only
+    the owner of the copy may read and write it. The copy is not synced."""
     with open(source, "rb", 0) as old, open(os.open(target, os.O_WRONLY | os.O_CREAT, 0o600), "wb", 0) as new:
         # where a file system, or a pair of them, cannot do so, the next call goes on; that call also reports a full disk
         with contextlib.suppress(OSError):
@@ -217,7 +226,7 @@ def copy(source: str, target: str) -> None:
         while os.sendfile(new.fileno(), old.fileno(), None, CHUNK):
             pass
         new.truncate()
-        os.fchmod(new.fileno(), stat.S_IMODE(os.fstat(old.fileno()).st_mode) | stat.S_IRUSR | stat.S_IWUSR)
+        os.fchmod(new.fileno(), OWN)
 
 
 def copy_desk(path: str, target: str) -> None:

@@ -3,9 +3,11 @@ is killed; which copies stay; what is refused."""
 
 import contextlib
 import fcntl
+import glob
 import os
 import random
 import signal
+import stat
 import subprocess
 import sys
 import time
@@ -37,7 +39,8 @@ from support.copies import (
     words_of,
 )
 from support.disks import small_disk
-from support.programs import done, expect, new_desk, note
+from support.programs import bytes_of, done, expect, new_desk, note
+from support.rolled import tool_ended
 from support.service import ask
 from support.tables import rows_of
 
@@ -270,6 +273,26 @@ class Keeping(ProgramCase):
             made, _ = copied([*words_of(desk, copies, self.program), "--days", "1", "--weeks", "1"])
             want = [os.path.basename(made), old[2], "desk-20010203T040506Z-9.db", *others]
             expect(sorted(os.listdir(copies)) == sorted(want), f"{sorted(os.listdir(copies))} and not {sorted(want)}")
+
+    @needs_sqlite
+    def test_the_newest_old_file_is_copied_once(self):
+        """A roll leaves an old file beside the desk; the next copy of the desk copies it, too, and those after that do not."""
+        path, copies = new_desk(self.program, self.folder), os.path.join(self.folder, "copies")
+        os.mkdir(copies)
+        words = [path, copies, "--program", self.program]
+        for number in range(2):
+            done(self.program, ["run", path], f"K{number} expire {number}\n")
+            told = tool_ended(self.program, [path, "--keys", "0"])
+            expect(told[0] == 0, f"not rolled up: {told}")
+            newest = max(glob.glob(os.path.join(self.folder, "old-*.db")), key=os.path.getmtime)
+            for _ in range(2):
+                with alone(self.program, path) as service:
+                    end = ended([BACKUP, str(service.process.pid), *words])
+                    expect(end[0] == 0, f"no copy: {end}")
+                copy = os.path.join(copies, "old", os.path.basename(newest))
+                expect(bytes_of(copy) == bytes_of(newest), "another copy")
+                expect(stat.S_IMODE(os.stat(copy).st_mode) == 0o600, "others may read it")
+            expect(len(os.listdir(os.path.join(copies, "old"))) == number + 1, "other files")
 
 
 # ---- what is refused

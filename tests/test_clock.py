@@ -274,7 +274,7 @@ class Faults(ClockCase):
                 service.process.kill()
                 service.end()
             if is_full:
-                expect_fault(found, "`expire 120` is refused: the desk is full; roll over")
+                expect_fault(found, "`expire 120` is refused: the desk is full; roll it up")
             else:
                 expect_ended(found, 120, "1")
 

@@ -2,24 +2,30 @@
 and with those that go away."""
 
 import concurrent.futures
+import glob
 import http.client
 import json
+import os
 import random
 import signal
 import socket
 import ssl
 import threading
 import time
+import unittest
 from typing import Callable
 
 from support import fronts
 from support.fronts import OFFICE, SHOP, WAREHOUSE, Front, FrontCase, credentials, head_of, message
 from support.programs import done, expect, new_desk, note
-from support.tables import rows_of, sqlite3
+from support.rolled import tool_ended
+from support.tables import is_able, rows_of, sqlite3, tables_of
 
 CLIENTS = 64
 COMMANDS = 2_000
 KILLS = 3
+# how often a desk is rolled up, how many keys stay each time, and how many seconds a client may wait meanwhile
+ROLLS, KEYS, WAIT = 5, 500, 10
 # what the system holds back for a client is little, so the front has to
 SMALL_BUFFERS = "global\n    tune.sndbuf.client 16384\n"
 
@@ -98,6 +104,26 @@ def expect_same_rows(program: str, folder: str, front: Front, accepted: list[Don
         expect(rows_of(front.file) == rows_of(played), "other rows")
 
 
+def all_kept(front: Front) -> list[tuple[str, str]]:
+    """The key and the command of all that was accepted, in order, from the old files that rolls have left and the desk's own."""
+    found, stayed = list[tuple[str, str]](), 0
+    for path in [*sorted(glob.glob(os.path.join(front.folder, "old-*.db")), key=os.path.getmtime), front.file]:
+        rows = sorted(tables_of(path)["kept"], key=lambda row: row.place)
+        found += [(row.reqkey, row.words) for row in rows[stayed:]]
+        stayed = min(KEYS, len(rows))
+    return found
+
+
+def longest_wait(front: Front, over: threading.Event) -> float:
+    """How many seconds the longest of many deliveries took, sent one after the other until `over` is set."""
+    longest = 0.0
+    while not over.is_set():
+        began = time.monotonic()
+        expect(front.tell(WAREHOUSE, "deliver N1 A-2 1")[0] == 200, "a delivery is refused")
+        longest = max(longest, time.monotonic() - began)
+    return longest
+
+
 def delivered(front: Front, over: threading.Event) -> list[int]:
     """The answers to deliveries, each on a connection of its own, until `over` is set."""
     found = []
@@ -124,6 +150,40 @@ class Crowds(FrontCase):
             expect(count >= COMMANDS, f"{count} commands")
             note(f"{count} commands in {time.time() - began:.1f} s, {len(accepted)} done, the desk killed {KILLS} times")
             expect_same_rows(self.program, self.folder, front, accepted)
+
+    @unittest.skipUnless(is_able(), "sqlite3 of Python not here")
+    def test_a_roll_is_only_a_wait(self):
+        """64 clients write as fast as they can; five times the desk is ended, rolled up in its place and started again. Each
+        command is answered, and done once: the stock at the end is that of a desk that was never rolled up."""
+        with Front(self.program, self.folder) as front:
+
+            def roll():
+                over = threading.Event()
+                with concurrent.futures.ThreadPoolExecutor(1) as pool:
+                    job = pool.submit(longest_wait, front, over)
+                    for _ in range(ROLLS):
+                        time.sleep(0.4)
+                        front.desk_kill()
+                        told = tool_ended(self.program, [front.file, "--keys", str(KEYS)])
+                        expect((told[0], told[2]) == (0, b""), f"not rolled up: {told}")
+                        front.desk_start()
+                    over.set()
+                    waits.append(job.result())
+
+            waits = list[float]()
+            accepted, _ = all_told(front, roll)
+            front.desk_kill()
+            done(self.program, ["run", front.file], "")
+            kept = all_kept(front)
+            keys = [key for key, _ in kept]
+            expect(len(set(keys)) == len(keys), "a command is done twice")
+            expect({key for key in keys if key[0] == "C"} == {key for _, key, _ in accepted}, "other commands are done")
+            played = new_desk(self.program, self.folder, "played.db")
+            done(self.program, ["run", played], "".join(f"{key} {words}\n" for key, words in kept))
+            stock = [{row[:4]: row.value for row in tables_of(path)["field"]} for path in (front.file, played)]
+            expect(stock[0] == stock[1], "another stock")
+            expect(waits[0] < WAIT, f"a client waited for {waits[0]:.1f} s")
+            note(f"{len(keys)} commands, {ROLLS} rolls, the longest wait {waits[0]:.1f} s")
 
     def test_a_single_command_outlives_a_killed_desk(self):
         """The command is sent on an open connection to a desk that stands still, is killed, and starts two seconds later: it is

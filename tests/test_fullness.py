@@ -106,7 +106,7 @@ class Fullness(ProgramCase):
             status, out, errors = tool_ended(self.program, ["--check", desks.path])
             expect((status, errors, b"nearly full" in out) == (want, b"", want == 3), f"{count}: {status}, {out}, {errors}")
             expect(bytes_of(desks.path) == found and sorted(os.listdir(self.folder)) == sorted(names), "something was changed")
-        found = tool_ended(self.program, ["--check", desk_of(self.program, self.folder)[0]])
+        found = tool_ended(self.program, ["--check", desk_of(self.program, self.folder)])
         expect(found == (0, FULL, b""), f"{found}")
 
     def test_a_desk_that_is_served_is_asked(self):
@@ -118,13 +118,13 @@ class Fullness(ProgramCase):
             with alone(self.program, desks.path) as service:
                 status, out, errors = tool_ended(self.program, ["--check", none, "--port", str(service.port)])
             expect((status, errors, b"nearly full" in out) == (want, b"", want == 3), f"{count}: {status}, {out}, {errors}")
-        with alone(self.program, desk_of(self.program, self.folder)[0]) as service:
+        with alone(self.program, desk_of(self.program, self.folder)) as service:
             found = tool_ended(self.program, ["--check", none, "--port", str(service.port)])
         expect(found == (0, FULL, b""), f"{found}")
 
     def test_where_no_desk_tells_the_file_is_read(self):
         """Nobody listens there, or who does is silent, has stopped, or says something else."""
-        old, _ = desk_of(self.program, self.folder)
+        old = desk_of(self.program, self.folder)
         with socket.socket() as nobody:
             nobody.bind(("127.0.0.1", 0))
             found = tool_ended(self.program, ["--check", old, "--port", str(nobody.getsockname()[1])])
@@ -136,7 +136,7 @@ class Fullness(ProgramCase):
 
     def test_a_look_reads_the_log(self):
         """What a desk in use has done is at first in its log alone; it goes on, and so does one whose program was killed."""
-        old, _ = desk_of(self.program, self.folder)
+        old = desk_of(self.program, self.folder)
         found = bytes_of(old)
         session = Session(self.program, old)
         try:
@@ -152,7 +152,7 @@ class Fullness(ProgramCase):
     def test_a_look_disturbs_nobody(self):
         """The desk is in use, also while it takes commands as fast as it can: what the check says was so at some moment, and all
         commands are answered."""
-        old, _ = desk_of(self.program, self.folder, "K1 field N1 A-1 0 1000000000 0\n")
+        old = desk_of(self.program, self.folder, "K1 field N1 A-1 0 1000000000 0\n")
         pipe = subprocess.PIPE
         with subprocess.Popen([self.program, "run", old], stdin=pipe, stdout=pipe, text=True) as process:
             replies, over = [], threading.Event()

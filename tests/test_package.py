@@ -9,6 +9,7 @@ import os
 import re
 import shlex
 import shutil
+import stat
 import tempfile
 import unittest
 
@@ -19,11 +20,12 @@ from support.deal_chains import chain
 from support.deal_runs import CARRIER
 from support.documents import headings_of, links_of, text_of
 from support.fronts import PAGE, TOGETHER
-from support.packages import Inside, built, fresh_debian, newer, put_sources, run
+from support.packages import SUITES, Inside, built, fresh_debian, newer, put_sources, run
 from support.programs import bytes_of, done, expect, note
 from support.replica_clients import asked, commanded, wait_until_well
 from support.replica_network import MACHINES
 from support.replicas import PORT, REPLICA, UP_SECONDS, Machines
+from support.rolled import play_and_kill
 from support.service import Service, post
 
 TOOLS = [os.path.basename(path) for path in glob.glob(os.path.join(DEPLOY, "stockdesk-*")) if "." not in os.path.basename(path)]
@@ -34,8 +36,10 @@ UNITS = sorted(glob.glob(os.path.join(DEPLOY, "*.service")) + glob.glob(os.path.
 # a unit of a service, and below which number its exposure is
 EXPOSED = {"stockdesk@.service": 2.0, "stockdesk-backup@.service": 2.5, "stockdesk-check@.service": 2.5}
 EXPOSED["stockdesk-between.service"] = 2.5
+EXPOSED["stockdesk-certificate.service"] = 2.5
 EXPOSED["stockdesk-clock@.service"] = 2.5
 EXPOSED["stockdesk-replica@.service"] = 2.5
+EXPOSED["stockdesk-roll@.service"] = 2.5
 SHARED = [
     "User=stockdesk",
     "CapabilityBoundingSet=",
@@ -49,7 +53,11 @@ SHARED += ["SystemCallFilter=@system-service", "SystemCallFilter=~@privileged @r
 # ---- the package
 
 
-@needs("dpkg-buildpackage", "dh", "go-md2man")
+# looks at the package whose path follows; about another program than the proved one it may find less
+LINTIAN = "lintian --display-info --pedantic --tag-display-limit 0 --suppress-tags unused-override".split()
+
+
+@needs("dpkg-buildpackage", "dh", "go-md2man", "pkgconf")
 class Package(ProgramCase):
     @classmethod
     def setUpClass(cls):
@@ -66,9 +74,14 @@ class Package(ProgramCase):
         expect(run(["dpkg-deb", "--field", path, "Version"]).stdout.strip() == version, "another version")
         tree = unpacked(path, self.folder)
         expect(bytes_of(os.path.join(tree, "usr/bin/stockdesk")) == bytes_of(self.program), "another program")
-        for folder, names in [("usr/share/stockdesk/page", os.listdir(PAGE)), ("usr/lib/stockdesk", TOOLS + MODULES)]:
+        for folder, names in [
+            ("usr/share/stockdesk/page", os.listdir(PAGE)),
+            ("usr/lib/stockdesk", [*TOOLS, *MODULES, "close-port"]),
+        ]:
             packed = os.listdir(os.path.join(tree, folder))
             expect(sorted(packed) == sorted(names), f"{folder} has {packed}")
+        known = text_of(os.path.join(tree, "usr/share/stockdesk/example-passwords")).splitlines()
+        expect(known == re.findall(r" password (\S+) ", text_of(os.path.join(DEPLOY, "users.cfg"))), f"other passwords: {known}")
         copy = os.path.join(self.folder, "copy")
         put_sources(copy)
         refused = run([os.path.join(copy, "deploy/package"), self.folder])
@@ -82,9 +95,8 @@ class Package(ProgramCase):
 
     @needs("lintian")
     def test_lintian_finds_nothing(self):
-        """The package gives a reason for all else that lintian finds; about another program lintian may find less."""
-        options = ["--display-info", "--pedantic", "--tag-display-limit", "0", "--suppress-tags", "unused-override"]
-        told = run(["lintian", *options, self.path])
+        """The package gives a reason for all else that lintian finds."""
+        told = run([*LINTIAN, self.path])
         expect((told.returncode, told.stdout) == (0, ""), f"lintian: {told.stdout}{told.stderr}")
 
     def test_the_manual_tells_each_command_and_status(self):
@@ -92,7 +104,7 @@ class Package(ProgramCase):
         pages = os.path.join(unpacked(self.path, self.folder), "usr/share/man/man1")
         with gzip.open(os.path.join(pages, "stockdesk.1.gz"), "rt", encoding="utf-8") as file:
             page = file.read().replace("\\-", "-")
-        for command in "init run orders deliveries bounds sheet article serve upgrade".split():
+        for command in "init run orders deliveries bounds sheet article serve upgrade roll".split():
             told = run([self.program, command, "--help"])
             first = (told.stdout + told.stderr).splitlines()[0]
             expect(first in page, f"nothing is said of {command}: {first}")
@@ -116,47 +128,50 @@ class Package(ProgramCase):
     @needs("mmdebstrap", "chroot")
     @unittest.skipIf(os.geteuid() != 0, "only root can make a Debian")
     def test_it_is_built_anywhere_to_the_same_bytes(self):
-        """The package is built in a fresh Debian, with what it says that it is built by, as another user, and again."""
+        """In a fresh Debian of each suite the package is built, with what it says that it is built by, as another user, and
+        again. There lintian finds nothing in it, and it takes the place of one that was built here."""
         sources = os.path.join(self.folder, "sources")
         put_sources(sources, self.program)
         hooks = [f"copy-in {sources} /", 'chroot "$1" sh -c "cd /sources && apt-get build-dep --yes --no-install-recommends ."']
-        with fresh_debian(os.path.join(self.folder, "debian"), *[f"--customize-hook={hook}" for hook in hooks]) as inside:
-            inside("mkdir /one /two && /sources/deploy/package /one")
-            inside("umask 077; cd /two && LANG=C.UTF-8 TZ=Asia/Tokyo /sources/deploy/package")
-            inside("cmp /one/stockdesk_*_amd64.deb /two/stockdesk_*_amd64.deb")
-            [path] = glob.glob(os.path.join(self.folder, "debian/one/*.deb"))
-            note(f"as here: {bytes_of(path) == bytes_of(self.path)}")
+        options = ["--include=lintian,nftables,systemd", *[f"--customize-hook={hook}" for hook in hooks]]
+        for suite in SUITES:
+            root = os.path.join(self.folder, suite)
+            with self.subTest(suite=suite), fresh_debian(suite, root, *options) as inside:
+                inside("mkdir /one /two && /sources/deploy/package /one")
+                inside("umask 077; cd /two && LANG=C.UTF-8 TZ=Asia/Tokyo /sources/deploy/package")
+                inside("cmp /one/stockdesk_*_amd64.deb /two/stockdesk_*_amd64.deb")
+                expect((found := inside(f"{shlex.join(LINTIAN)} /one/*.deb")) == "", f"lintian: {found}")
+                [path] = glob.glob(os.path.join(root, "one/*.deb"))
+                note(f"as here on {suite}: {bytes_of(path) == bytes_of(self.path)}")
+                shutil.copy(self.path, os.path.join(root, "here.deb"))
+                for package in ["/here.deb", "/one/*.deb"]:
+                    inside(f"dpkg --install {package}")
+                    expect(units_in(root) == NAMES, f"{suite}, {package}: the units are {units_in(root)}")
 
     @needs("mmdebstrap", "chroot")
     @unittest.skipIf(os.geteuid() != 0, "only root can make a Debian")
     def test_a_package_comes_and_goes(self):
-        """The package is installed, upgraded, removed and purged: in between the program runs, systemd is asked for what each
-        step wants, and what is the shop's stays as it was: desks and copies, which are their owner's alone, and settings."""
-        path, root = self.path, os.path.join(self.folder, "debian")
-        later = newer(path, self.folder)
-        with fresh_debian(root, "--include=python3,systemd") as inside:
-            for package, name in [(path, "first.deb"), (later, "later.deb")]:
-                shutil.copy(package, os.path.join(root, name))
-            put_systemctl(root)
-            inside("dpkg --install /first.deb")
-            expect(inside(OWNED) == OWNERS, f"other owners or modes: {inside(OWNED)}")
-            expect(inside("getent passwd stockdesk").endswith(":/var/lib/stockdesk:/usr/sbin/nologin\n"), "another user")
-            expect_asked(root, [RELOAD])
-            fill(inside)
-            kept = kept_in(root)
-            for line, calls in [
-                ("dpkg --install /later.deb", [RELOAD, "try-restart stockdesk-between.timer", RESTART]),
-                ("dpkg --remove stockdesk", [STOP, RELOAD]),
-                ("dpkg --purge stockdesk", []),
-                ("dpkg --install /first.deb", [RELOAD]),
-            ]:
-                inside(line)
-                expect_asked(root, calls)
-                expect(kept_in(root) == kept, f"{line}: what is a shop's was touched")
-                expect(os.path.exists(os.path.join(root, "usr/bin/stockdesk")) == ("install" in line), f"{line}: the program")
-            told = inside(f"printf '? field N1 A-1\n' | runuser -u stockdesk -- stockdesk run {DESK}")
-            expect(told == "? field N1 A-1 lo 0 hi 100 value 40 inf 40 sup 40\n", f"another desk: {told}")
-            expect("usage: stockdesk-backup" in inside("stockdesk-backup --help"), "no tool")
+        """On a fresh Debian of each suite the package is installed, upgraded, removed and purged: in between the program runs,
+        systemd is asked for what each step wants, and what is the shop's stays as it was: desks and copies, which are their
+        owner's alone, and settings."""
+        later = newer(self.path, self.folder)
+        for suite in SUITES:
+            root = os.path.join(self.folder, suite)
+            with self.subTest(suite=suite), fresh_debian(suite, root, "--include=nftables,python3,systemd") as inside:
+                for package, name in [(self.path, "first.deb"), (later, "later.deb")]:
+                    shutil.copy(package, os.path.join(root, name))
+                put_systemctl(root)
+                inside("dpkg --install /first.deb")
+                expect(inside(OWNED) == OWNERS, f"other owners or modes: {inside(OWNED)}")
+                expect(inside("getent passwd stockdesk").endswith(":/var/lib/stockdesk:/usr/sbin/nologin\n"), "another user")
+                expect_asked(root, [RELOAD])
+                fill(inside)
+                desks = [path for path, _, mode, _ in kept_in(root) if path.endswith(".db") and stat.S_IMODE(mode) == 0o600]
+                expect(len(desks) == 2, f"not a desk and a copy that are their owner's alone: {desks}")
+                expect_kept(inside, root)
+                told = inside(f"printf '? field N1 A-1\n' | runuser -u stockdesk -- stockdesk run {DESK}")
+                expect(told == "? field N1 A-1 lo 0 hi 100 value 40 inf 40 sup 40\n", f"another desk: {told}")
+                expect("usage: stockdesk-backup" in inside("stockdesk-backup --help"), "no tool")
 
 
 def unpacked(path: str, folder: str) -> str:
@@ -170,6 +185,7 @@ def unpacked(path: str, folder: str) -> str:
 
 
 DESK = "/var/lib/stockdesk/shop/desk.db"
+NAMES = [os.path.basename(unit) for unit in UNITS]
 
 OWNED = "stat -c '%n %U %G %a' /etc/stockdesk /var/backups/stockdesk /var/lib/stockdesk"
 OWNERS = """/etc/stockdesk root root 755
@@ -179,6 +195,7 @@ OWNERS = """/etc/stockdesk root root 755
 
 # what is asked of systemd
 RELOAD = "--system daemon-reload"
+TIMERS = "stockdesk-between.timer stockdesk-certificate.timer"
 RESTART = "try-restart stockdesk@*.service stockdesk-replica@*.service"
 STOP = "stop stockdesk*.timer stockdesk@*.service stockdesk-replica@*.service"
 
@@ -204,11 +221,35 @@ def expect_asked(root: str, want: list[str]) -> None:
 def fill(inside: Inside) -> None:
     """Makes a desk with a field, a copy and the settings, as the guide does."""
     inside("install -d -o stockdesk -g stockdesk -m 0700 /var/lib/stockdesk/shop /var/backups/stockdesk/shop")
+    inside(f"install -o stockdesk -g stockdesk -m 0600 /dev/null {DESK}")
     inside(f"runuser -u stockdesk -- stockdesk init {DESK}")
     inside("echo PORT=8080 >/etc/stockdesk/shop.conf")
     told = inside(f"printf 'F1 field N1 A-1 0 100 40\n' | runuser -u stockdesk -- stockdesk run {DESK}")
     expect(told == "F1 done 1\n", f"another reply: {told}")
     inside(f"runuser -u stockdesk -- stockdesk-restore {DESK} /var/backups/stockdesk/shop/copy.db")
+
+
+def expect_kept(inside: Inside, root: str) -> None:
+    """What is the shop's stays as it is while the package is upgraded, removed, purged and installed again."""
+    kept = kept_in(root)
+    steps: list[tuple[str, list[str]]] = [
+        ("dpkg --install /later.deb", [RELOAD, f"try-restart {TIMERS}", RESTART]),
+        ("dpkg --remove stockdesk", [STOP, RELOAD]),
+        ("dpkg --purge stockdesk", []),
+        ("dpkg --install /first.deb", [RELOAD]),
+    ]
+    for line, calls in steps:
+        inside(line)
+        is_installed = "install" in line
+        expect_asked(root, calls)
+        expect(kept_in(root) == kept, f"{line}: what is a shop's was touched")
+        expect(os.path.exists(os.path.join(root, "usr/bin/stockdesk")) == is_installed, f"{line}: the program")
+        expect(units_in(root) == (NAMES if is_installed else []), f"{line}: the units are {units_in(root)}")
+
+
+def units_in(root: str) -> list[str]:
+    """The units that lie where systemd looks for them; in both suites /lib is /usr/lib."""
+    return sorted(glob.glob("stockdesk*", root_dir=os.path.join(root, "usr/lib/systemd/system")))
 
 
 def kept_in(root: str) -> list[tuple[str, int, int, int]]:
@@ -334,11 +375,16 @@ class Units(ProgramCase):
             expect((others in text and "LOG" in text) if is_refused else not text, f"{unit}, {settings}: {text}")
 
     def test_the_guide_switches_on_each_timer(self):
-        timers = [os.path.basename(unit).replace("@", "@shop") for unit in UNITS if unit.endswith("@.timer")]
-        for guide, service in [("OPERATING.md", "stockdesk@shop"), ("REPLICAS.md", "stockdesk-replica@shop")]:
+        """But for one: a desk that three machines hold does not roll by itself."""
+        timers = {os.path.basename(unit).replace("@", "@shop") for unit in UNITS if unit.endswith("@.timer")}
+        single = {"stockdesk-roll@shop.timer"}
+        for guide, units in [
+            ("OPERATING.md", {"stockdesk@shop", *timers}),
+            ("REPLICAS.md", {"stockdesk-replica@shop", *timers - single}),
+        ]:
             with open(os.path.join(TOP, "docs", guide), encoding="utf-8") as file:
-                [words] = re.findall(r"^systemctl enable --now (stockdesk.*)$", file.read(), re.MULTILINE)
-            expect(sorted(words.split()) == sorted([service, *timers]), f"{guide}: {words}")
+                [words] = re.findall(r"^systemctl enable --now (stockdesk\S*@.*)$", file.read(), re.MULTILINE)
+            expect(single <= timers and sorted(words.split()) == sorted(units), f"{guide}: {words}")
 
     @needs("strace")
     def test_the_service_needs_no_call_that_its_unit_refuses(self):
@@ -380,16 +426,35 @@ class Units(ProgramCase):
             expect_allowed(log, "stockdesk-check@.service", "openat")
 
     @needs("strace")
+    def test_a_desk_is_rolled_up_by_no_call_that_its_unit_refuses(self):
+        """The program was killed, so the desk's log has pages; then the desk is looked at and rolled up, under strace."""
+        path = os.path.join(self.folder, "desk.db")
+        done(self.program, ["init", path])
+        play_and_kill(self.program, path, "F1 field N1 A-1 0 100 40\n")
+        wrapper, log = traced(self.folder, ROLLOVER)
+        for words in [["--from", "100000"], []]:
+            told = run([wrapper, *words, path, "--program", self.program])
+            expect(told.returncode == 0, f"not rolled up: {told}")
+            expect_allowed(log, "stockdesk@.service", "link" if not words else "openat")
+
+    @needs("strace")
     def test_the_tools_that_ask_a_desk_need_no_call_that_their_units_refuse(self):
-        """The tools look how full a desk is, and end what is due; both use no socket but of AF_INET."""
+        """The tools look how full a desk is, and whether it wants a roll, and end what is due; they use no socket but of
+        AF_INET."""
         path = os.path.join(self.folder, "desk.db")
         done(self.program, ["init", path])
         done(self.program, ["run", path], "F1 field N1 A-1 0 100 40\nO1 open 1 1 take N1 A-1 1\n")
-        service = Service(self.program, path, 2, options=TOGETHER)
+        service = Service(self.program, path, 3, options=TOGETHER)
         place = os.path.join(self.folder, "clock")
         os.mkdir(place)
         for unit, tool, words, told_of in [
             ("stockdesk-check@.service", ROLLOVER, ["--check", path, "--port", str(service.port)], "orders: 1 of"),
+            (
+                "stockdesk-roll@.service",
+                ROLLOVER,
+                ["--wants", path, "--port", str(service.port), "--from", "2", "--keys", "1"],
+                "a roll is wanted: 2 places",
+            ),
             (
                 "stockdesk-clock@.service",
                 CLOCK,

@@ -61,6 +61,9 @@ NO_TASK = [
     ["article", "usage.db"],
     ["upgrade"],
     ["upgrade", "usage.db", "more"],
+    ["roll", "usage.db"],
+    ["roll", "usage.db", "new.db", "more"],
+    ["roll", "usage.db", "new.db", "--keys"],
     ["serve", "usage.db"],
     ["serve", "usage.db", "--port", "0"],
     ["serve", "usage.db", "--connections", "1"],
@@ -82,7 +85,7 @@ NO_TASK = [
 
 # what each help says, in a line
 HELP = [
-    (["--help"], ["init", "run", "orders", "deliveries", "bounds", "sheet", "article", "serve", "upgrade"]),
+    (["--help"], ["init", "run", "orders", "deliveries", "bounds", "sheet", "article", "serve", "upgrade", "roll"]),
     (["init", "--help"], ["FILE"]),
     (["run", "--help"], ["FILE"]),
     (["orders", "--help"], ["FILE", "CSV", "--together"]),
@@ -92,6 +95,7 @@ HELP = [
     (["article", "--help"], ["FILE", "ARTICLE"]),
     (["serve", "--help"], ["FILE", "--port", "--connections", "--together", "--clients"]),
     (["upgrade", "--help"], ["FILE"]),
+    (["roll", "--help"], ["OLD", "NEW", "--keys"]),
 ]
 
 TRANSFER = """T1 field N1 A-1 0 100 40

@@ -14,7 +14,7 @@ from asyncio.subprocess import PIPE
 from collections.abc import Awaitable, Callable
 from importlib.util import find_spec
 
-from support import DEPLOY, TOP
+from support import TOP
 from support.cases import ProgramCase, needs, needs_sqlite
 from support.copies import alone
 from support.programs import done, expect, new_desk
@@ -24,7 +24,6 @@ from support.replica_wrong import changed_tools
 from support.replicas import PORT, UP_SECONDS, Machines
 from support.tables import rows_of
 
-ROLLOVER = os.path.join(DEPLOY, "stockdesk-rollover")
 CLIENT = os.path.join(TOP, "examples", "client.py")
 LACKING = [name for name in ["aiohttp", "etcd3", "grpc", "uvloop"] if find_spec(name) is None]
 OLD = "F field N1 A-1 0 100 40\nO open 7 60 take N1 A-1 30\nW writeoff N1 A-1 10\nU use 7 N1 A-1 5\n"
@@ -159,8 +158,7 @@ class ReplicasLife(ProgramCase):
             await well(machines)
             await self.end(machines)
             new = os.path.join(self.folder, "new.db")
-            rolled = subprocess.run([sys.executable, ROLLOVER, machines.desk(1), new, "--program", self.program])
-            expect(rolled.returncode == 0, "not rolled over")
+            done(self.program, ["roll", machines.desk(1), new])
             machines.log = "desk/2"
             await begin(machines, new)
             field = '{"article":"A-1","branch":"N1","hi":100,"inf":5,"lo":0,"sup":35,"value":35}'

@@ -77,6 +77,21 @@ class Locks(ProgramCase):
             expect(self.refusal_of(path) == f"{path} is in use: end the program that has it open first", "it was kept shut")
         expect(self.refusal_of(path) is None, "nobody has it open")
 
+    def test_a_file_that_is_replaced_is_not_shut(self):
+        """Another run puts a new desk there, between the opening of the old one and its lock."""
+        path, other = new_desk(self.program, self.folder), new_desk(self.program, self.folder, "other.db")
+        opened = tools.opened
+
+        def opened_and_replaced(name):
+            file = opened(name)
+            os.replace(other, path)
+            return file
+
+        with mock.patch.object(tools, "opened", opened_and_replaced), self.assertRaises(tools.Fault), tools.kept_shut(path):
+            pass
+        with tools.kept_shut(path):
+            pass
+
     def refusal_of(self, path):
         """How a process refuses that is not this one, as which the other SQLite writes."""
         act = "import sys, stockdesk_tools as tools\nwith tools.kept_shut(sys.argv[1]): pass"

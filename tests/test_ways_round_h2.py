@@ -4,6 +4,7 @@ length, trailers, tunnels, and answers that are not read. Each is refused by the
 import json
 import time
 import unittest
+from collections.abc import Callable
 
 from support import http2
 from support.fronts import FIELDS, OFFICE, SHOP, WAREHOUSE, Front, FrontCase, credentials, message
@@ -131,6 +132,25 @@ TRAILERS: dict[str, Headers] = {
 }
 
 
+def ended_later(client: Http2) -> int:
+    """Sends a view whose end is an empty frame, some time behind its head."""
+    stream = client.send(head("GET", VIEW), None, is_ended=False)
+    time.sleep(0.02)
+    client.state.end_stream(stream)
+    client.flush()
+    return stream
+
+
+# how a view may end behind its head
+ENDS: dict[str, Callable[[Http2], int]] = {
+    "an empty frame": lambda client: client.send(head("GET", VIEW), b""),
+    "an empty frame that comes later": ended_later,
+    "an empty frame and a length": lambda client: client.send(head("GET", VIEW, ("content-length", "0")), b""),
+    "trailers": lambda client: client.send(head("GET", VIEW), None, trailers=TRAILERS["of no meaning"]),
+    "an empty frame and trailers": lambda client: client.send(head("GET", VIEW), b"", trailers=TRAILERS["of no meaning"]),
+}
+
+
 def connections_of(front: Front) -> float:
     """How many connections the desk was given. It serves so many in its life, and few to a client that asks one by one."""
     status, page = front.ask(OFFICE, "GET", "/metrics")
@@ -218,6 +238,25 @@ class WaysRoundH2(FrontCase):
                     with Http2(front) as client:
                         expect_refused(front, what, client.answer(client.send(headers, body, trailers=trailers)))
                     expect_own_answers(front, f"trailers: {what}")
+
+    def test_no_end_takes_a_connection(self):
+        """A view ends behind its head: the front refuses it. A command ends by trailers: the desk answers it. The connections to
+        the desk stay open."""
+        trailers = TRAILERS["of no meaning"]
+        commands = {"a command with trailers": lambda client: client.send(told(GOOD), GOOD, trailers=trailers)}
+        with Front(self.program, self.folder, script="F1 field N1 A-1 0 100000 500\n") as front:
+            if not spoken(front):
+                return
+            front.value()
+            before = connections_of(front)
+            for what, send in {**ENDS, **commands}.items():
+                want = "409" if what in commands else "400"
+                with Http2(front) as client:
+                    for _ in range(10):
+                        found = client.answer(send(client))
+                        expect(found[0] == want and found[1] != DESK, f"{what}: {found}")
+                expect_own_answers(front, what)
+                expect(connections_of(front) <= before + SPARE, f"{what}: a connection of the desk ended")
 
     def test_no_stream_is_anothers(self):
         """Streams of one connection have users of their own, all at once: each stream is judged by its own user."""

@@ -232,6 +232,12 @@ impl Told<KeptRow> for (Key, KeptEntry) {
     fn read() {}
 }
 
+impl<'a> Words<'a> {
+    fn first(&self) -> &'a str {
+        1
+    }
+}
+
 pub trait Keep {
     fn load(&self) -> u8
         ensures { record {
@@ -254,7 +260,8 @@ class Reading(unittest.TestCase):
     def test_functions_have_the_names_of_their_proofs(self) -> None:
         found = [it.name for it in functions.functions_of("c", NAMED)]
         want = ["Desk::run", "Desk+Deferred+K::settle", "run::MemoryFromAllocFailed::from"]
-        want += ["run::Tuple2KeyKeptEntryToldKeptRow::read", "run::Keep::make_room", "run::law"]
+        want += ["run::Tuple2KeyKeptEntryToldKeptRow::read", "run::Words::first", "run::Keep::make_room"]
+        want += ["run::law"]
         expect(found == want, f"{found}")
 
     def test_lines_of_another_kind_are_remarks(self) -> None:

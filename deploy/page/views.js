@@ -201,7 +201,7 @@ function drawDesk({ fields, open, orders, places }) {
     { title: "Orders", taken: orders, aside: 0, most: MOST.orders, stops: "no new order" },
   ];
   const words = parts.flatMap(fullWords);
-  const advice = "A desk never forgets: whoever runs it rolls over to a new one in time.";
+  const advice = "Whoever runs the desk sees to it that places and orders get free again; fields do not.";
   at("desk-bars").replaceChildren(...parts.map(barOf));
   at("fullness").replaceChildren(...[...words, advice].map(each => make("p", {}, each)));
   at("fullness").hidden = !words.length;

@@ -1,4 +1,4 @@
-"""Full desks, as rows: one that a new desk can take over, and some that need about as many places as there are."""
+"""A full desk, as rows."""
 
 import random
 
@@ -49,15 +49,3 @@ def full_rows() -> list[str]:
     leave_no_room(desk)
     desk.kept = {f"K{number:06}": (number, "expire 0") for number in range(1, PLACES + 1)}
     return lines_of_rows(tables_by(desk), ",")
-
-
-def long_rows(uses: int) -> tuple[list[str], int]:
-    """Two orders of 64 lines, each of which holds 1,000,000,000 pieces; so many millions of these are used in all. And how many
-    places a new desk needs for them: for fields and orders, for more on each line, for uses, and set aside."""
-    fields = [(f"N{n % 2}", f"A{n // 2}") for n in range(128)]
-    rows = [f"field,{branch},{article},0,1000000000,0,0,0,1000000000" for branch, article in fields]
-    rows += [f"orders,{number},0,60,0" for number in (1, 2)]
-    for n, (branch, article) in enumerate(fields):
-        used = 1_000_000 * (uses // 128 + (n < uses % 128))
-        rows.append(f"line,{1 + n // 64},{1 + n % 64},{branch},{article},1,1000000000,{used}")
-    return ["desk,1,2,0,0", *rows], 128 + 2 + 128 * 999 + uses + 2

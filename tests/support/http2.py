@@ -6,6 +6,7 @@ import socket
 import ssl
 import time
 from types import TracebackType
+from typing import Any
 
 from support.fronts import Haproxy
 
@@ -33,7 +34,8 @@ class Http2:
         plain.connect(("127.0.0.1", front.port))
         self.socket = context.wrap_socket(plain, server_hostname="localhost")
         self.is_spoken = self.socket.selected_alpn_protocol() == "h2"
-        free = {"validate_outbound_headers": False, "normalize_outbound_headers": False, "validate_inbound_headers": False}
+        names = ["validate_outbound_headers", "normalize_outbound_headers", "validate_inbound_headers"]
+        free: dict[str, Any] = dict.fromkeys(names, False)
         self.state = H2Connection(H2Configuration(client_side=True, header_encoding="latin-1", **free))
         self.state.initiate_connection()
         if window is not None:
@@ -84,9 +86,9 @@ class Http2:
                 if getattr(event, "stream_id", stream) != stream:
                     continue
                 if isinstance(event, events.ResponseReceived):
-                    status = dict(event.headers)[":status"]
+                    status = dict(event.headers or [])[":status"]
                 elif isinstance(event, events.DataReceived):
-                    body += event.data
+                    body += event.data or b""
                 elif isinstance(event, (events.StreamEnded, events.StreamReset, events.ConnectionTerminated)):
                     end = 0
             self.flush()

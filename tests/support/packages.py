@@ -19,6 +19,9 @@ SOURCES = ["CHANGELOG.md", "CONTRIBUTING.md", "README.md", "crates.txt", "debian
 
 BUILT = os.path.join("crates", "stockdesk", "out", "stockdesk")
 
+# the Debian that the package is for, 12 and 13
+SUITES = ["bookworm", "trixie"]
+
 # runs a line of shell and returns its output
 Inside = Callable[[str], str]
 
@@ -63,11 +66,11 @@ def newer(path: str, folder: str) -> str:
 
 
 @contextlib.contextmanager
-def fresh_debian(root: str, *options: str) -> Iterator[Inside]:
-    """A fresh Debian in a new folder, made with these options; yields what runs a line in it."""
-    made = run(["mmdebstrap", "--variant=minbase", *options, "bookworm", root])
+def fresh_debian(suite: str, root: str, *options: str) -> Iterator[Inside]:
+    """A fresh Debian of that suite in a new folder, made with these options; yields what runs a line in it."""
+    made = run(["mmdebstrap", "--variant=minbase", *options, suite, root])
     if made.returncode != 0:
-        raise unittest.SkipTest(f"no Debian could be fetched: {made.stderr[-200:]}")
+        raise unittest.SkipTest(f"no Debian {suite} could be fetched: {made.stderr[-200:]}")
 
     def inside(line: str) -> str:
         path = "/usr/local/bin:/usr/sbin:/usr/bin:/sbin:/bin"

@@ -1,31 +1,24 @@
-"""Desks to be rolled over, how the tool ends on them, and what has to stand in the new desk, by the rules and without the
-tool."""
+"""Desks to be rolled up, how the tool ends on them, and commands for a desk that was rolled up."""
 
-import contextlib
 import os
 import random
-import re
 import resource
 import shutil
 import subprocess
 from collections.abc import Iterable, Sequence
 from dataclasses import dataclass
-from itertools import zip_longest
-from typing import Any
 
 from support import DEPLOY, rows
-from support.chance import Chance, Seen
-from support.inputs import OPENING, fed, known_fields, say_lines
+from support.chance import Chance
+from support.inputs import OPENING, known_fields, say_lines
 from support.programs import SECONDS, End, bytes_of, done, expect, new_desk
-from support.rules import ABORTED, COMMITTED, FIRM, PLACES, TRANSFER, Line, Order, Rules
-from support.tables import sqlite3, tables_of
+from support.rules import Line, Order, Rules
+from support.tables import tables_of
 
 TOOL = os.path.join(DEPLOY, "stockdesk-rollover")
 
 # a full desk takes long
 PATIENCE = 20 * SECONDS
-
-KEY = re.compile(r"rollover-[0-9a-f]{20}-[1-9][0-9]*")
 
 # a desk with open orders of all kinds
 SCRIPT = """K1 field N1 A-1 0 100 40
@@ -38,57 +31,15 @@ K7 transfer 9 60 A-1 N1 N2 1
 K8 expire 10
 """
 
-# the tables in which a new desk has what the rules make of the old one, and no other row
-STANDING = ["field", "move", "orders", "line", "firm"]
-
-
-def lines_open(desk: Rules) -> list[tuple[Order, Line]]:
-    """The lines of open orders."""
-    return [(order, line) for order in desk.open.values() for line in order.lines]
-
-
-def count_shapes(seen: Seen, desk: Rules) -> None:
-    """Counts the rare things that a desk has when it is rolled over."""
-    lines, orders = lines_open(desk), desk.open.values()
-    firm = [(order, line) for order, line in lines if order.state == FIRM]
-    seen.add("open orders", len(orders))
-    seen.add("open transfers", sum(order.kind == TRANSFER for order in orders))
-    seen.add("orders of 64 lines", sum(len(order.lines) == 64 for order in orders))
-    seen.add("ended orders", len(desk.orders) - len(orders))
-    seen.add("firm orders", len({order.number for order, _ in firm}))
-    seen.add("firm orders whose moment has come", sum(order.state == FIRM and order.until <= desk.clock for order in orders))
-    seen.add("firm lines with some used", sum(line.used > 0 for _, line in firm))
-    seen.add("firm lines with all used", sum(line.used == line.held for _, line in firm))
-    seen.add("lines with some used", sum(line.used > 0 for _, line in lines))
-    seen.add("lines that hold nothing", sum(line.held == 0 for _, line in lines))
-    seen.add("lines above a million", sum(line.held > 1_000_000 for _, line in lines))
-    seen.add("uses above a million", sum(line.used > 1_000_000 for _, line in lines))
-    seen.add("clocks", desk.clock > 0)
-    seen.add("starts beyond the bounds", sum(not it.lo <= it.start <= it.hi for it in desk.fields.values()))
-    seen.add("fields with equal bounds", sum(it.lo == it.hi for it in desk.fields.values()))
-    seen.add("moves", len(desk.moves))
-
-
-def asked(path: str, query: str) -> list[Any]:
-    with contextlib.closing(sqlite3.connect(path)) as database:
-        return database.execute(query).fetchall()
-
 
 @dataclass
 class Old:
-    """The commands that make a desk, the last of which leave some fields no room; whether the session that carries out these last
-    ones is killed; and a seed for the commands that come to both desks after the roll-over."""
+    """The commands that make a desk, the last of which leave some fields no room; and whether the session that carries out these
+    last ones is killed."""
 
     lines: list[bytes]
     last: list[bytes]
     is_killed: bool
-    future: int
-
-    def text(self) -> bytes:
-        return joined(self.lines + self.last)
-
-    def __str__(self) -> str:
-        return f"{fed(self.text())}# the future {self.future}{', killed' * self.is_killed}"
 
 
 def joined(lines: Iterable[bytes]) -> bytes:
@@ -104,14 +55,14 @@ def old_desk(chance: Chance) -> Old:
         if chance.share(50):
             _, inf, sup = known.desk.numbers((branch, article))
             last.append(f"T{len(last)} rebound {branch} {article} {inf} {sup}".encode())
-    return Old(lines, last, chance.share(25), chance.whole(0, 999))
+    return Old(lines, last, chance.share(25))
 
 
-def desk_of(program: str, folder: str, text: str = SCRIPT) -> tuple[str, str]:
-    """Makes a desk with these commands; returns its path, and the path of a new desk."""
+def desk_of(program: str, folder: str, text: str = SCRIPT) -> str:
+    """The path of a new desk with these commands."""
     path = new_desk(program, folder, "old.db")
     done(program, ["run", path], text)
-    return path, os.path.join(folder, "new.db")
+    return path
 
 
 def play_and_kill(program: str, path: str, text: str | bytes) -> None:
@@ -163,15 +114,6 @@ def lying(path: str) -> dict[str, bytes]:
     return {end: bytes_of(path + end) for end in ["", "-wal", "-shm", "-journal"] if os.path.exists(path + end)}
 
 
-def rolled(program: str, old: str, new: str) -> list[str]:
-    """Rolls a desk over; returns the lines that the tool writes. The old desk is left as it was."""
-    found = lying(old)
-    status, out, errors = tool_ended(program, [old, new])
-    expect((status, errors) == (0, b""), f"{status}, {errors!r}")
-    expect(lying(old) == found, "the old desk was changed")
-    return out.decode().splitlines()
-
-
 def expect_refused(program: str, words: Sequence[str], cause: str) -> None:
     """The tool does nothing, and one line names the cause."""
     status, out, errors = tool_ended(program, words)
@@ -187,55 +129,6 @@ def expect_only(folder: str, names: Iterable[str]) -> None:
 def desk_in(path: str) -> Rules:
     """The desk that the rows of a file describe."""
     return rows.desk_of(tables_of(path))
-
-
-def expect_standing(old: str, new: str) -> None:
-    """The new desk stands where the rules have it stand after the old one, and has nothing else."""
-    wanted, found = rows.tables_by(desk_in(old).rolled_over()), tables_of(new)
-    for table in STANDING:
-        odd = next((pair for pair in zip_longest(wanted[table], found[table]) if pair[0] != pair[1]), None)
-        expect(odd is None, f"{odd and odd[0]} was wanted, and {odd and odd[1]} is there")
-    expect(found["desk"][0].clock == wanted["desk"][0].clock, "another clock")
-    keys = [row.reqkey for row in found["kept"]]
-    expect(all(map(KEY.fullmatch, keys)) and len({key[:29] for key in keys}) <= 1, "other keys")
-
-
-def told_numbers(old: Rules, new: Rules) -> list[int]:
-    """The numbers in the lines that the tool has to write, in their order."""
-    settled = [(order.number, line.used) for order, line in lines_open(old) if order.settled(line)]
-    empty = sum(line.held == order.settled(line) for order, line in lines_open(old))
-    ended = [sum(order.state == state for order in old.orders.values()) for state in (COMMITTED, ABORTED)]
-    return [
-        *(len(new.fields), len(new.orders), len(new.firms), new.clock),
-        *(len(new.kept), len(new.open), PLACES),
-        *(len(old.kept), len(old.open), PLACES),
-        *(len(old.kept), len(old.moves), *ended),
-        *(sum(used for _, used in settled), len({number for number, _ in settled})),
-        *(empty, len(old.open) - len(new.open)),
-    ]
-
-
-def expect_told(told: Iterable[str], old: str, new: str) -> None:
-    """The tool's lines have the numbers that the files have."""
-    wanted = told_numbers(desk_in(old), desk_in(new))
-    found = [int(number) for number in re.findall("[0-9]+", " ".join(told))]
-    expect(found == wanted, f"{found} and not {wanted}: {told}")
-
-
-def expect_whole(old: str, new: str) -> None:
-    """A roll-over left all that it should, in one file with no log beside it."""
-    expect(not os.path.exists(f"{new}-wal"), "a log was left")
-    expect(os.stat(new).st_nlink == 1, "it has another name, too, with which the program refuses it")
-    expect_standing(old, new)
-    rows.expect_good(new, "the new desk")
-
-
-def replies(program: str, path: str, folder: str, text: str) -> list[str]:
-    """What a copy of a desk answers, without the places."""
-    copy = shutil.copyfile(path, os.path.join(folder, "copy.db"))
-    with contextlib.suppress(FileNotFoundError):
-        os.remove(f"{copy}-wal")
-    return [re.sub(" done [0-9]+$", " done", line) for line in done(program, ["run", copy], text)]
 
 
 def asks_of(order: Order) -> list[str]:
@@ -265,15 +158,3 @@ def acts(orders: Iterable[Order], clock: int, generator: random.Random) -> str:
     chosen = generator.sample(all_acts, min(len(all_acts), 200))
     fields = sorted({f"? field {' '.join(line.name)}\n" for _, line in lines})
     return "".join(f"A{n} {act}\n" + "".join(fields[:8]) for n, act in enumerate(chosen))
-
-
-def expect_same_future(program: str, folder: str, old: str, new: str, seed: int, most: int = 100) -> None:
-    """The first commands on either desk are answered alike, for all open orders or for `most` of them: their ends, and every
-    third time the acts that may come before."""
-    generator, desk = random.Random(seed), desk_in(new)
-    chosen = generator.sample(sorted(desk.open), min(most, len(desk.open)))
-    orders = [desk.open[number] for number in sorted(chosen)]
-    for text in [commits(orders, generator)] + [acts(orders, desk.clock, generator)] * (seed % 3 == 0):
-        pairs = zip(text.splitlines(), replies(program, old, folder, text), replies(program, new, folder, text), strict=True)
-        odd = [trio for trio in pairs if trio[1] != trio[2]]
-        expect(odd == [], f"{odd[:1]}")

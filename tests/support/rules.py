@@ -1,5 +1,5 @@
-"""The rules of a desk in Python: what it answers to a line of a script or to a message, what that changes, and what a roll-over
-makes of the desk. A field's numbers are summed anew whenever they are asked for."""
+"""The rules of a desk in Python: what it answers to a line of a script or to a message, and what that changes. A field's numbers
+are summed anew whenever they are asked for."""
 
 import re
 from collections.abc import Callable
@@ -38,10 +38,6 @@ class Field:
     hi: int
     start: int
     moved: int
-
-    def stands_at(self, value: int) -> "Field":
-        """A field with these bounds that begins at this value."""
-        return Field(self.lo, self.hi, value, value)
 
 
 @dataclass
@@ -86,12 +82,6 @@ class Order:
     def left(self, line: Line) -> int:
         """How much of the line may still move the field."""
         return line.held - self.settled(line) if self.is_open() else 0
-
-    def rest(self) -> "Order":
-        """What a roll-over leaves of an open order: of each line what is not settled; a line that is settled completely goes."""
-        settled = [(line, self.settled(line)) for line in self.lines]
-        lines = [Line(line.name, line.way, line.held - moved, line.used - moved) for line, moved in settled if line.held > moved]
-        return Order(self.number, self.kind, self.until, lines, self.state)
 
 
 class Rules:
@@ -356,18 +346,3 @@ class Rules:
             self.firms.add(order.number)
 
         return make_firm
-
-    # ---- what a roll-over makes of it
-
-    def rolled_over(self) -> "Rules":
-        """The desk that a roll-over makes of it, apart from its kept keys: the fields stand where they stood, and the open orders
-        hold what may still move them. There is nothing else in it."""
-        new = Rules()
-        new.clock = self.clock
-        new.fields = {name: field.stands_at(self.numbers(name)[0]) for name, field in self.fields.items()}
-        for order in self.open.values():
-            rest = order.rest()
-            if rest.lines:
-                new.add(rest)
-        new.firms = {number for number, order in new.open.items() if order.state == FIRM}
-        return new

@@ -41,9 +41,9 @@ class Function:
 
 
 def words_of_type(text: str, parameters: set[str]) -> list[str]:
-    """The names in a type or a trait, without the parameters of its impl; a tuple is named for its length."""
+    """The names in a type or a trait, without the parameters and lifetimes of its impl; a tuple is named for its length."""
     tuple_of = [f"Tuple{text.count(',') + 1}"] if text.startswith("(") else []
-    return [*tuple_of, *(word for word in re.findall(r"\w+", text) if word not in parameters)]
+    return [*tuple_of, *(word for word in re.findall(r"(?<!')\b\w+", text) if word not in parameters)]
 
 
 def owner_of(head: str, modules: list[str], homes: dict[str, list[str]]) -> list[str]:

@@ -12,6 +12,7 @@ pub mod PutOrders
 pub mod Among
 pub mod Texts
 pub mod CommandOrder
+pub mod Rolling
 pub mod NextRows
 pub mod OpenOrders
 pub mod RunningNumbers

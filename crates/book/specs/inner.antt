@@ -4,6 +4,7 @@ pub mod InPlace
 pub mod KeptWords
 pub mod OpenOrders
 pub mod PlansSeen
+pub mod Rolling
 pub mod RowEntries
 pub mod RunningNumbers
 pub mod StepsSeen

@@ -23,6 +23,7 @@ mod checks;
 mod fields;
 mod made;
 mod plan;
+mod rolled;
 mod steps;
 mod tables;
 mod views;

@@ -8,7 +8,7 @@ ghost use Rattle.words.specs.declared.read.WordsFault.TheVariants as WordsFault;
 
 use std::alloc::Global;
 use std::marker::Model;
-use words::{Memory, SpelledCommand, WordsFault, read_command};
+use words::{Command, Memory, SpelledCommand, WordsFault, read_command};
 
 /// The one spelling of a command. Contracts see it as the command.
 #[derive(Drop)]
@@ -54,6 +54,17 @@ impl KeptWords {
         ensures range { IsInRange self.now }
     {
         &self.bytes
+    }
+
+    /// Returns the command.
+    pub fn command(&self, alloc: Global) -> Result<Command, Memory>
+        ensures { IfOk result (λ command. command ≡ self.now) }
+    {
+        match read_command(alloc, self.as_bytes()) {
+            Ok(command) => Ok(command),
+            Err(WordsFault::Memory) => Err(Memory),
+            Err(WordsFault::BadCommand) => unreachable!(),
+        }
     }
 
     /// Returns whether these are the words of the command.

@@ -1,6 +1,6 @@
 //! The orders of a book, and which of them are open.
 
-ghost use Rattle.std.specs.Prelude.{◌≡◌, ◌<◌, ◌≤◌, ◌^◌, [], None, Some, IfOk, MatchOption, MatchResult, OnErr, OnOk, find, length};
+ghost use Rattle.std.specs.Prelude.{◌≡◌, ◌<◌, ◌≤◌, ◌^◌, [], None, Some, IfOk, MatchOption, MatchResult, OnErr, OnOk, find, length, slice_get};
 ghost use Rattle.std.specs.BTreeMap.{insert_entry, is_at};
 ghost use Rattle.std.specs.List.Sorted.{IsPermutation, IsStrictlySortedBy};
 ghost use Rattle.std.specs.Map.{keys_of, lookup};
@@ -144,6 +144,14 @@ impl Orders {
         ensures { IsPermutation self.now.entries result.now }
     {
         self.all.arrived()
+    }
+
+    /// Returns the order at a place in the order of their numbers, where the caller knows that there is one.
+    pub fn entry_at(&self, place: usize) -> &Order
+        requires { place < length self.now.entries }
+        ensures { slice_get self.now.entries place ≡ Some result.now }
+    {
+        self.all.entry_at(place)
     }
 
     /// Returns the order of that number, if there is one.

@@ -1,14 +1,14 @@
 -- What `clap` makes of words of which some are no options, whatever they are.
-use Rattle.std.proofs.Common.{◌≡◌, ◌≢◌, [], ◌∷◌, ◌==◌, ◌&&◌, List, None, Option, Some, ℕ, Bool, false, true, refl, ap}
-use Rattle.std.proofs.Common.{ap₂, sym, ◌∙◌, fold, map}
+use Rattle.std.proofs.Common.{◌≡◌, [], ◌∷◌, ◌==◌, ◌&&◌, List, None, ℕ, Bool, false, true, refl, ap}
+use Rattle.std.proofs.Common.{ap₂, ◌∙◌, fold, map}
 use Rattle.std.proofs.lemmas.Bool.{ne_eqb}
 use Rattle.std.specs.Str.{bytes_eq}
 use Rattle.std.specs.List.{list_all}
 use Rattle.clap.specs.Lexer.{long_of, short_of}
 use Rattle.clap.specs.Simple.{Shape}
 use Rattle.clap.specs.Takes.{default_passes, is_valid, level_passes, settle_passes, step_passes, turn_passes, walk_passes}
-use Rattle.clap.specs.Walk.{Held, Names, Row, Rule, Step, Text, Waiting, Walk, after_step, finished, idle, nothing_held}
-use Rattle.clap.specs.Walk.{option, plain_word, positional, rows_after, walk, walk_from, walked, word_met}
+use Rattle.clap.specs.Walk.{Held, Row, Rule, Text, Waiting, Walk, after_step, finished, idle, nothing_held}
+use Rattle.clap.specs.Walk.{option, plain_word, positional, rows_after, walk_from, walked, word_met}
 use Rattle.command_line.specs.Tasks.{IsNoOption}
 
 -- ---- one word

@@ -3,26 +3,27 @@ use Rattle.std.proofs.Common.{◌≡◌, ◌<◌, ◌∙◌, ◌&&◌, ◌^◌, 
 use Rattle.std.proofs.Common.{Option, Some, ap, codes, decimal, false, get_or, length, refl, subst, suc, sym, true}
 use Rattle.std.proofs.Common.{true≢false, zero, ℕ}
 use Rattle.std.specs.List.{list_all}
+use Rattle.std.specs.Str.{bytes_eq}
 use Rattle.std.specs.Int.NonZero.{non_zero_usize_get}
 use Rattle.std.specs.declared.num.NonZeroUsize.{NonZeroUsize}
 use Rattle.std.proofs.lemmas.Fmt.{decimal_digit, first_decimal}
-use Rattle.clap.specs.Words.{App, Row, Text, first_of, is_simple, subcommand_of, takes}
+use Rattle.clap.specs.Words.{Row, Text, first_of, is_simple, subcommand_of, takes}
 use Rattle.clap.specs.Simple.{Shape, built_leaf, inherited}
 use Rattle.clap.specs.Takes.{level_passes}
 use Rattle.clap.specs.Walk.{nothing_held, rows_after}
 use Rattle.clap.proofs.OnLiterals.{clap_on_literals}
 use Rattle.escrow.specs.Codes.{IsArticle, IsBranch, is_branch_byte}
-use Rattle.command_line.specs.Tasks.{AreWordsFor, Asks, AsksFor, AsksForWork, AsksTogether, IsFew, IsNoOption, IsToAsk}
-use Rattle.command_line.specs.Tasks.{IsWorkToAsk, Takes, TakesOn, TakesWork, article, bounds, command_of, deliveries, init}
-use Rattle.command_line.specs.Tasks.{orders, run, serve, sheet, stockdesk, task_words, together_words, upgrade, work_words}
+use Rattle.command_line.specs.Tasks.{AreWordsFor, Asks, AsksFor, IsFew, IsNoOption}
+use Rattle.command_line.specs.Tasks.{IsRollOverToAsk, IsToAsk, IsWorkToAsk, Takes, TakesOnOne, article}
+use Rattle.command_line.specs.Tasks.{bounds, command_of, deliveries, init, orders, roll, run, serve, sheet, stockdesk}
+use Rattle.command_line.specs.Tasks.{task_words, upgrade, work_words}
 use Rattle.command_line.specs.declared.work.AtOnce.{AtOnce}
 use Rattle.command_line.specs.declared.work.Service.{Service}
 use Rattle.command_line.specs.declared.work.Kind.{Kind}
 use Rattle.command_line.specs.declared.work.Kind.TheVariants.{Bounds, Deliveries, Orders}
 use Rattle.command_line.specs.declared.work.SheetOf.TheVariants.{Article, Branch}
 use Rattle.command_line.specs.declared.tasks.Task.{Task}
-use Rattle.command_line.specs.declared.tasks.Task.TheVariants.{InFile, InMemory, Init, Upgrade}
-use Rattle.command_line.specs.declared.work.Work.{Work}
+use Rattle.command_line.specs.declared.tasks.Task.TheVariants.{InFile, InMemory, Init, Roll, Upgrade}
 use Rattle.command_line.specs.declared.work.Work.TheVariants.{Requests, Script, Serve, ServeAtOnce, Sheet}
 use Rattle.command_line.proofs.PlainWords.{Fit, Marked, are_rows, are_taken, level_over, rows_over, start, words_of}
 
@@ -84,6 +85,9 @@ two path word = (true, path) ∷ (true, word) ∷ []
 abbrev many_together : Text → Text → NonZeroUsize → Marked
 many_together path csv most =
     (true, path) ∷ (true, csv) ∷ (false, codes "--together") ∷ (true, decimal (non_zero_usize_get most)) ∷ []
+
+abbrev last_keys : Text → Text → ℕ → Marked
+last_keys old new keys = (true, old) ∷ (true, new) ∷ (false, codes "--keys") ∷ (true, decimal keys) ∷ []
 
 gives_requests : (kind : Kind) (together : Option NonZeroUsize) (name : Text) (path csv : Bor Text)
     → IsNoOption path.now → IsNoOption csv.now → IsFew together
@@ -217,6 +221,20 @@ gives_service_at_once name path service together (Some most) p
       ),
     )
 
+gives_roll_over : (name : Text) (old new : Bor Text) (keys : Option ℕ)
+    → IsRollOverToAsk (record { old = old; new = new; keys = keys })
+    → Gives (name ∷ task_words (Roll (record { old = old; new = new; keys = keys })))
+    (Roll (record { old = old; new = new; keys = keys }))
+unfolding clap_on_literals
+gives_roll_over name old new None (o, n, few) =
+    gives name (codes "roll") roll.top (two old.now new.now) (Roll (record { old = old; new = new; keys = None })) refl
+    refl (refl, refl, o, (refl, refl, n, tt)) refl (refl, (refl, refl, refl))
+gives_roll_over name old new (Some keys) (o, n, few) =
+    let number : IsNoOption (decimal keys) = number_word keys (omega (arith, few)) in
+    gives name (codes "roll") roll.top (last_keys old.now new.now keys)
+    (Roll (record { old = old; new = new; keys = Some keys })) refl refl
+    (refl, refl, o, (refl, refl, n, (refl, refl, number, tt))) refl (refl, (refl, refl, (keys, refl, refl, few)))
+
 gives_task : (task : Task) (name : Text) → IsToAsk task → Gives (name ∷ task_words task) task
 unfolding clap_on_literals
 gives_task (Init path) name p =
@@ -224,6 +242,7 @@ gives_task (Init path) name p =
 gives_task (Upgrade path) name p =
     gives name (codes "upgrade") upgrade.top (one path.now) (Upgrade path) refl refl (refl, refl, p, tt) refl
     (refl, refl)
+gives_task (Roll roll_over) name ok = gives_roll_over name roll_over.old roll_over.new roll_over.keys ok
 gives_task InMemory name p = gives name (codes "run") run.top [] InMemory refl refl tt refl (refl, refl)
 gives_task (InFile path Script) name (p, ok) =
     gives name (codes "run") run.top (one path.now) (InFile path Script) refl refl (refl, refl, p, tt) refl (refl, refl)
@@ -243,24 +262,43 @@ words_give task words (name, is, ok) = subst (λ (w : List Text). Gives w task) 
 
 -- ---- what was found
 
+-- a command of another name than `roll` gives a task on one desk
+on_one : (name command : Text) (rows : List Row) (Taken : Type 0) → Takes name rows Taken → name ≡ command
+    → bytes_eq command (codes "roll") ≡ false → TakesOnOne name rows Taken
+on_one name command rows Taken takes is other =
+    takes.of_one (λ roll. true≢false (subst (λ (word : Text). bytes_eq word (codes "roll") ≡ false) (sym is ∙ roll) other))
+
+on_files : (name : Text) (kind : Kind) (rows : List Row) (Taken : Type 0) → Takes name rows Taken → name ≡ command_of kind
+    → TakesOnOne name rows Taken
+on_files name Orders rows Taken takes is = on_one name (codes "orders") rows Taken takes is refl
+on_files name Deliveries rows Taken takes is = on_one name (codes "deliveries") rows Taken takes is refl
+on_files name Bounds rows Taken takes is = on_one name (codes "bounds") rows Taken takes is refl
+
 -- what is asked for, in range, is given
 pub is_given : (name : Text) (rows : List Row) (task : Task) (Taken : Type 0) → Takes name rows Taken
     → AsksFor name rows task → IsToAsk task → Taken
-is_given name rows (Init path) Taken takes (is, file) ok = (takes.on_file path.now file).of_init is
-is_given name rows (Upgrade path) Taken takes (is, file) ok = (takes.on_file path.now file).of_upgrade is
-is_given name rows InMemory Taken takes (is, none) ok = takes.in_memory is none
-is_given name rows (InFile path Script) Taken takes (file, is) ok = (takes.on_file path.now file).of_work.of_script is
+is_given name rows (Init path) Taken takes (is, file) ok =
+    ((on_one name (codes "init") rows Taken takes is refl).on_file path.now file).of_init is
+is_given name rows (Upgrade path) Taken takes (is, file) ok =
+    ((on_one name (codes "upgrade") rows Taken takes is refl).on_file path.now file).of_upgrade is
+is_given name rows (Roll roll_over) Taken takes (is, asked) ok = takes.of_roll_over roll_over is asked
+is_given name rows InMemory Taken takes (is, none) ok = (on_one name (codes "run") rows Taken takes is refl).in_memory is none
+is_given name rows (InFile path Script) Taken takes (file, is) ok =
+    ((on_one name (codes "run") rows Taken takes is refl).on_file path.now file).of_work.of_script is
 is_given name rows (InFile path (Requests kind csv together)) Taken takes (file, (is, found, many)) ok =
-    (takes.on_file path.now file).of_work.of_requests kind csv.now together is found many ok.1.1
+    ((on_files name kind rows Taken takes is).on_file path.now file).of_work.of_requests kind csv.now together is found many
+    ok.1.1
 is_given name rows (InFile path (Sheet (Branch branch))) Taken takes (file, (is, found)) (p, form) =
-    (takes.on_file path.now file).of_work.of_branch branch is found form
+    ((on_one name (codes "sheet") rows Taken takes is refl).on_file path.now file).of_work.of_branch branch is found form
 is_given name rows (InFile path (Sheet (Article code))) Taken takes (file, (is, found)) (p, form) =
-    (takes.on_file path.now file).of_work.of_article code is found form
+    ((on_one name (codes "article") rows Taken takes is refl).on_file path.now file).of_work.of_article code is found form
 is_given name rows (InFile path (Serve service)) Taken takes (file, (is, alone, nobody, asked)) ok =
-    ((takes.on_file path.now file).of_work.of_service is).in_turn service alone nobody asked
+    (((on_one name (codes "serve") rows Taken takes is refl).on_file path.now file).of_work.of_service is).in_turn service
+    alone nobody asked
 is_given name rows (InFile path (ServeAtOnce service at_once)) Taken takes
     (file, (is, (together, found, numbers), asked)) (p, (ok, few, few_clients)) =
-    ((takes.on_file path.now file).of_work.of_service is).at_once together service at_once found numbers few few_clients asked
+    (((on_one name (codes "serve") rows Taken takes is refl).on_file path.now file).of_work.of_service is).at_once together
+    service at_once found numbers few few_clients asked
 
 -- the one word `run` asks for a run in memory alone
 abbrev found_rows : Option (Text × List Row) → List Row
@@ -276,6 +314,8 @@ only_in_memory (Init path) (name, rows, found, (is, file)) =
     absurd (let bad : 3 ≡ 4 = ap length (ap found_name found ∙ is) in omega (arith, bad))
 only_in_memory (Upgrade path) (name, rows, found, (is, file)) =
     absurd (let bad : 3 ≡ 7 = ap length (ap found_name found ∙ is) in omega (arith, bad))
+only_in_memory (Roll roll_over) (name, rows, found, (is, asked)) =
+    absurd (true≢false (sym (ap (λ (word : Text). bytes_eq word (codes "roll")) (ap found_name found ∙ is))))
 only_in_memory InMemory asks = refl
 only_in_memory (InFile path work) (name, rows, found, (file, is)) =
     let none : rows ≡ [] = ap found_rows (sym found) in

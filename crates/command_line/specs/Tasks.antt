@@ -1,5 +1,6 @@
 -- The words that the program takes, and the task that they ask for, as `clap` sees them.
-use Rattle.std.specs.Prelude.{◌≡◌, ◌≢◌, ◌<◌, ◌≤◌, ◌∷◌, ◌^◌, [], Bool, List, None, Option, Some, false, true, codes, decimal, ℕ}
+use Rattle.std.specs.Prelude.{◌≡◌, ◌≢◌, ◌<◌, ◌≤◌, ◌∷◌, ◌^◌, [], Bool, IfSome, List, None, Option, Some, false, true, codes}
+use Rattle.std.specs.Prelude.{decimal, ℕ}
 use Rattle.std.specs.Int.NonZero.{non_zero_usize_get}
 use Rattle.std.specs.declared.num.NonZeroUsize.{NonZeroUsize}
 use Rattle.clap.specs.Words.{App, Row, Rule, Text, first_of, new_app, new_rule, with_rule, with_subcommand}
@@ -8,8 +9,9 @@ use Rattle.escrow.specs.Codes.{IsArticle, IsBranch}
 use Rattle.command_line.specs.declared.work.AtOnce.{AtOnce}
 use Rattle.command_line.specs.declared.work.Service.{Service}
 use Rattle.command_line.specs.declared.work.SheetOf.TheVariants.{Article, Branch}
+use Rattle.command_line.specs.declared.rolls.RollOver.{RollOver}
 use Rattle.command_line.specs.declared.tasks.Task.{Task}
-use Rattle.command_line.specs.declared.tasks.Task.TheVariants.{InFile, InMemory, Init, Upgrade}
+use Rattle.command_line.specs.declared.tasks.Task.TheVariants.{InFile, InMemory, Init, Roll, Upgrade}
 use Rattle.command_line.specs.declared.work.Work.{Work}
 use Rattle.command_line.specs.declared.work.Work.TheVariants.{Requests, Script, Serve, ServeAtOnce, Sheet}
 use Rattle.command_line.specs.declared.work.Kind.{Kind}
@@ -80,6 +82,14 @@ serve = with_rule (with_rule serve_in_turn (option false (codes "together"))) (o
 abbrev pub upgrade : App
 upgrade = on_path (codes "upgrade")
 
+-- `roll OLD NEW`
+abbrev pub roll_files : App
+roll_files = with_rule (with_rule (new_app (codes "roll")) (needed (codes "OLD"))) (needed (codes "NEW"))
+
+-- `roll OLD NEW [--keys N]`
+abbrev pub roll : App
+roll = with_rule roll_files (option false (codes "keys"))
+
 -- two commands more
 abbrev pub with_both : App → App → App → App
 with_both app first second = with_subcommand (with_subcommand app first.top) second.top
@@ -90,10 +100,10 @@ scripts = let named =
     new_app (codes "stockdesk") in with_both
     (record named { top = record named.top { subcommand_required = true } }) init run
 
--- the program with all nine commands
+-- the program with all ten commands
 abbrev pub stockdesk : App
-stockdesk = with_subcommand (with_subcommand
-    (with_both (with_subcommand (with_both scripts orders deliveries) bounds.top) sheet article) serve.top) upgrade.top
+stockdesk = with_subcommand (with_both
+    (with_both (with_subcommand (with_both scripts orders deliveries) bounds.top) sheet article) serve upgrade) roll.top
 
 -- the words are the numbers of that service, which are in their ranges
 pub record IsService (port connections : Text) (service : Service) : Type 0 where
@@ -145,10 +155,22 @@ AsksForWork name rows (ServeAtOnce service at_once) = (name ≡ codes "serve") �
     × (first_of (codes "together") rows ≡ Some together)
     × IsAtOnce together (first_of (codes "clients") rows) at_once) × AsksForService rows service
 
+-- where there is a word, it says how many keys, at most 200000
+abbrev pub AsksForKeys : Option Text → Option ℕ → Type 0
+AsksForKeys None keys = keys ≡ None
+AsksForKeys (Some word) keys = (count : ℕ) × (keys ≡ Some count) × (word ≡ decimal count) × (count ≤ 200000)
+
+-- what was found behind the command names those two files, and so many keys
+abbrev pub AsksForRollOver : List Row → RollOver → Type 0
+AsksForRollOver rows roll_over = (first_of (codes "OLD") rows ≡ Some roll_over.old.now)
+    × (first_of (codes "NEW") rows ≡ Some roll_over.new.now)
+    × AsksForKeys (first_of (codes "keys") rows) roll_over.keys
+
 -- the first word behind the program's name, with what was found behind that, asks for this task
 abbrev pub AsksFor : Text → List Row → Task → Type 0
 AsksFor name rows (Init path) = (name ≡ codes "init") × (first_of (codes "FILE") rows ≡ Some path.now)
 AsksFor name rows (Upgrade path) = (name ≡ codes "upgrade") × (first_of (codes "FILE") rows ≡ Some path.now)
+AsksFor name rows (Roll roll_over) = (name ≡ codes "roll") × AsksForRollOver rows roll_over
 AsksFor name rows InMemory = (name ≡ codes "run") × (first_of (codes "FILE") rows ≡ None)
 AsksFor name rows (InFile path work) = (first_of (codes "FILE") rows ≡ Some path.now) × AsksForWork name rows work
 
@@ -185,10 +207,16 @@ work_words path (ServeAtOnce service at_once) = codes "serve" ∷ path ∷ codes
     ∷ codes "--connections" ∷ decimal service.connections
     ∷ codes "--together" ∷ decimal (non_zero_usize_get at_once.together) ∷ clients_words at_once.clients
 
+-- the words that say how many keys
+abbrev pub keys_words : Option ℕ → List Text
+keys_words None = []
+keys_words (Some keys) = codes "--keys" ∷ decimal keys ∷ []
+
 -- the words for a task, behind the program's name
 abbrev pub task_words : Task → List Text
 task_words (Init path) = codes "init" ∷ path.now ∷ []
 task_words (Upgrade path) = codes "upgrade" ∷ path.now ∷ []
+task_words (Roll roll_over) = codes "roll" ∷ roll_over.old.now ∷ roll_over.new.now ∷ keys_words roll_over.keys
 task_words InMemory = codes "run" ∷ []
 task_words (InFile path work) = work_words path.now work
 
@@ -215,10 +243,16 @@ IsWorkToAsk (Serve service) = IsServiceToAsk service
 IsWorkToAsk (ServeAtOnce service at_once) = IsServiceToAsk service × IsFew (Some at_once.together)
     × AreAtMost 4000 at_once.clients
 
--- the task can be asked for: the name of its file is no option, and its work can be asked for
+-- the roll-over can be asked for: the names of its files are no options, and its number is in range
+abbrev pub IsRollOverToAsk : RollOver → Type 0
+IsRollOverToAsk roll_over = IsNoOption roll_over.old.now × IsNoOption roll_over.new.now
+    × IfSome roll_over.keys (λ keys. keys ≤ 200000)
+
+-- the task can be asked for: the names of its files are no options, and its work or its roll-over can be asked for
 abbrev pub IsToAsk : Task → Type 0
 IsToAsk (Init path) = IsNoOption path.now
 IsToAsk (Upgrade path) = IsNoOption path.now
+IsToAsk (Roll roll_over) = IsRollOverToAsk roll_over
 IsToAsk InMemory = Unit {0}
 IsToAsk (InFile path work) = IsNoOption path.now × IsWorkToAsk work
 
@@ -254,7 +288,12 @@ pub record TakesOn (name : Text) (rows : List Row) (Taken : Type 0) : Type 0 whe
   pub of_upgrade : name ≡ codes "upgrade" → Taken
   pub of_work : TakesWork name rows Taken
 
--- a command gives a task
-pub record Takes (name : Text) (rows : List Row) (Taken : Type 0) : Type 0 where
+-- a command gives a task on one desk
+pub record TakesOnOne (name : Text) (rows : List Row) (Taken : Type 0) : Type 0 where
   pub on_file : (path : Text) → first_of (codes "FILE") rows ≡ Some path → TakesOn name rows Taken
   pub in_memory : name ≡ codes "run" → first_of (codes "FILE") rows ≡ None → Taken
+
+-- a command gives a task
+pub record Takes (name : Text) (rows : List Row) (Taken : Type 0) : Type 0 where
+  pub of_one : name ≢ codes "roll" → TakesOnOne name rows Taken
+  pub of_roll_over : (roll_over : RollOver) → name ≡ codes "roll" → AsksForRollOver rows roll_over → Taken

@@ -2,8 +2,11 @@
 //! the words.
 #![tactic(auto)]
 
+mod commands;
+mod rolls;
 mod tasks;
 mod work;
 
+pub use rolls::RollOver;
 pub use tasks::{Task, read_task};
 pub use work::{AtOnce, Kind, Service, SheetOf, Work};

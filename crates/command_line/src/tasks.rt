@@ -1,22 +1,24 @@
 //! What the words after the program's name ask for.
 
-ghost use Rattle.std.specs.Prelude.{◌≡◌, ◌<◌, ◌≤◌, ◌^◌, Some, None, codes, ℕ, List, Option, false, true, decimal, map, option_map, IfErr, IfOk, IfSome, IsSome};
+ghost use Rattle.std.specs.Prelude.{◌≡◌, ◌<◌, ◌≤◌, ◌^◌, Some, None, codes, ℕ, List, Option, true, decimal, map, option_map, IfErr, IfOk, IfSome, IsSome};
 ghost use Rattle.std.specs.Int.NonZero.{non_zero_usize_get};
-ghost use Rattle.clap.specs.Words.{App, Row, Text, app_of, first_of, found_of, kind_of, rows_of, subcommand_of, subcommand_rows_of, takes, with_rule, with_subcommand};
-ghost use Rattle.clap.specs.declared.builder.command.Command.TheViews.{out-Command as fields_of};
+ghost use Rattle.clap.specs.Words.{Row, Text, first_of, found_of, kind_of, rows_of, subcommand_of, subcommand_rows_of, takes};
 ghost use Rattle.escrow.specs.Codes.{IsArticle, IsBranch};
 ghost use Rattle.std.specs.declared.num.NonZeroUsize.{NonZeroUsize};
-ghost use Rattle.command_line.specs.Tasks.{AreAtMost, AreWordsFor, Asks, AsksAtMost, AsksFor, AsksForService, AsksForWork, AsksTogether, IsAtOnce, IsFew, IsService, Takes, TakesOn, TakesService, TakesWork, article, bounds, command_of, deliveries, on_file, on_path, on_requests, option, orders, run, scripts, serve, serve_in_turn, sheet, stockdesk, upgrade, with_both};
+ghost use Rattle.command_line.specs.Tasks.{AreAtMost, AreWordsFor, Asks, AsksAtMost, AsksFor, AsksForRollOver, AsksForService, AsksForWork, AsksTogether, IsAtOnce, IsFew, IsService, Takes, TakesOn, TakesOnOne, TakesService, TakesWork, command_of, stockdesk};
 ghost use Rattle.command_line.specs.declared.work.AtOnce.{AtOnce};
 ghost use Rattle.command_line.specs.declared.work.Service.{Service};
 ghost use Rattle.command_line.specs.declared.work.Kind.{Kind};
+ghost use Rattle.command_line.specs.declared.rolls.RollOver.{RollOver};
 ghost use Rattle.command_line.specs.declared.tasks.Task.{Task};
 
+use crate::commands::command;
+use crate::rolls::{RollOver, keys_asked};
 use crate::work::{AtOnce, Kind, Service, SheetOf, Work};
 use clap::error::ErrorKind;
-use clap::{Arg, ArgAction, ArgMatches, Command, Error};
+use clap::{ArgMatches, Error};
 use escrow::{Article, Branch};
-use std::alloc::{AllocError, Global};
+use std::alloc::Global;
 use std::num::NonZeroUsize;
 use words::read_number;
 
@@ -36,200 +38,12 @@ pub enum Task<'a> {
     Init(&'a str),
     /// To make the desk in this file one of the newest version.
     Upgrade(&'a str),
+    /// To make a desk in a new file that goes on in place of one.
+    Roll(RollOver<'a>),
     /// To play a script on a new desk in memory.
     InMemory,
     /// To do this work on the desk in this file.
     InFile(&'a str, Work<'a>),
-}
-
-/// Returns a command with a file.
-fn path_command<'a>(
-    alloc: Global,
-    name: &'a str,
-    about: &'a str,
-    help: &'a str,
-) -> Result<Command<'a>, AllocError>
-    ensures app { IfOk result (λ command. app_of command ≡ on_path name.entry.now) }
-    ensures local { IfOk result (λ command. (fields_of command).has_globals ≡ false) }
-{
-    let file = Arg::new(alloc, "FILE")
-        .help(help)
-        .required(true)
-        .action(ArgAction::Set);
-    Command::new(alloc, name).about(about).arg(file)
-}
-
-/// Returns the command `run`, with its file or without.
-fn run_command<'a>(alloc: Global) -> Result<Command<'a>, AllocError>
-    ensures app { IfOk result (λ command. app_of command ≡ run) }
-    ensures local { IfOk result (λ command. (fields_of command).has_globals ≡ false) }
-{
-    let file = Arg::new(alloc, "FILE")
-        .help("The file of a desk; without it, a new desk in memory, which ends with the run")
-        .action(ArgAction::Set);
-    Command::new(alloc, "run")
-        .about("Answers the lines of standard input, each by a line on standard output")
-        .arg(file)
-}
-
-/// Returns a command with the file of a desk and one word more.
-fn file_command<'a>(
-    alloc: Global,
-    name: &'a str,
-    about: &'a str,
-    second: &'a str,
-    help: &'a str,
-) -> Result<Command<'a>, AllocError>
-    ensures app { IfOk result (λ command. app_of command ≡ on_file name.entry.now second.entry.now) }
-    ensures local { IfOk result (λ command. (fields_of command).has_globals ≡ false) }
-{
-    let command = path_command(alloc, name, about, "The file of a desk")?;
-    let more = Arg::new(alloc, second)
-        .help(help)
-        .required(true)
-        .action(ArgAction::Set);
-    command.arg(more)
-}
-
-/// Returns the command with one more below it, where that could be made.
-fn with<'a>(
-    command: Command<'a>,
-    more: Result<Command<'a>, AllocError>,
-) -> Result<Command<'a>, AllocError>
-    ensures { IfOk result (λ both. (app : App) → IfOk more.entry (λ one. app_of one ≡ app)
-        → IfOk more.entry (λ one. (fields_of one).has_globals ≡ false)
-        → app_of both ≡ with_subcommand (app_of command.entry) app.top) }
-{
-    command.subcommand(more?)
-}
-
-/// Returns the program, with the commands of scripts.
-fn with_scripts<'a>(alloc: Global) -> Result<Command<'a>, AllocError>
-    ensures { IfOk result (λ command. app_of command ≡ scripts) }
-{
-    let program = Command::new(alloc, "stockdesk")
-        .about("The stock desk of a chain of shops")
-        .subcommand_required(true);
-    let help = "A file that is not there or has no bytes; any other is left alone";
-    let init = path_command(alloc, "init", "Makes a new desk in a file", help);
-    let program = with(program, init)?;
-    with(program, run_command(alloc))
-}
-
-/// Adds an option with a number; it must be given where it is required.
-fn with_option<'a>(
-    alloc: Global,
-    command: Command<'a>,
-    name: &'a str,
-    required: bool,
-    help: &'a str,
-) -> Result<Command<'a>, AllocError>
-    ensures app { IfOk result (λ more. app_of more ≡ with_rule (app_of command.entry) (option required name.entry.now)) }
-    ensures local { (fields_of command.entry).has_globals ≡ false
-        → IfOk result (λ more. (fields_of more).has_globals ≡ false) }
-{
-    let number = Arg::new(alloc, name)
-        .long(name)
-        .value_name("N")
-        .help(help)
-        .required(required)
-        .action(ArgAction::Set);
-    command.arg(number)
-}
-
-/// Returns a command with a file of requests, and an option that says how many are carried out together.
-fn requests_command<'a>(
-    alloc: Global,
-    name: &'a str,
-    about: &'a str,
-    help: &'a str,
-) -> Result<Command<'a>, AllocError>
-    ensures app { IfOk result (λ command. app_of command ≡ on_requests name.entry.now) }
-    ensures local { IfOk result (λ command. (fields_of command).has_globals ≡ false) }
-{
-    let command = file_command(alloc, name, about, "CSV", help)?;
-    let help =
-        "How many requests are kept together, 1 to 1000: their lines are written when all of them are kept";
-    with_option(alloc, command, "together", false, help)
-}
-
-/// Adds the commands that read files of requests.
-fn with_files<'a>(alloc: Global, command: Command<'a>) -> Result<Command<'a>, AllocError>
-    ensures { IfOk result (λ all. app_of all
-        ≡ with_subcommand (with_both (app_of command.entry) orders deliveries) bounds.top) }
-{
-    let about =
-        "Answers the orders of a file, neighbouring lines of one key as one order, each by a line on standard output";
-    let help = "A CSV file: key,order,until,way,branch,article,qty";
-    let command = with(command, requests_command(alloc, "orders", about, help))?;
-    let about = "Answers the deliveries of a file, each by a line on standard output";
-    let help = "A CSV file: key,branch,article,qty";
-    let command = with(command, requests_command(alloc, "deliveries", about, help))?;
-    let about = "Gives fields the bounds of a file, each answered by a line on standard output";
-    let help = "A CSV file: key,branch,article,lo,hi";
-    with(command, requests_command(alloc, "bounds", about, help))
-}
-
-/// Adds the commands that write sheets.
-fn with_sheets<'a>(alloc: Global, command: Command<'a>) -> Result<Command<'a>, AllocError>
-    ensures { IfOk result (λ both. app_of both ≡ with_both (app_of command.entry) sheet article) }
-{
-    let about = "Writes the stock of a branch as a sheet, a line an article";
-    let help = "The code of the branch";
-    let command = with(command, file_command(alloc, "sheet", about, "BRANCH", help))?;
-    let about = "Writes the stock of an article as a sheet, a line a branch";
-    let help = "The code of the article";
-    with(
-        command,
-        file_command(alloc, "article", about, "ARTICLE", help),
-    )
-}
-
-/// Returns the command `serve`, with its file and the two options that must be given.
-fn serve_in_turn_command<'a>(alloc: Global) -> Result<Command<'a>, AllocError>
-    ensures app { IfOk result (λ command. app_of command ≡ serve_in_turn) }
-    ensures local { IfOk result (λ command. (fields_of command).has_globals ≡ false) }
-{
-    let about = "Answers HTTP on 127.0.0.1, one connection after the other or many at once";
-    let command = path_command(alloc, "serve", about, "The file of a desk")?;
-    let help = "The port on 127.0.0.1, 0 to 65535; 0 is any that is free";
-    let command = with_option(alloc, command, "port", true, help)?;
-    let help = "How many connections are served before it ends, 1 to 1000000";
-    with_option(alloc, command, "connections", true, help)
-}
-
-/// Returns the command `serve`, with its file and its four options.
-fn serve_command<'a>(alloc: Global) -> Result<Command<'a>, AllocError>
-    ensures app { IfOk result (λ command. app_of command ≡ serve) }
-    ensures local { IfOk result (λ command. (fields_of command).has_globals ≡ false) }
-{
-    let command = serve_in_turn_command(alloc)?;
-    let help =
-        "Serves many connections at once: so many messages at the most, 1 to 1000, are kept together, and their answers are written when all of them are kept";
-    let command = with_option(alloc, command, "together", false, help)?;
-    let help =
-        "With --together, how many connections may be open at once, 1 to 4000; 1000 without it";
-    with_option(alloc, command, "clients", false, help)
-}
-
-/// Adds the commands that serve connections and upgrade a desk.
-fn with_service<'a>(alloc: Global, command: Command<'a>) -> Result<Command<'a>, AllocError>
-    ensures { IfOk result (λ both. app_of both ≡ with_both (app_of command.entry) serve upgrade) }
-{
-    let command = with(command, serve_command(alloc))?;
-    let about = "Makes a desk of this version of one of an earlier version";
-    let help = "The file of a desk of an earlier version; one of this version is left alone";
-    with(command, path_command(alloc, "upgrade", about, help))
-}
-
-/// Returns the words that the program takes.
-fn command<'a>(alloc: Global) -> Result<Command<'a>, AllocError>
-    ensures { IfOk result (λ command. app_of command ≡ stockdesk) }
-{
-    let command = with_scripts(alloc)?;
-    let command = with_files(alloc, command)?;
-    let command = with_sheets(alloc, command)?;
-    with_service(alloc, command)
 }
 
 /// Returns the sheet of the branch that a word names.
@@ -434,11 +248,11 @@ fn task_on<'a>(name: &str, path: &'a str, found: &ArgMatches<'a>) -> Option<Task
     }
 }
 
-/// Returns the task that a command asks for, by its name and the words after it; `None` where a word after it is no
-/// code or number. Only `run` may be without a file: then the desk is in memory.
-fn task_named<'a>(name: &str, found: &ArgMatches<'a>) -> Option<Task<'a>>
+/// Returns the task on one desk that a command asks for; `None` where a word after it is no code or number. Only `run`
+/// may be without a file: then the desk is in memory.
+fn task_on_one<'a>(name: &str, found: &ArgMatches<'a>) -> Option<Task<'a>>
     ensures asked { IfSome result (AsksFor name.now (rows_of (found_of found.now))) }
-    ensures taken { Takes name.now (rows_of (found_of found.now)) (IsSome result) }
+    ensures taken { TakesOnOne name.now (rows_of (found_of found.now)) (IsSome result) }
 {
     match word(found, "FILE") {
         Some(path) => task_on(name, path, found),
@@ -446,6 +260,29 @@ fn task_named<'a>(name: &str, found: &ArgMatches<'a>) -> Option<Task<'a>>
             "run" => Some(Task::InMemory),
             _ => None,
         },
+    }
+}
+
+/// Returns the roll-over that is asked for; `None` where the word for how many keys is no such number.
+fn roll_over_found<'a>(found: &ArgMatches<'a>) -> Option<RollOver<'a>>
+    ensures asked { IfSome result (AsksForRollOver (rows_of (found_of found.now))) }
+    ensures taken { (roll_over : RollOver) → AsksForRollOver (rows_of (found_of found.now)) roll_over → IsSome result }
+{
+    let old = word(found, "OLD")?;
+    let new = word(found, "NEW")?;
+    let keys = keys_asked(word(found, "keys"))?;
+    Some(RollOver { old, new, keys })
+}
+
+/// Returns the task that a command asks for, by its name and the words after it; `None` where a word after it is no
+/// code or number.
+fn task_named<'a>(name: &str, found: &ArgMatches<'a>) -> Option<Task<'a>>
+    ensures asked { IfSome result (AsksFor name.now (rows_of (found_of found.now))) }
+    ensures taken { Takes name.now (rows_of (found_of found.now)) (IsSome result) }
+{
+    match name {
+        "roll" => Some(Task::Roll(roll_over_found(found)?)),
+        _ => task_on_one(name, found),
     }
 }
 

@@ -5,7 +5,7 @@ use Rattle.ledger.specs.Good.{Good}
 use Rattle.ledger.specs.Ledger.{Ledger}
 use Rattle.ledger.specs.Rows.{Content, IsDamaged, IsRowsOf}
 use Rattle.keep.specs.Content.{IsDesk}
-use Rattle.keep.specs.Keeping.{AddsNothing}
+use Rattle.keep.specs.Keeping.{AddsNothing, IsLaidOut}
 use Rattle.keep.specs.declared.keep.Keep.{Ghosts}
 use Rattle.desk.specs.Desk.{DeskView, IsStored}
 use Rattle.desk.specs.declared.fault.OpenFault.{OpenFault}
@@ -36,6 +36,12 @@ pub record IsUnopened {K : Type 0} (g : Ghosts K) (keep : K) (fault : OpenFault)
 pub record IsLeft {K : Type 0} (g : Ghosts K) (old new : K) : Type 0 where
   pub same : g.stopped new ≡ false → (x : Content) → (g.holds old x → g.holds new x) × (g.holds new x → g.holds old x)
   pub adds : AddsNothing g.leaves g.may_leave g.may_remain old new
+
+-- A store whose layout is that of no version is refused, and the keeper is given back as it was, but stopped: with
+-- `NotADesk` where one of the six names that each version has is no table's name, and else with `Store`.
+pub record RefusesOther {K : Type 0} (g : Ghosts K) (keep : K) (result : Result (DeskView K) (OpenFault × K)) : Type 0 where
+  pub nameless : ¬ g.has_names keep → result ≡ Err (NotADesk, g.when_stopped keep)
+  pub other : g.has_names keep → ¬ IsLaidOut (g.has_layout keep) → result ≡ Err (Store, g.when_stopped keep)
 
 -- the desk is opened at that ledger, or refused with `Memory` or `Store`
 abbrev pub OpensAt : {K : Type 0} → Ledger → Result (DeskView K) (OpenFault × K) → Type 0

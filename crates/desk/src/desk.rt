@@ -9,14 +9,16 @@ ghost use Rattle.ledger.specs.Ledger.{Ledger, field_named, name_of, order_number
 ghost use Rattle.ledger.specs.Next.{accept};
 ghost use Rattle.words.specs.declared.reply.Reply.{Reply as ReplyOf};
 ghost use Rattle.book.specs.Plans.{Fits};
+ghost use Rattle.ledger.specs.Rolled.{is_recent_deal, rolled_rows};
 ghost use Rattle.ledger.specs.Rows.{Content, IsRowsOf};
+ghost use Rattle.ledger.specs.Tables.{rows_among};
 ghost use Rattle.book.specs.Views.{ShowsField, ShowsOrder};
 ghost use Rattle.desk.specs.Text.{RepliesAll, items_of};
 ghost use Rattle.desk.specs.Headline.{answered};
 ghost use Rattle.desk.specs.Together.{FailsAt, IsBatch};
 ghost use Rattle.desk.specs.declared.reply.TheConstants.{LONGEST_LINE};
 ghost use Rattle.desk.specs.Desk.{Goes, IsInOrder, IsStored, LeavesEither, StaysSet, StaysStored, StopsCall, TellsStop, desk_state};
-ghost use Rattle.desk.specs.Opening.{IsLeft, IsOpened, IsRefusedAsOld, IsUnopened, OpensAt, keeper_after};
+ghost use Rattle.desk.specs.Opening.{IsLeft, IsOpened, IsRefusedAsOld, IsUnopened, OpensAt, RefusesOther, keeper_after};
 
 use crate::deferred::Deferred;
 use crate::fault::{CallFault, OpenFault, load_fault};
@@ -26,9 +28,10 @@ use crate::together::{let_go, plan_batch};
 use book::{Book, FieldView, OrderView, Plan, Planned, TablesFault};
 use escrow::{Article, Branch, OrderNo};
 use keep::Keep;
+use ledger::Change;
 use std::alloc::Global;
 use std::marker::Model;
-use words::{Reply, Request};
+use words::{Memory, Reply, Request};
 
 /// The stock desk over a keeper. While no fault of the keeper has stopped the desk and the disk is honest, the keeper
 /// holds the rows of the desk's ledger, and a stop of the program leaves these and nothing else.
@@ -57,6 +60,9 @@ impl<K: Keep> Desk<K> {
     /// `Memory` and `Store` are answered; `Damaged` only where the rows are those of no good ledger. `Store` says
     /// that the store failed or that the keeper was stopped before, `Memory` that memory was refused. What is said
     /// about rows and versions holds while the disk is honest.
+    ///
+    /// A store whose tables are not those of a version as it was made stays as it is: the answer is `NotADesk` where
+    /// one of the six names that each version has is no table's name, and else `Store`.
     pub fn open(alloc: Global, keep: K) -> Result<Desk<K>, (OpenFault, K)>
         ensures refused { IsTrue (K.stopped keep) → result ≡ Err (OpenFault.Store, keep) }
         ensures opened { IfOk result (λ desk. IsOpened K.Keep keep desk) }
@@ -65,6 +71,7 @@ impl<K: Keep> Desk<K> {
             → K.holds keep x → OpensAt A result }
         ensures only_old { K.is_honest (keeper_after result) → K.stopped keep ≡ false → K.is_old keep
             → IsRefusedAsOld result }
+        ensures other { K.stopped keep ≡ false → RefusesOther K.Keep keep result }
         ensures left { K.is_honest (keeper_after result) → IsLeft K.Keep keep (keeper_after result) }
         ensures honest { K.is_honest (keeper_after result) → K.is_honest keep }
     {
@@ -288,6 +295,16 @@ impl<K: Keep> Desk<K> {
     {
         // the prover knows the invariant of a desk where a field of it is read
         let _book = &self.book;
+    }
+
+    /// Returns the rows of the desk's ledger, rolled up with its last `keys` keys. Put into those of a new desk, they are
+    /// the rows of a desk that goes on in place of this one, and has room. `Memory` says that memory was refused.
+    pub fn rolled(&self, alloc: Global, keys: u64) -> Result<Vec<Change>, Memory>
+        ensures rows { IfOk result (λ changes. (x : Content) → IsRowsOf self.now.ledger x
+            → rows_among changes.items ≡ rolled_rows (is_recent_deal keys self.now.ledger) keys self.now.ledger x) }
+        ensures good { Good self.now.ledger }
+    {
+        self.book.rolled(alloc, keys)
     }
 
     /// Returns the keeper, as it stands. Takes no memory.

@@ -14,3 +14,16 @@ pub mod Through
 pub mod Stock
 pub mod Even
 pub mod StillDesks
+pub mod Filtered
+pub mod Standing
+pub mod Rolled
+pub mod Recent
+pub mod SameChecks
+pub mod Alike
+pub mod AnsweredAlike
+pub mod Turning
+pub mod Staying
+pub mod Filling
+pub mod Sides
+pub mod Meeting
+pub mod InBetween

@@ -11,9 +11,9 @@ use Rattle.words.specs.declared.command.Command.TheVariants.{Abort, Commit, Deli
 use Rattle.words.specs.declared.command.Command.TheVariants.{Rebound, Release, Transfer, Use}
 use Rattle.words.specs.declared.command.Request.{Request}
 use Rattle.words.specs.declared.reply.Refusal.TheVariants as refusal
-use Rattle.words.specs.declared.reply.Refusal.TheVariants.{KeyReused, NoOrder, NoField, BadBounds, Ended, Past}
-use Rattle.words.specs.declared.reply.Refusal.TheVariants.{SameField, OtherWay, TooLittle, TooMuch, NotHeld, OverUse}
-use Rattle.words.specs.declared.reply.Refusal.TheVariants.{TransferFixed, ClockBack}
+use Rattle.words.specs.declared.reply.Refusal.TheVariants.{KeyReused, FieldThere, NoOrder, NoField, BadBounds}
+use Rattle.words.specs.declared.reply.Refusal.TheVariants.{OrderThere, Ended, Past, SameField, OtherWay, TooLittle}
+use Rattle.words.specs.declared.reply.Refusal.TheVariants.{TooMuch, NotHeld, OverUse, TransferFixed, ClockBack}
 use Rattle.words.specs.declared.reply.Reply.{Reply}
 use Rattle.words.specs.declared.reply.Reply.TheVariants.{Done, Refused}
 use Rattle.ledger.specs.Ledger.{Ledger, field_named, name_of}
@@ -182,4 +182,45 @@ firm_transfer = step "T1" (Field N1 A1 0 100 40) (Done 1) []
     ∷ step "T7" (Expire 900) (Done 7) (numbers N1 A1 33 30 33 ∷ numbers N2 A1 12 12 15 ∷ total A1 45 ∷ [])
     ∷ step "T8" (Release 20 N2 A1 1) (Done 8) (numbers N1 A1 33 31 33 ∷ numbers N2 A1 12 12 14 ∷ [])
     ∷ step "T9" (Commit 20) (Done 9) (numbers N1 A1 33 33 33 ∷ numbers N2 A1 12 12 12 ∷ total A1 45 ∷ [])
+    ∷ []
+
+-- Of two checks that fail, the earlier one is told. Each refused request here fails two checks or more, between which no
+-- other check can fail with both. (A desk that is full, and an order of 64 lines, are left out.)
+abbrev pub two_checks_fail : List Step
+two_checks_fail = step "C1" (Field N1 A1 0 100 40) (Done 1) []
+    ∷ step "C2" (Field N2 A1 0 50 5) (Done 2) []
+    ∷ step "C3" (Open 7 500 (line Take N1 A1 10 ∷ [])) (Done 3) (numbers N1 A1 40 30 40 ∷ [])
+    ∷ step "C4" (Transfer 20 500 A1 N1 N2 1) (Done 4) (numbers N1 A1 40 29 40 ∷ [])
+    ∷ step "C5" (Firm 20) (Done 5) []
+    ∷ step "C6" (Transfer 21 500 A1 N1 N2 1) (Done 6) (numbers N1 A1 40 28 40 ∷ [])
+    -- of all commands
+    ∷ step "C1" (Field N1 A1 0 100 41) (Refused KeyReused 0) []
+    -- of `field` and `rebound`
+    ∷ step "C7" (Field N1 A1 5 4 5) (Refused FieldThere 0) []
+    ∷ step "C8" (Rebound N1 B9 5 4) (Refused NoField 0) []
+    ∷ step "C9" (Rebound N1 A1 40 39) (Refused BadBounds 0) []
+    ∷ step "C10" (Rebound N1 A1 29 39) (Refused TooLittle 0) []
+    -- of `open` and `transfer`
+    ∷ step "C11" (Open 7 0 (line Take N1 A1 1 ∷ [])) (Refused OrderThere 0) []
+    ∷ step "C12" (Open 8 0 (line Take N1 B9 1 ∷ [])) (Refused Past 0) []
+    ∷ step "C13" (Open 8 0 (line Take N1 A1 99 ∷ [])) (Refused Past 0) []
+    ∷ step "C14" (Open 8 500 (line Take N1 B9 1 ∷ line Take N1 B9 1 ∷ [])) (Refused NoField 1) []
+    ∷ step "C15" (Open 8 500 (line Take N1 A1 99 ∷ line Take N1 A1 1 ∷ [])) (Refused TooLittle 1) []
+    ∷ step "C16" (Open 8 500 (line Take N1 A1 1 ∷ line Take N1 A1 99 ∷ [])) (Refused SameField 2) []
+    ∷ step "C17" (Transfer 7 0 A1 N1 N1 1) (Refused OrderThere 0) []
+    ∷ step "C18" (Transfer 22 500 A1 N1 N1 99) (Refused TooLittle 1) []
+    -- of `more`
+    ∷ step "C19" (More 9 Take N1 B9 1) (Refused NoOrder 0) []
+    ∷ step "C20" (More 20 Take N1 A1 1) (Refused refusal.Firm 0) []
+    ∷ step "C21" (More 21 Take N1 B9 1) (Refused TransferFixed 0) []
+    -- of orders that have ended
+    ∷ step "C22" (Firm 7) (Done 7) []
+    ∷ step "C23" (Commit 7) (Done 8) []
+    ∷ step "C24" (Abort 7) (Refused Ended 0) []
+    ∷ step "C25" (Firm 7) (Refused Ended 0) []
+    ∷ step "C26" (More 7 Take N1 A1 1) (Refused Ended 0) []
+    ∷ step "C27" (Commit 21) (Done 9) []
+    ∷ step "C28" (More 21 Take N1 B9 1) (Refused Ended 0) []
+    ∷ step "C29" (Use 7 N1 B9 1) (Refused Ended 0) []
+    ∷ step "C30" (Release 7 N1 A1 99) (Refused Ended 0) []
     ∷ []

@@ -4,3 +4,5 @@ pub mod Walks
 pub mod Late
 pub mod Deals
 pub mod Still
+pub mod Roll
+pub mod RollExample

@@ -2,7 +2,7 @@
 
 ghost use Rattle.ledger.specs.Answers.{After, Answers, FirstFailure, IsAccepted, Runs, bound, checks, same_command};
 ghost use Rattle.ledger.specs.Changes.{changed_rows, put_content};
-ghost use Rattle.laws.specs.Examples.{Plays, firm_order, firm_transfer, long_script, other_bounds, release_and_abort, tight_bounds, transfer};
+ghost use Rattle.laws.specs.Examples.{Plays, firm_order, firm_transfer, long_script, other_bounds, release_and_abort, tight_bounds, transfer, two_checks_fail};
 ghost use Rattle.ledger.specs.Future.{Honours, HonoursAlways, Settles, StaysFirm};
 ghost use Rattle.ledger.specs.Good.{Good};
 ghost use Rattle.ledger.specs.Held.{MayHoldMore, BreaksBound, held_to_add, held_to_take};
@@ -157,4 +157,5 @@ pub fn worked_examples_hold()
     ensures other_bounds { Plays new_ledger other_bounds }
     ensures firm_order { Plays new_ledger firm_order }
     ensures firm_transfer { Plays new_ledger firm_transfer }
+    ensures two_checks { Plays new_ledger two_checks_fail }
 {}

@@ -5,6 +5,7 @@
 mod deals;
 mod late;
 mod ledgers;
+mod roll;
 mod walk;
 
 pub use deals::{
@@ -17,5 +18,10 @@ pub use ledgers::{
     each_command_changes_its_rows, exactly_one_answer, firm_orders_stay, good_ledgers_honour,
     rows_are_one, rows_tell_all, runs_stay_good, spellings_tell_commands, tests_are_comparisons,
     transfers_even_out, worked_examples_hold,
+};
+pub use roll::{
+    a_roll_is_worked_out, commands_name_orders, rolled_answers, rolled_has_room, rolled_is_good,
+    rolled_runs, rolled_stands, rolls_are_not_seen, rolls_in_between, rows_fill_a_new_desk,
+    sides_stand, stands_stay,
 };
 pub use walk::{one_walk_finds_the_place, stopped_desks_find_where_to_go_on};

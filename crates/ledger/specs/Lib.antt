@@ -8,5 +8,6 @@ pub mod Future
 pub mod Rows
 pub mod Steps
 pub mod Changes
+pub mod Rolled
 pub mod Tables
 pub mod inner

@@ -1,11 +1,13 @@
 -- A round behind a history.
-use Rattle.std.proofs.Common.{◌≡◌, ◌∙◌, ◌≤◌, ℕ, true, false, List, [], Option, None, Some, ap, arith, length, refl, subst, sym}
+use Rattle.std.proofs.Common.{◌≡◌, ◌⊎◌, ◌∙◌, ◌<◌, ◌≤◌, ℕ, true, false, List, [], Option, None, Some, ap, arith, inl, inr, leb, length}
+use Rattle.std.proofs.Common.{refl, subst, sym}
 use Rattle.std.specs.Prelude.{slice_get}
+use Rattle.std.proofs.lemmas.Bool.Decides.{leb_tells}
 use Rattle.std.proofs.lemmas.Option.{slice_get_within}
 use Rattle.desk.specs.Desk.{Snapshot}
 use Rattle.desk.specs.Dialogue.{Language}
 use Rattle.rounds.specs.Lines.{Heard, IsTold, LineView, Said, Speaks, Stands, with_said}
-use Rattle.rounds.specs.Rounds.{AtEach, InRound, IsAt, IsForgotten, IsNowhere, IsSameSeat, IsShown, Loss, SameAt}
+use Rattle.rounds.specs.Rounds.{AreNext, AtEach, InRound, IsAt, IsForgotten, IsNowhere, IsSameSeat, IsShown, Loss, SameAt}
 use Rattle.rounds.specs.Rounds.{heard_with, lost_between, said_on, stopped_at}
 use Rattle.rounds.specs.Histories.{AreRounds, History, IsHeardOn, IsReached, IsSeated, PlacesView, Visit, begun, came}
 use Rattle.rounds.specs.Histories.{heard_in, kept, lost, visit_of, wrote}
@@ -22,7 +24,7 @@ module _ {Q A : Type 0} (L : Language Q A) (loss : Option Loss) (start : Snapsho
   none_lost (kept history said) now going (mid, are, more, still) =
       none_lost history mid (not_true mid.is_stopped
       (λ halted. let same = ap (λ (s : Snapshot). s.is_stopped) (still halted) in absurd (cc))) are
-  none_lost (lost history untold) now going (mid, last, are, before, more, left, is) =
+  none_lost (lost history untold) now going (mid, last, are, before, more, left, is, next) =
       let halted : now.is_stopped ≡ true = ap (λ (s : Snapshot). s.is_stopped) is in absurd (cc)
 
 module _ {S P T Q A : Type 0} (g : Speaks S P T Q A) (loss : Option Loss) (start now : Snapshot) (visits : List (Visit T))
@@ -124,6 +126,7 @@ module _ {S P T Q A : Type 0} (g : Speaks S P T Q A) (loss : Option Loss) (start
       round.are_said,
       loses,
       stopped,
+      next,
     );
     count = r.count;
     told = r.told;
@@ -140,6 +143,14 @@ module _ {S P T Q A : Type 0} (g : Speaks S P T Q A) (loss : Option Loss) (start
     gone = r.gone;
   }
     where
+      next : AreNext g.language (heard_in r.history) round.said
+      next n = by (leb_tells (length visits) n)
+        where
+          by : ((leb (length visits) n ≡ true) × (length visits ≤ n)) ⊎ ((leb (length visits) n ≡ false) × (n < length visits))
+              → (said_on n round.said ≡ []) ⊎ IsTold g.language (heard_with (heard_in r.history) round.said n)
+          by (inl (is, behind)) = inl (round.only n (nobody asked seats n behind))
+          by (inr (is, within)) = inr (round.told n (r.told n within))
+
       left_after : (p : ℕ) (v : LineView S P T) → IsAt asked p v → (x : LineView S P T) × IsAt left p x × IsSameSeat v x
       left_after p v e = by (each_from (IsForgotten g) asked left p v are e)
         where

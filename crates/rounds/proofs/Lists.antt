@@ -41,6 +41,11 @@ module _ {X : Type 0} where
   get_front (z ∷ xs) y x zero e = e
   get_front (z ∷ xs) y x (suc p) e = get_front xs y x p e
 
+  pub set_front : (xs : List X) (y x z : X) (p : ℕ) → slice_get xs p ≡ Some x → set (xs ++ y ∷ []) p z ≡ set xs p z ++ y ∷ []
+  set_front [] y x z p e = absurd (cc)
+  set_front (w ∷ xs) y x z zero e = refl
+  set_front (w ∷ xs) y x z (suc p) e = ap (λ (ys : List X). w ∷ ys) (set_front xs y x z p e)
+
   pub get_end : (xs : List X) (y : X) → slice_get (xs ++ y ∷ []) (length xs) ≡ Some y
   get_end [] y = refl
   get_end (z ∷ xs) y = get_end xs y

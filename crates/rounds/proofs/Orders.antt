@@ -58,7 +58,7 @@ module _ {Q A : Type 0} (L : Language Q A) where
   one_order loss start (wrote history connection bytes) now are = one_order loss start history now are
   one_order loss start (kept history said) now (mid, are, more, still) =
       kept_more loss start (order_of history) said mid now (one_order loss start history mid are) more still
-  one_order loss start (lost history untold) now (mid, last, are, going, more, left, is) =
+  one_order loss start (lost history untold) now (mid, last, are, going, more, left, is, next) =
       subst (λ (l : Option Loss). IsOneOrder L l start (order_of history) now) (sym left)
       (lost_more start (order_of history) untold mid last now (one_order None start history mid are) going more is)
 

@@ -1,17 +1,17 @@
 -- How a service goes on.
 use Rattle.std.proofs.Common.{◌≡◌, ◌∷◌, ◌++◌, [], ◌∙◌, ◌<◌, ◌≤◌, ℕ, None, arith, ap, false, Err, length, List, Ok}
-use Rattle.std.proofs.Common.{Option, Result, Some, refl, subst, sym, true}
+use Rattle.std.proofs.Common.{Option, Result, Some, refl, set, subst, sym, true}
 use Rattle.std.specs.Prelude.{OnErr, OnOk, slice_get}
 use Rattle.std.proofs.lemmas.Option.{slice_get_within}
 use Rattle.keep.specs.declared.keep.Keep.{Ghosts}
 use Rattle.desk.specs.Deferred.{DeferredView, snapshot_off}
 use Rattle.desk.specs.Desk.{DeskView, IsStored, Snapshot}
-use Rattle.rounds.specs.Crowds.{HubView, IsServing, Listening, entered, unopened, visits_in, waited}
+use Rattle.rounds.specs.Crowds.{HubView, IsServing, Listening, closed, entered, unopened, visits_in, waited}
 use Rattle.rounds.specs.Histories.{IsHeardBy, IsReached, PlacesView, Visit, begun, heard_in, visit_of}
 use Rattle.rounds.specs.Lines.{LineView, Speaks}
 use Rattle.rounds.specs.Rounds.{IsLeftBy, Loss, lost_between}
 use Rattle.rounds.specs.Services.{HasServed, InService, IsKept}
-use Rattle.rounds.proofs.Lists.{not_false, not_true}
+use Rattle.rounds.proofs.Lists.{get_front, not_false, not_true, set_front}
 
 module _ {C S P T Q A : Type 0} (g : Speaks S P T Q A) (c : Listening C T) (first : C) (loss : Option Loss) (start now : Snapshot)
     (crowd : C) (places : PlacesView (LineView S P T))
@@ -31,6 +31,26 @@ module _ {C S P T Q A : Type 0} (g : Speaks S P T Q A) (c : Listening C T) (firs
     pass = (crowd, serving.pass, comes);
     reached = seats (visits_in serving.doors) serving.reached;
   }
+
+  -- one came to a place, and whoever had been there was closed
+  pub entered_for : (then last : C) (stream gone : T) (between more : PlacesView (LineView S P T)) → c.comes crowd stream then
+      → c.closes then gone last
+      → ((visits : List (Visit T)) → IsReached g loss start now visits places
+      → (connection : ℕ) × (came : T) × (slice_get visits connection ≡ Some (visit_of came))
+      × IsReached g loss start now (set visits connection (record { came = came; left = Some gone })) between)
+      → ((visits : List (Visit T)) → IsReached g loss start now visits between
+      → IsReached g loss start now (visits ++ visit_of stream ∷ []) more)
+      → IsServing g c first loss start now (record { crowd = last; places = more })
+  entered_for then last stream gone between more comes closes leaves seats =
+      let visits = visits_in serving.doors in
+      let (connection, came, at, reached) = leaves visits serving.reached in
+      record {
+        doors = closed (entered serving.doors stream) connection came gone;
+        pass = (then, (crowd, serving.pass, comes), closes, get_front visits (visit_of stream) (visit_of came) connection at);
+        reached = subst (λ (vs : List (Visit T)). IsReached g loss start now vs more)
+            (sym (set_front visits (visit_of stream) (visit_of came) (record { came = came; left = Some gone }) connection at))
+            (seats (set visits connection (record { came = came; left = Some gone })) reached);
+      }
 
   -- its places are reached otherwise
   pub reached_more : (more : PlacesView (LineView S P T))

@@ -4,7 +4,7 @@ use Rattle.std.specs.Io.KnownBytes.{Appends, Consumes}
 use Rattle.desk.specs.Desk.{Snapshot}
 use Rattle.desk.specs.Dialogue.{Language}
 use Rattle.rounds.specs.Lines.{Heard, IsTold, LineView, Said, Speaks, Stands, unheard, with_piece, with_written}
-use Rattle.rounds.specs.Rounds.{Apart, AreSaid, IsAt, Loss, heard_on, heard_with, lost_between, stopped_at}
+use Rattle.rounds.specs.Rounds.{Apart, AreNext, AreSaid, IsAt, Loss, heard_on, heard_with, lost_between, stopped_at}
 
 -- A history. Nothing has happened yet; or behind another history a piece has come on a connection, and one without
 -- bytes is the end of what comes; or these bytes were written on a connection; or a round was kept, in which this was
@@ -35,7 +35,8 @@ order_of (kept history said) = order_of history ++ said
 order_of (lost history untold) = order_of history
 
 -- The rounds of the history lead the desk from `start` to `now`. At most one of them is lost, and `loss` has its
--- ledgers: it stops the desk, at the ledger to which what is not told leads. A stopped desk stays as it is.
+-- ledgers: it stops the desk, at the ledger to which what is not told leads; and that was asked on connections of the
+-- history. A stopped desk stays as it is.
 abbrev pub AreRounds : {Q A : Type 0} → Language Q A → Option Loss → Snapshot → History Q A → Snapshot → Type 0
 AreRounds L loss start begun now = (now ≡ start) × (loss ≡ None)
 AreRounds L loss start (came history connection piece) now = AreRounds L loss start history now
@@ -44,7 +45,7 @@ AreRounds L loss start (kept history said) now = (mid : Snapshot) × AreRounds L
     × (mid.is_stopped ≡ true → now ≡ mid)
 AreRounds L loss start (lost history untold) now = (mid : Snapshot) × (last : Snapshot) × AreRounds L None start history mid
     × (mid.is_stopped ≡ false) × AreSaid L mid untold last
-    × (loss ≡ Some (lost_between mid last)) × (now ≡ stopped_at last.ledger)
+    × (loss ≡ Some (lost_between mid last)) × (now ≡ stopped_at last.ledger) × AreNext L (heard_in history) untold
 
 -- ---- connections
 

@@ -35,6 +35,11 @@ heard_on connection h heard other = if nat_eq other connection then h else heard
 abbrev pub heard_with : {Q A : Type 0} → (ℕ → Heard Q A) → List (Said Q A) → ℕ → Heard Q A
 heard_with heard said connection = with_said (heard connection) (said_on connection said)
 
+-- These were asked on their connections: on each where something was said, the questions are the next ones of what has
+-- come there, behind those that are known to be answered.
+abbrev pub AreNext : {Q A : Type 0} → Language Q A → (ℕ → Heard Q A) → List (Said Q A) → Type 0
+AreNext L heard said = (connection : ℕ) → (said_on connection said ≡ []) ⊎ IsTold L (heard_with heard said connection)
+
 -- a desk that is stopped at that ledger
 abbrev pub stopped_at : Ledger → Snapshot
 stopped_at ledger = record { ledger = ledger; is_stopped = true }
@@ -139,11 +144,12 @@ pub record InRound {S P T Q A : Type 0} (g : Speaks S P T Q A) (old now : Snapsh
   pub told : (connection : ℕ) → IsTold g.language (heard connection) → IsTold g.language (heard_with heard said connection)
   pub only : (connection : ℕ) → IsNowhere places connection → said_on connection said ≡ []
 
--- what was said becomes known of the connection at the place, if there is one
+-- what was said becomes known of the connection at the place, if there is one, and the connection goes on if it did
 abbrev pub IsShown : {S P T Q A : Type 0} → Speaks S P T Q A → (v w : Option (LineView S P T)) → Type 0
 IsShown g None None = Unit {0}
 IsShown {Q = Q} {A = A} g (Some v) (Some w) = IsSameSeat v w
     × ((h : Heard Q A) (said : List (Said Q A)) → Stands g v h said → Stands g w (with_said h said) [])
+    × (w.phase ≡ v.phase)
 IsShown g _ _ = ⊥
 
 -- nothing of what was said becomes known of the connection at the place, if there is one

@@ -15,11 +15,11 @@ pub struct Readiness {
 
 /// The crowd out of which connections come. It says which of them can be read or written.
 pub trait Crowd {
-    ghost use Rattle.std.specs.Prelude.{IfNone, IfSome, OnErr, OnOk, length, ◌≡◌};
+    ghost use Rattle.std.specs.Prelude.{IfNone, IfSome, length, ◌≡◌};
 
     type Stream: Stream + Drop;
 
-    // This connection may come in, and this is the crowd after that.
+    // This connection may be admitted, as it comes, and this is the crowd after that.
     ghost comes: { Self → Self.Stream → Self → Type 0 };
 
     // This connection is closed as it stands, and this is the crowd after that.
@@ -34,17 +34,14 @@ pub trait Crowd {
         ensures waits { waits self.old self.new }
         ensures size { length ready.new ≡ length ready.old };
 
-    /// Returns whether somebody may wait to be let in.
+    /// Returns whether somebody may wait to be admitted.
     fn may_come(&self) -> bool;
 
-    /// Returns a connection that waits to be let in, if there is one.
-    fn next(&mut self) -> Option<Self::Stream>
-        ensures { waits self.old self.new };
-
-    /// Lets a connection in, to a place.
-    fn admit(&mut self, place: usize, stream: &mut Self::Stream) -> io::Result<()>
-        ensures ok { OnOk result (comes self.old stream.new self.new) }
-        ensures err { OnErr result (waits self.old self.new) };
+    /// Admits a connection that waits, to a place, and returns it as it came. A connection that cannot be admitted is
+    /// not given out: nobody reads it or writes to it.
+    fn admit(&mut self, place: usize) -> Option<Self::Stream>
+        ensures some { IfSome result (λ stream. comes self.old stream self.new) }
+        ensures none { IfNone result (waits self.old self.new) };
 
     /// Closes a connection, as it stands.
     fn close(&mut self, stream: Self::Stream)

@@ -1,20 +1,21 @@
 //! A service of many connections, in rounds.
 
-ghost use Rattle.std.specs.Prelude.{◌≡◌, ◌≢◌, ◌+◌, ◌-◌, ◌<◌, ◌≤◌, ◌^◌, [], length, slice_get, ℕ, None, Option, Some, IfErr, IfOk};
+ghost use Rattle.std.specs.Prelude.{◌≡◌, ◌≢◌, ◌+◌, ◌-◌, ◌<◌, ◌≤◌, ◌^◌, [], false, length, slice_get, ℕ, None, Option, Some, IfErr, IfOk};
 ghost use Rattle.desk.specs.Desk.{Snapshot};
 ghost use Rattle.rounds.specs.Crowds.{IsServing, listening_to};
-ghost use Rattle.rounds.specs.Lines.{speaks};
-ghost use Rattle.rounds.specs.Rounds.{Loss};
+ghost use Rattle.rounds.specs.Lines.{LineView, speaks};
+ghost use Rattle.rounds.specs.Rounds.{IsAt, Loss};
 ghost use Rattle.rounds.specs.Services.{InService};
 
 use crate::clock::micros_since;
 use crate::crowd::{Crowd, Readiness};
+use crate::marks::{clear, least_of, many};
 use crate::places::Places;
 use crate::standing::Standing;
 use crate::stream::would_block;
 use desk::{Begin, Deferred, Desk, Dialogue};
 use keep::Keep;
-use std::alloc::{AllocError, Global};
+use std::alloc::Global;
 use std::io;
 use std::marker::Model;
 use std::time::{Duration, Instant};
@@ -66,40 +67,6 @@ const HASTY_WHERE_SLOW: u32 = 8;
 /// A round that takes so many microseconds takes long.
 const SLOW: u64 = 2_000;
 
-/// Returns a list that has this item so many times.
-fn many<T: Copy + Drop>(alloc: Global, one: T, count: usize) -> Result<Vec<T>, AllocError>
-    ensures { IfOk result (λ all. length all.items ≡ count) }
-{
-    let mut all = Vec::with_capacity(alloc, count)?;
-    for _one in 0..count {
-        all.push(one)?;
-    }
-    Ok(all)
-}
-
-/// Takes all marks away.
-fn clear(marks: &mut [bool])
-    ensures { length marks.new ≡ length marks.old }
-{
-    for place in 0..marks.len() {
-        marks[place] = false;
-    }
-}
-
-/// Returns the place of the least number, the first of several.
-fn least_of(numbers: &[u64]) -> usize
-    requires { 1 ≤ length numbers.now }
-    ensures { result < length numbers.now }
-{
-    let mut least = 0;
-    for place in 1..numbers.len() {
-        if numbers[place] < numbers[least] {
-            least = place;
-        }
-    }
-    least
-}
-
 impl<D: Dialogue + Drop, C: Crowd + Drop> Hub<D, C> {
     /// Closes the connection at a place, if there is one.
     fn close(&mut self, place: usize)
@@ -118,25 +85,53 @@ impl<D: Dialogue + Drop, C: Crowd + Drop> Hub<D, C> {
         }
     }
 
-    /// Returns a free place. Where there is none, closes the connection that was silent longest, and returns its place.
-    fn make_place(&mut self) -> usize
-        requires some { 1 ≤ length self.old.places.lines }
-        ensures served { (first : C) (loss : Option Loss) (start now : Snapshot)
-            → IsServing (speaks D.Dialogue C.Stream.Stream) (listening_to C.Crowd) first loss start now self.old
-            → IsServing (speaks D.Dialogue C.Stream.Stream) (listening_to C.Crowd) first loss start now self.new }
-        ensures free { slice_get self.new.places.lines result ≡ Some None }
-        ensures within { result < length self.new.places.lines }
-        ensures same { (length self.new.places.lines ≡ length self.old.places.lines)
-            × (self.new.places.connections ≡ self.old.places.connections) }
+    /// Returns a free place. Where there is none, returns that of the connection that was silent longest.
+    fn place_for_one(&self) -> usize
+        requires some { 1 ≤ length self.now.places.lines }
+        ensures within { result < length self.now.places.lines }
     {
         match self.places.free_place() {
             Some(place) => place,
-            None => {
-                let place = least_of(&self.heard);
-                self.close(place);
-                place
-            }
+            None => least_of(&self.heard),
         }
+    }
+
+    /// Has a connection, as the crowd has admitted it, take a place. Whoever was there is closed.
+    fn take_place(&mut self, alloc: Global, place: usize, dialogue: D, stream: C::Stream)
+        requires new { D.has_found dialogue [] false [] }
+        requires none { D.language.have_come [] [] }
+        requires place { place < length self.old.places.lines }
+        requires count { self.old.places.connections < 2 ^ 64 - 1 }
+        ensures served { (first crowd : C) (loss : Option Loss) (start now : Snapshot) → C.comes crowd stream self.old.crowd
+            → IsServing (speaks D.Dialogue C.Stream.Stream) (listening_to C.Crowd) first loss start now
+            (record { crowd = crowd; places = self.old.places })
+            → IsServing (speaks D.Dialogue C.Stream.Stream) (listening_to C.Crowd) first loss start now self.new }
+        ensures here { (v : LineView D D.Question C.Stream) × IsAt self.new.places.lines place v
+            × (v.connection ≡ self.old.places.connections) × (v.stream ≡ stream) }
+        ensures others { (other : ℕ) → other ≢ place
+            → slice_get self.new.places.lines other ≡ slice_get self.old.places.lines other }
+        ensures size { length self.new.places.lines ≡ length self.old.places.lines }
+        ensures count { self.new.places.connections ≡ self.old.places.connections + 1 }
+    {
+        let left = self.places.leave(place);
+        self.places.seat(alloc, place, dialogue, stream);
+        if let Some(stream) = left {
+            self.crowd.close(stream);
+        }
+    }
+
+    /// Notes that somebody came to a place: it may be read and written, and was heard in this turn.
+    fn note_place(&mut self, place: usize)
+        requires place { place < length self.old.places.lines }
+        ensures { self.new ≡ self.old }
+    {
+        self.ready[place] = Readiness {
+            can_read: true,
+            can_write: true,
+        };
+        self.heard[place] = self.turn;
+        self.awaited[place] = false;
+        self.unused = self.unused.max(place.saturating_add(1));
     }
 
     /// Returns how many places, from the first on, have ever been taken.
@@ -461,7 +456,7 @@ impl<D: Dialogue + Drop, C: Crowd + Drop> Hub<D, C> {
 }
 
 impl<D: Begin + Drop, C: Crowd + Drop> Hub<D, C> {
-    /// Lets in one more, if somebody waits. Returns whether somebody did.
+    /// Lets in one more, if somebody waits. Returns whether somebody was let in.
     pub fn let_in(&mut self, alloc: Global) -> bool
         requires some { 1 ≤ length self.old.places.lines }
         requires count { self.old.places.connections < 2 ^ 64 - 1 }
@@ -480,21 +475,12 @@ impl<D: Begin + Drop, C: Crowd + Drop> Hub<D, C> {
             return false;
         };
         self.refused = 0;
-        let Some(mut stream) = self.crowd.next() else {
+        let place = self.place_for_one();
+        let Some(stream) = self.crowd.admit(place) else {
             return false;
         };
-        let place = self.make_place();
-        let Ok(()) = self.crowd.admit(place, &mut stream) else {
-            return true;
-        };
-        self.places.seat(alloc, place, dialogue, stream);
-        self.ready[place] = Readiness {
-            can_read: true,
-            can_write: true,
-        };
-        self.heard[place] = self.turn;
-        self.awaited[place] = false;
-        self.unused = self.unused.max(place.saturating_add(1));
+        self.take_place(alloc, place, dialogue, stream);
+        self.note_place(place);
         true
     }
 }

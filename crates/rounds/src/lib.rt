@@ -7,6 +7,7 @@ mod crowd;
 mod hub;
 mod laws;
 mod line;
+mod marks;
 mod phase;
 mod places;
 mod service;

@@ -270,7 +270,8 @@ impl<D: Dialogue + Drop, S: Stream + Drop> Line<D, S> {
         ensures shown { (h : Heard D.Asked D.Told) (said : List (Said D.Asked D.Told))
             → Stands (speaks D.Dialogue S.Stream) self.old h said
             → Stands (speaks D.Dialogue S.Stream) self.new (with_said h said) [] }
-        ensures same { (self.new.connection ≡ self.old.connection) × (self.new.stream ≡ self.old.stream) }
+        ensures same { (self.new.connection ≡ self.old.connection) × (self.new.stream ≡ self.old.stream)
+            × (self.new.phase ≡ self.old.phase) }
     {
         self.is_still = false;
         if self.answered == 0 {

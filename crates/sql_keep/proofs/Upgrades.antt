@@ -7,12 +7,13 @@ use Rattle.sqlite.specs.Effect.{Database}
 use Rattle.sqlite.specs.State.{State, HasCleanDisk, IsUnchanged, Survives}
 use Rattle.sqlite.proofs.StateLemmas.{survives_then, survives_weaker}
 use Rattle.sqlite_trees.specs.Tree.{Trees}
+use Rattle.ledger.specs.declared.rows.Change.{Change}
 use Rattle.ledger.specs.declared.rows.Change.TheVariants as change
 use Rattle.ledger.specs.declared.rows.DeskRow.{DeskRow}
 use Rattle.ledger.specs.Changes.{put_row}
 use Rattle.ledger.specs.Rows.{Content, DeskCells, desk_cmp}
 use Rattle.ledger.specs.Tables.{desk_cells, no_content}
-use Rattle.keep.specs.Content.{IsDesk, IsOneRow, IsVersion, new_content, new_row, newest}
+use Rattle.keep.specs.Content.{IsDesk, IsOneRow, IsVersion, new_content, new_row, newest, with_changes}
 use Rattle.sql_keep.specs.StoreContent.{HasRowsOf, HasTables, Holds, IsContent, Stores}
 use Rattle.sql_keep.specs.Loads.{Reads}
 use Rattle.sql_keep.specs.Old.{AreUpgraded, HoldsOld, IsOld, IsUpgraded, raised, upgraded}
@@ -131,18 +132,22 @@ not_current db x is none has =
 is_new : (row : DeskRow) → desk_cells row ≡ new_row → with_row row no_content ≡ new_content
 is_new row is = ap (λ (cells : DeskCells). record no_content { desk = cells ∷ [] }) is
 
-pub settled_new : {U E : Type 0} (old : Database) (new : State) (row : DeskRow) (r : Result U E)
-    → desk_cells row ≡ new_row → OnOk r (IsSettled (IsRaised 0 row old) new)
-    → OnOk r (IsSettled (λ db. Holds db new_content) new)
-settled_new old new row (Ok done) is h = record {
-  is_open = h.is_open;
-  settled = h.settled;
-  is = subst (Holds new.now) (is_new row is) (h.is no_content (nothing old.trees));
-}
-settled_new old new row (Err e) is h = tt
-
-pub survives_new : (old new : State) (row : DeskRow) → desk_cells row ≡ new_row → old.now.schema ≡ schema_of 0
-    → Survives old new (AreRaised 0 row old.now) → Survives old new (λ trees. IsContent trees new_content)
-survives_new old new row is has =
-    survives_weaker old new _ _
-    (λ _ trees made. subst (IsContent trees) (is_new row is) (made has no_content (nothing old.now.trees)))
+-- the tables are made, the row of a new desk is put in, and then the rows of the changes
+pub filled_in : (a b c d : State) (row : DeskRow) (changes : List Change) → desk_cells row ≡ new_row
+    → a.now.schema ≡ schema_of 0 → Survives b c (λ _. ⊥) → Survives c d (λ _. ⊥)
+    → (HasCleanDisk b → IsTrue a.in_transaction
+    → Makes (λ db. a.now.schema ≡ schema_of 0 → AddsTables (tables_of 0) (tables_after 0) a.now db) a b)
+    → (HasCleanDisk c → IsTrue b.in_transaction → PutsIn b c (change.Desk row ∷ []))
+    → (HasCleanDisk d → IsTrue c.in_transaction → PutsIn c d changes) → HasCleanDisk d
+    → IsTrue a.in_transaction → Makes (λ db. Holds db (with_changes changes new_content)) a d
+filled_in a b c d row changes is has second third make put puts clean begun =
+    let raised =
+    raises_in a b c 0 row (omega (arith)) has second make put (omega (arith, clean, third.clean)) begun in
+    let held : Holds c.now new_content =
+    subst (Holds c.now) (is_new row is) (raised.is no_content (nothing a.now.trees)) in
+    let more = puts clean raised.mode in
+    record {
+      mode = more.mode;
+      committed = more.committed ∙ raised.committed;
+      is = more.is new_content held;
+    }

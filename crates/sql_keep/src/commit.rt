@@ -28,7 +28,10 @@ fn put<S: Alter>(tx: &mut Transaction<'_, S>, change: &Change) -> Result<usize, 
 }
 
 /// Puts the rows in, one after another. After each of them a stop leaves what it left before.
-fn put_all<S: Alter>(tx: &mut Transaction<'_, S>, changes: &[Change]) -> Result<(), Error>
+pub(crate) fn put_all<S: Alter>(
+    tx: &mut Transaction<'_, S>,
+    changes: &[Change],
+) -> Result<(), Error>
     ensures same_reference { tx.new.conn.ghost_name ≡ tx.old.conn.ghost_name }
     ensures put { HasCleanDisk (state S.Store tx.new.conn.now) → IsTrue (state S.Store tx.old.conn.now).in_transaction
         → OnOk result (PutsIn (state S.Store tx.old.conn.now) (state S.Store tx.new.conn.now) changes.now) }

@@ -4,7 +4,7 @@ ghost use Rattle.std.specs.Prelude.{◌≡◌, ◌⊎◌, ◌<◌, ◌≤◌, fa
 ghost use Rattle.sqlite.specs.Held.{state};
 ghost use Rattle.sqlite.specs.State.{HasCleanDisk, Survives};
 ghost use Rattle.sqlite_trees.specs.Tree.{Trees};
-ghost use Rattle.keep.specs.Content.{new_content, new_row, newest};
+ghost use Rattle.keep.specs.Content.{new_content, new_row, newest, with_changes};
 ghost use Rattle.sql_keep.specs.StoreContent.{Holds, IsContent, LeavesOnly};
 ghost use Rattle.sql_keep.specs.Schema.{no_schema};
 ghost use Rattle.sql_keep.specs.Description.{before, schema_of, schema_with, tables_after, tables_of};
@@ -12,13 +12,14 @@ ghost use Rattle.sql_keep.specs.Stages.{AddsTables};
 ghost use Rattle.sql_keep.specs.Transactions.{IsSettled, Makes};
 ghost use Rattle.sql_keep.specs.UpgradeSteps.{AreRaised, IsRaised};
 
+use crate::commit::put_all;
 use crate::description::{create_text, tables_after};
 use crate::fault::fault_of;
 use crate::schema::is_empty;
 use crate::sql::SqlKeep;
 use crate::table::SqlRow;
 use keep::{KeepFault, TableName, new_row};
-use ledger::DeskRow;
+use ledger::{Change, DeskRow};
 use sqlite::{Alter, Connection, Error, Transaction};
 
 /// Makes the table, after those before it.
@@ -70,17 +71,22 @@ pub(crate) fn raise<S: Alter>(
     tx.commit()
 }
 
-/// Makes a new desk where there is nothing yet, in one transaction.
-fn create<S: Alter>(conn: &mut Connection<S>) -> Result<(), Error>
+/// Makes a new desk with these rows where there is nothing yet, in one transaction.
+fn create<S: Alter>(conn: &mut Connection<S>, changes: &[Change]) -> Result<(), Error>
     requires idle { conn.old.in_transaction ≡ false }
     requires empty { (state S.Store conn.old).now.schema ≡ no_schema }
     ensures idle { conn.new.in_transaction ≡ false }
     ensures made { HasCleanDisk (state S.Store conn.new) → OnOk result
-        (IsSettled (λ db. Holds db new_content) (state S.Store conn.new)) }
+        (IsSettled (λ db. Holds db (with_changes changes.now new_content)) (state S.Store conn.new)) }
     ensures survives { Survives (state S.Store conn.old) (state S.Store conn.new)
-        (λ trees. IsContent trees new_content) }
+        (λ trees. IsContent trees (with_changes changes.now new_content)) }
 {
-    raise(conn, 0, &new_row())
+    let row = new_row();
+    let mut tx = conn.transaction();
+    create_later(&mut tx, 0)?;
+    row.upsert(&mut tx)?;
+    put_all(&mut tx, changes)?;
+    tx.commit()
 }
 
 impl<S: Alter> SqlKeep<S> {
@@ -103,9 +109,32 @@ impl<S: Alter> SqlKeep<S> {
             → (state S.Store conn.new).may_leave trees → (state S.Store conn.old).may_leave trees
             ⊎ IsContent trees new_content }
     {
+        SqlKeep::create_filled(conn, &[])
+    }
+
+    /// Makes the seven tables and the one row of `desk`, and puts these rows in by their keys, in one transaction. A
+    /// store in which a table or anything else is declared already is refused with `Store` and stays as it is. While
+    /// the disk is honest, a stop leaves what was there before, or the whole desk with all of these rows. The
+    /// connection stays set as it was.
+    pub fn create_filled(conn: &mut Connection<S>, changes: &[Change]) -> Result<(), KeepFault>
+        requires { conn.old.in_transaction ≡ false }
+        ensures idle { conn.new.in_transaction ≡ false }
+        ensures taken { ¬ ((state S.Store conn.old).now.schema ≡ no_schema) → (result ≡ Err KeepFault.Store)
+            × (conn.new ≡ conn.old) }
+        ensures fault { IfErr result (λ fault. (fault ≡ KeepFault.Memory) ⊎ (fault ≡ KeepFault.Store)) }
+        ensures settings { conn.new.step_limit ≡ conn.old.step_limit }
+        ensures clean { HasCleanDisk (state S.Store conn.new) → HasCleanDisk (state S.Store conn.old) }
+        ensures made { HasCleanDisk (state S.Store conn.new) → OnOk result
+            (IsSettled (λ db. Holds db (with_changes changes.now new_content)) (state S.Store conn.new)) }
+        ensures alone { HasCleanDisk (state S.Store conn.new) → OnOk result
+            (LeavesOnly (state S.Store conn.new).may_leave (with_changes changes.now new_content ∷ [])) }
+        ensures either { HasCleanDisk (state S.Store conn.new) → (trees : Trees)
+            → (state S.Store conn.new).may_leave trees → (state S.Store conn.old).may_leave trees
+            ⊎ IsContent trees (with_changes changes.now new_content) }
+    {
         if !is_empty(conn.schema()) {
             return Err(KeepFault::Store);
         }
-        create(conn).map_err(fault_of)
+        create(conn, changes).map_err(fault_of)
     }
 }

@@ -18,6 +18,6 @@ mod upgrade;
 pub use opening::open_path;
 pub use sql::SqlKeep;
 pub use trials::{
-    a_fuse_tells_no_lie, keepers_in_memory_are_honest, keepers_leave_what_stores_leave, reopen,
-    reopen_and_load,
+    a_fuse_tells_no_lie, keepers_in_memory_are_honest, keepers_leave_what_stores_leave,
+    keepers_stay_set, reopen, reopen_and_load,
 };

@@ -12,7 +12,7 @@ use Rattle.web.specs.Serving.{Tells, cause_of}
 use Rattle.web.specs.Web.{http}
 use Rattle.web.specs.declared.served.Served.{Served}
 use Rattle.web.specs.declared.served.WebFault.{WebFault}
-use Rattle.stockdesk.specs.Connections.{AreServed, IsServed, Pass, Passes, PortBegun, PortTold, as_stood, listening_line}
+use Rattle.stockdesk.specs.Connections.{AreServed, IsServed, IsLeft, Pass, Passes, PortBegun, PortCut, PortTold, as_stood, listening_line}
 use Rattle.stockdesk.specs.Outside.{Listening}
 
 -- ---- one connection, as the desk at the end sees it
@@ -164,11 +164,12 @@ module _ {N R W : Type 0} (g : Listening N R W) where
       )
 
   -- those so far
-  pub serves_so_far : (count most : ℕ) (end : DeskState) (first last : Snapshot) (old now : N) → count ≤ most
-      → ServesFrom count end first last old now
-      → (streams : List Streams) × (length streams ≤ most) × AreServed end first streams last × (mid : N) × Pass g old streams mid
-  serves_so_far count most end first last old now few (streams, size, are, come) =
-      (streams, omega (arith, size, few), are, now, come)
+  pub serves_so_far : (count most : ℕ) (end : DeskState) (first last : Snapshot) (old now then : N) → count ≤ most
+      → IsLeft g now then → ServesFrom count end first last old now
+      → (streams : List Streams) × (length streams ≤ most) × AreServed end first streams last × (mid : N)
+      × Pass g old streams mid × IsLeft g mid then
+  serves_so_far count most end first last old now then few left (streams, size, are, come) =
+      (streams, omega (arith, size, few), are, now, come, left)
 
 -- ---- the port
 
@@ -181,6 +182,9 @@ port_whole W w (port, (is, writes)) = (
   subst (λ (t : List ℕ). Appends W w t)
       (sym (take_all (length (listening_line port)) (listening_line port) (omega arith))) writes,
 )
+
+pub port_begun : (W w : Option (List ℕ)) → PortCut W w → PortBegun W w
+port_begun W w (port, count, is, few, writes) = (port, count, is, omega (arith, few), writes)
 
 pub port_unwritten : (W w : Option (List ℕ)) → Keeps W w → PortBegun W w
 port_unwritten W w kept = (0, 0, omega arith, omega arith, Appends-kept _ _ _ _ (Appends-nil W) kept)

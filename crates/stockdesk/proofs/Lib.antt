@@ -1,3 +1,4 @@
+mod Rolls
 mod SessionParts
 mod Connections
 mod Meetings

@@ -22,7 +22,7 @@ use Rattle.desk.proofs.LineAnswers.{cut_told, text_written}
 use Rattle.desk.proofs.SomeText.{text_from}
 use Rattle.stockdesk.specs.Runs.{AnswersLines, AnswersText, BeginsText}
 use Rattle.stockdesk.specs.Sessions.{IsBadFile, IsNoDesk, IsToldAs, IsUnbegun, OpensAndDoes, HoldsOnly, ScriptCut}
-use Rattle.stockdesk.specs.Sessions.{Session, SessionCut, SessionInPart, SessionWhole, StillHolds, desk_left}
+use Rattle.stockdesk.specs.Sessions.{Session, SessionCut, SessionInPart, SessionRefused, SessionWhole, StillHolds, desk_left}
 use Rattle.stockdesk.specs.Sessions.{session_in, session_on}
 use Rattle.stockdesk.specs.declared.session.Fault.{Fault}
 
@@ -242,28 +242,29 @@ module _ {K : Type 0} (g : Ghosts K) (keep : K) (was : Content → Type 0) (open
       → SessionWhole (session_in g was keep) AllDone
   starts_whole AllDone s = record { on = begun AllDone s.on; going = s.going; kept = s.kept }
 
-  stays : g.is_honest keep → IsLeft g opened keep → StillHolds g was keep
+  pub stays : g.is_honest keep → IsLeft g opened keep → StillHolds g was keep
   stays honest left = record {
     held = λ going x there. (left.same going x).0 (opens.held (back honest) x there);
     alone = λ x there. left.adds.adds_nothing (x ∷ []) (opens.alone (back honest) x there);
+  }
+
+  pub starts_refused : ((x : Content) → g.holds opened x → g.has_tables opened x) → (fault : Fault)
+      → SessionRefused (session_on g opened keep) fault → SessionRefused (session_in g was keep) fault
+  starts_refused in_tables fault s = record {
+    not_a_desk = λ is honest x there. s.not_a_desk is honest x (in_tables x (opens.held (back honest) x there));
+    old_version = λ is honest x there. s.old_version is honest x (in_tables x (opens.held (back honest) x there));
+    damaged = λ is honest x there. s.damaged is honest x (opens.held (back honest) x there);
+    opening = s.opening;
+    stopped = s.stopped;
+    going = s.going;
+    left = λ honest. stays honest (s.left honest);
   }
 
   pub starts_part : ((x : Content) → g.holds opened x → g.has_tables opened x)
       → (fault : Fault) (Untouched : Type 0) (PartDone : DeskState → DeskState → Type 0)
       → SessionInPart (session_on g opened keep) fault Untouched PartDone
       → SessionInPart (session_in g was keep) fault Untouched PartDone
-  starts_part in_tables fault Untouched PartDone (inl (s, kept)) = inl (
-    record {
-      not_a_desk = λ is honest x there. s.not_a_desk is honest x (in_tables x (opens.held (back honest) x there));
-      old_version = λ is honest x there. s.old_version is honest x (in_tables x (opens.held (back honest) x there));
-      damaged = λ is honest x there. s.damaged is honest x (opens.held (back honest) x there);
-      opening = s.opening;
-      stopped = s.stopped;
-      going = s.going;
-      left = λ honest. stays honest (s.left honest);
-    },
-    kept,
-  )
+  starts_part in_tables fault Untouched PartDone (inl (s, kept)) = inl (starts_refused in_tables fault s, kept)
   starts_part in_tables fault Untouched PartDone (inr s) =
       inr (record { on = begun PartDone s.on; desk = s.desk; stopped = s.stopped; going = s.going; kept = s.kept })
 

@@ -23,7 +23,7 @@ use Rattle.stockdesk.specs.Work.{WorkCut, WorkInPart, WorkWhole}
 use Rattle.stockdesk.specs.declared.session.Fault.{Fault}
 use Rattle.command_line.specs.declared.work.Work.{Work}
 use Rattle.command_line.specs.declared.work.Work.TheVariants.{Requests, Script, Serve, ServeAtOnce, Sheet}
-use Rattle.stockdesk.proofs.Connections.{port_unwritten, port_whole}
+use Rattle.stockdesk.proofs.Connections.{port_begun, port_unwritten, port_whole}
 use Rattle.stockdesk.proofs.SessionParts.{cut_begins, not_unbegun, nothing_read, told_begun}
 
 -- ---- nothing is read or written
@@ -90,10 +90,12 @@ module _ {C L R W G T : Type 0} (out : Outside C L R W G T) (fault : Fault) (old
   cut_in_part (Requests kind csv together) good going (reads, cut, blames) = (reads, replies_in_part _ together good cut)
   cut_in_part (Sheet of) good going (reads, same, inl (is, nothing)) = (reads, inl nothing)
   cut_in_part (Sheet of) good going (reads, same, inr (is, begun)) = (reads, inr (old.ledger, good, begun))
-  cut_in_part (Serve service) good going (reads, inl (why, begun, same)) = (reads, begun)
+  cut_in_part (Serve service) good going (reads, inl (why, cut, same)) =
+      (reads, port_begun s.writer_old s.writer_new cut)
   cut_in_part (Serve service) good going (reads, inr (why, some)) =
       (reads, port_whole s.writer_old s.writer_new (some.listens.port, some.listens.told))
-  cut_in_part (ServeAtOnce service at_once) good going (reads, inl (why, begun, same)) = (reads, begun)
+  cut_in_part (ServeAtOnce service at_once) good going (reads, inl (why, cut, same)) =
+      (reads, port_begun s.writer_old s.writer_new cut)
   cut_in_part (ServeAtOnce service at_once) good going (reads, inr (why, some)) =
       (reads, port_whole s.writer_old s.writer_new (some.gathers.port, some.gathers.told))
 

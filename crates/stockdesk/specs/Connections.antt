@@ -42,6 +42,12 @@ PortBegun writer_old writer_new =
     (port : ℕ) × (count : ℕ) × (port < 2 ^ 16) × (count ≤ length (listening_line port))
     × Appends writer_old writer_new (take count (listening_line port))
 
+-- a beginning of the line that gives some port was written, but not all of it
+abbrev pub PortCut : (writer_old writer_new : Option (List ℕ)) → Type 0
+PortCut writer_old writer_new =
+    (port : ℕ) × (count : ℕ) × (port < 2 ^ 16) × (count < length (listening_line port))
+    × Appends writer_old writer_new (take count (listening_line port))
+
 -- ---- connections
 
 -- the desk as it stood then; what is said about the disk and about stops is taken from the desk at the end
@@ -85,6 +91,10 @@ abbrev pub Pass : {L R W : Type 0} → Listening L R W → L → List Streams �
 Pass g old [] new = new ≡ old
 Pass {L} g old (s ∷ streams) new = (mid : L) × Passes g old s mid × Pass g mid streams new
 
+-- the listener is as the last connection left it, or no connection came after that
+abbrev pub IsLeft : {L R W : Type 0} → Listening L R W → (last new : L) → Type 0
+IsLeft g last new = (new ≡ last) ⊎ g.waits last new
+
 -- The port was asked for, a listener was had, and the port that it got is written.
 pub record Listens {L : Type 0} (listens : (asked got : ℕ) → L → Type 0) (asked : ℕ)
     (writer_old writer_new : Option (List ℕ)) (listener : L) : Type 0 where
@@ -126,7 +136,7 @@ IsFoundAfterService count first B =
 abbrev pub ServiceCut : {C L R W G T : Type 0} → Outside C L R W G T → Service → Fault → (old new : DeskState) → Streams → Type 0
 ServiceCut out service fault old new s =
     (((fault ≡ Fault.Socket) ⊎ ((fault ≡ Fault.Memory) ⊎ (fault ≡ Fault.Write)))
-    × PortBegun s.writer_old s.writer_new × (new.ledger ≡ old.ledger))
+    × PortCut s.writer_old s.writer_new × (new.ledger ≡ old.ledger))
     ⊎ (((fault ≡ Fault.Socket) ⊎ (fault ≡ Fault.Store)) × Serves out service (λ count. count ≤ service.connections) old new s)
 
 -- ---- many connections at once
@@ -169,7 +179,7 @@ abbrev pub ManyCut : {C L R W G T : Type 0} → Outside C L R W G T → Service 
     → (writer_old writer_new : Option (List ℕ)) → Type 0
 ManyCut out service fault old new writer_old writer_new =
     (((fault ≡ Fault.Socket) ⊎ ((fault ≡ Fault.Memory) ⊎ (fault ≡ Fault.Write)))
-    × PortBegun writer_old writer_new × (new.ledger ≡ old.ledger))
+    × PortCut writer_old writer_new × (new.ledger ≡ old.ledger))
     ⊎ (IsCrowdFault fault × ServesMany out service (λ count loss. count ≤ service.connections) old new
     writer_old writer_new)
 

@@ -15,7 +15,7 @@ use Rattle.stockdesk.specs.Sheets.{SheetBegun, SheetWritten}
 use Rattle.command_line.specs.Tasks.{Asks, stockdesk}
 use Rattle.command_line.specs.declared.work.SheetOf.{SheetOf}
 use Rattle.command_line.specs.declared.tasks.Task.{Task}
-use Rattle.command_line.specs.declared.tasks.Task.TheVariants.{InFile, InMemory, Init, Upgrade}
+use Rattle.command_line.specs.declared.tasks.Task.TheVariants.{InFile, InMemory, Init, Roll, Upgrade}
 use Rattle.command_line.specs.declared.work.Work.{Work}
 use Rattle.command_line.specs.declared.work.Work.TheVariants.{Requests, Script, Serve, ServeAtOnce, Sheet}
 
@@ -75,6 +75,7 @@ DoesWorkInPart (ServeAtOnce service at_once) s = Keeps s.reader_old s.reader_new
 abbrev pub Does : Task → Streams → Type 0
 Does (Init path) s = IsSilent s
 Does (Upgrade path) s = IsSilent s
+Does (Roll roll_over) s = IsSilent s
 Does InMemory s = AnswersText new_ledger s
 Does (InFile path work) s = DoesWork work s
 
@@ -82,6 +83,7 @@ Does (InFile path work) s = DoesWork work s
 abbrev pub DoesInPart : Task → Streams → Type 0
 DoesInPart (Init path) s = IsSilent s
 DoesInPart (Upgrade path) s = IsSilent s
+DoesInPart (Roll roll_over) s = IsSilent s
 DoesInPart InMemory s = BeginsText new_ledger s
 DoesInPart (InFile path work) s = DoesWorkInPart work s
 

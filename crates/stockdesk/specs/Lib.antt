@@ -3,6 +3,7 @@ pub mod Sessions
 pub mod Outside
 pub mod Connections
 pub mod Requests
+pub mod Rolls
 pub mod Sheets
 pub mod Closing
 pub mod Work

@@ -7,18 +7,24 @@ use Rattle.rounds.specs.declared.crowd.Crowd.{Ghosts as Crowd}
 use Rattle.rounds.specs.declared.stream.Stream.{Ghosts as Stream}
 use Rattle.stockdesk.specs.declared.listener.Listen.{Ghosts as Listen}
 
--- A listener: which connection may come, and which is closed, each with the listener after that; and what is left to
--- read from a connection, and was written to it.
+-- A listener: which connection may come, and which is closed, each with the listener after that; what the listener may
+-- be after a wait to which none came; and what is left to read from a connection, and was written to it.
 pub record Listening (L R W : Type 0) : Type 1 where
   pub comes : L → R → W → L → Type 0
   pub closes : L → R → W → L → Type 0
+  pub waits : L → L → Type 0
   pub remaining : R → Option (List ℕ)
   pub contents : W → Option (List ℕ)
 
-abbrev pub listening : {L R W : Type 0} → (comes closes : L → R → W → L → Type 0) → (R → Option (List ℕ))
-    → (W → Option (List ℕ)) → Listening L R W
-listening comes closes remaining contents =
-    record { comes = comes; closes = closes; remaining = remaining; contents = contents }
+-- a kind of listener, of a kind of connection
+abbrev pub listening : {L R W : Type 0} → Listen L R W → Read R → Write W → Listening L R W
+listening listener reader writer = record {
+  comes = listener.comes;
+  closes = listener.closes;
+  waits = listener.waits;
+  remaining = reader.remaining;
+  contents = writer.contents;
+}
 
 -- What paths name: which file may open there, and what is left to read from it.
 pub record Paths (C : Type 0) : Type 1 where
@@ -57,7 +63,7 @@ abbrev pub outside : {C L R W G T : Type 0} → (opens : List ℕ → C → Type
 outside opens listens gathers csv listener reader writer crowd stream = record {
   files = paths opens csv.remaining;
   listens = listens;
-  connections = listening listener.comes listener.closes reader.remaining writer.contents;
+  connections = listening listener reader writer;
   gathers = gathers;
   crowd = gathering crowd stream;
 }

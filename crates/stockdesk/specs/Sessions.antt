@@ -18,11 +18,15 @@ use Rattle.stockdesk.specs.declared.session.Fault.{Fault}
 
 -- ---- keepers, as contracts see them
 
--- the keeper goes on; where the disk is honest, it holds a new desk, and a stop leaves that and nothing else
-pub record IsNewDesk {K : Type 0} (g : Ghosts K) (keep : K) : Type 0 where
+-- the keeper goes on; where the disk is honest, it holds this content, and a stop leaves that and nothing else
+pub record IsDeskOf {K : Type 0} (g : Ghosts K) (x : Content) (keep : K) : Type 0 where
   pub going : g.stopped keep ≡ false
-  pub held : g.is_honest keep → g.holds keep new_content
-  pub alone : g.is_honest keep → g.leaves keep (new_content ∷ [])
+  pub held : g.is_honest keep → g.holds keep x
+  pub alone : g.is_honest keep → g.leaves keep (x ∷ [])
+
+-- ..it holds a new desk
+abbrev pub IsNewDesk : {K : Type 0} → Ghosts K → K → Type 0
+IsNewDesk g keep = IsDeskOf g new_content keep
 
 -- the keeper goes on; where the disk is honest, it holds what was there, and a stop leaves that and nothing else
 pub record HoldsOnly {K : Type 0} (g : Ghosts K) (was : Content → Type 0) (keep : K) : Type 0 where

@@ -2,7 +2,7 @@
 
 ghost use Rattle.std.specs.Prelude.{◌≡◌, ◌≤◌, ◌⊎◌, false, true, Err, IfErr, IfNone, IfOk, IfSome, None, OnErr, OnOk};
 ghost use Rattle.std.specs.Int.NonZero.{non_zero_usize_get};
-ghost use Rattle.stockdesk.specs.Connections.{IsCrowdFault, Listens, ManyCut, Meets, PortBegun, ServesMany};
+ghost use Rattle.stockdesk.specs.Connections.{IsCrowdFault, Listens, ManyCut, Meets, PortCut, ServesMany};
 ghost use Rattle.stockdesk.specs.Outside.{gathering, outside};
 ghost use Rattle.stockdesk.specs.Work.{Ends};
 
@@ -69,7 +69,7 @@ fn gather_at<M: Machine, W: Write>(
 ) -> Result<M::Crowd, Fault>
     ensures whole { IfOk result (Listens (M.gathers machine.now) port (W.contents writer.old)
         (W.contents writer.new)) }
-    ensures beginning { OnErr result (PortBegun (W.contents writer.old) (W.contents writer.new)) }
+    ensures beginning { OnErr result (PortCut (W.contents writer.old) (W.contents writer.new)) }
     ensures fault { IfErr result (λ fault. (fault ≡ Fault.Socket) ⊎ ((fault ≡ Fault.Memory) ⊎ (fault ≡ Fault.Write))) }
 {
     tell_listener(rt.alloc(), machine.gather(rt, port), writer)

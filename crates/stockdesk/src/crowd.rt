@@ -72,6 +72,22 @@ impl Loopback {
         Ok((crowd, got.port()))
     }
 
+    /// Has the system report what can be done on a connection, by its place. Where that fails, the connection is closed.
+    fn register(&self, place: usize, stream: TcpStream) -> Option<Socket> {
+        let mut stream = stream;
+        // an answer that waits for others to join it only comes later
+        let _ = stream.set_nodelay(true);
+        let both = Interest::READABLE | Interest::WRITABLE;
+        match self
+            .poll
+            .registry()
+            .register(&mut stream, Token(place), both)
+        {
+            Ok(()) => Some(Socket { stream }),
+            Err(_) => None,
+        }
+    }
+
     /// Returns how long the program waits at the most.
     fn patience(&self, most: Option<Duration>) -> Option<Duration> {
         if !self.may_come {
@@ -130,25 +146,14 @@ impl Crowd for Loopback {
         self.may_come
     }
 
-    fn next(&mut self) -> Option<Socket> {
+    fn admit(&mut self, place: usize) -> Option<Socket> {
         match self.listener.accept() {
-            Ok((stream, _)) => {
-                // an answer that waits for others to join it only comes later
-                let _ = stream.set_nodelay(true);
-                Some(Socket { stream })
-            }
+            Ok((stream, _)) => self.register(place, stream),
             Err(error) => {
                 self.may_come = error.kind() != ErrorKind::WouldBlock;
                 None
             }
         }
-    }
-
-    fn admit(&mut self, place: usize, stream: &mut Socket) -> io::Result<()> {
-        let both = Interest::READABLE | Interest::WRITABLE;
-        self.poll
-            .registry()
-            .register(&mut stream.stream, Token(place), both)
     }
 
     fn close(&mut self, stream: Socket) {

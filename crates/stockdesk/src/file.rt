@@ -13,21 +13,23 @@ ghost use Rattle.sqlite_trees.specs.View.{IsClean};
 ghost use Rattle.ledger.specs.Good.{Good};
 ghost use Rattle.ledger.specs.Ledger.{Ledger};
 ghost use Rattle.ledger.specs.Rows.{Content, DeskCells, IsRowsOf};
+ghost use Rattle.keep.specs.Content.{new_content, with_changes};
 ghost use Rattle.sql_keep.specs.StoreContent.{Holds, HoldsOf, IsContent, LeavesOnly};
 ghost use Rattle.sql_keep.specs.Description.{IsOlder};
 ghost use Rattle.sql_keep.specs.Old.{HoldsOld, IsOldContent, upgraded};
 ghost use Rattle.sql_keep.specs.Starts.{StartsOf, StartsOld, StartsWith};
 ghost use Rattle.stockdesk.specs.Closing.{LeavesInFile};
 ghost use Rattle.stockdesk.specs.Outside.{outside};
-ghost use Rattle.stockdesk.specs.Sessions.{HoldsOnly, IsNewDesk, IsNotOpened, StartsAsDesk, session_in};
+ghost use Rattle.stockdesk.specs.Sessions.{HoldsOnly, IsDeskOf, IsNewDesk, IsNotOpened, StartsAsDesk, session_in};
 ghost use Rattle.stockdesk.specs.Work.{GoesOnFrom, WorkInPart, WorkWhole};
 
 use crate::machine::Machine;
-use crate::new_desk::new_desk;
+use crate::new_desk::filled_desk;
 use crate::session::Fault;
 use crate::{upgrade, work};
 use command_line::Work;
 use keep::Keep;
+use ledger::Change;
 use sql_keep::{SqlKeep, open_path};
 use sqlite::{Connection, Error, ErrorCode, FileFrom, FileStore, Start};
 use sqlite_disk::{Disk, Files};
@@ -104,18 +106,42 @@ pub fn close<D: Disk + Drop>(keep: SqlKeep<FileStore<D>>) -> Result<Files<D>, Fi
     close_connection(conn)
 }
 
-/// Makes a new desk over the connection. Where that fails, its files are closed.
-fn init_over<D: Disk + Drop>(conn: Connection<FileStore<D>>) -> Result<SqlKeep<FileStore<D>>, Fault>
+/// Makes a desk with these rows over the connection. Where that fails, its files are closed.
+fn make_over<D: Disk + Drop>(
+    conn: Connection<FileStore<D>>,
+    changes: &[Change],
+) -> Result<SqlKeep<FileStore<D>>, Fault>
     requires { conn.in_transaction ≡ false }
-    ensures made { IfOk result (IsNewDesk ⟦<SqlKeep<FileStore<D>> as Keep>⟧) }
+    ensures made { IfOk result (IsDeskOf ⟦<SqlKeep<FileStore<D>> as Keep>⟧ (with_changes changes.now new_content)) }
     ensures fault { IfErr result (λ fault. (fault ≡ Fault.Memory) ⊎ (fault ≡ Fault.Store)) }
 {
-    match new_desk(conn) {
+    match filled_desk(conn, changes) {
         Ok(keep) => Ok(keep),
         Err((fault, conn)) => {
             drop(close_connection(conn));
             Err(fault)
         }
+    }
+}
+
+/// Makes a desk with these rows in a file that is not there or has no bytes, and returns its keeper. The rows are put
+/// into those of a new desk by their keys, in the one transaction that makes it. Any other file stays as it is, and the
+/// answer is `NotADesk`.
+pub fn make<S: Start>(
+    rt: &HostRuntime,
+    path: &str,
+    start: S,
+    changes: &[Change],
+) -> Result<FileKeep<S>, Fault>
+    ensures made { IfOk result (IsDeskOf ⟦<FileKeep<S> as Keep>⟧ (with_changes changes.now new_content)) }
+    ensures fault { IfErr result IsNotOpened }
+{
+    let Found::Nothing = look(rt, path)? else {
+        return Err(Fault::NotADesk);
+    };
+    match Connection::open_from(rt, path, false, start) {
+        Ok(conn) => make_over(conn, changes),
+        Err((error, _)) => Err(Fault::from(error)),
     }
 }
 
@@ -125,13 +151,7 @@ pub fn init<S: Start>(rt: &HostRuntime, path: &str, start: S) -> Result<FileKeep
     ensures made { IfOk result (IsNewDesk ⟦<FileKeep<S> as Keep>⟧) }
     ensures fault { IfErr result IsNotOpened }
 {
-    let Found::Nothing = look(rt, path)? else {
-        return Err(Fault::NotADesk);
-    };
-    match Connection::open_from(rt, path, false, start) {
-        Ok(conn) => init_over(conn),
-        Err((error, _)) => Err(Fault::from(error)),
-    }
+    make(rt, path, start, &[])
 }
 
 /// Opens a keeper of what the file at the path holds, where `start` names the bytes of the file. For a file that is not

@@ -1,6 +1,6 @@
 //! The listener, to which connections come one after the other.
 
-ghost use Rattle.std.specs.Prelude.{IfOk};
+ghost use Rattle.std.specs.Prelude.{IfOk, OnErr};
 
 use std::io::{self, Read, Write};
 use std::net::{TcpListener, TcpStream};
@@ -17,9 +17,14 @@ pub trait Listen {
     /// This connection is closed as it stands, and this is the listener after that.
     ghost closes: { Self → Self.Reader → Self.Writer → Self → Type 0 };
 
-    /// Waits for the next connection.
+    /// This is what the listener may be after a wait to which no connection came.
+    ghost waits: { Self → Self → Type 0 };
+
+    /// Waits for the next connection, and returns it as it came. After an error none is given out: one that came and
+    /// could not be had whole is closed as it came.
     fn next_connection(&mut self) -> io::Result<(Self::Reader, Self::Writer)>
-        ensures { IfOk result (λ connection. comes self.old connection.0 connection.1 self.new) };
+        ensures ok { IfOk result (λ connection. comes self.old connection.0 connection.1 self.new) }
+        ensures err { OnErr result (waits self.old self.new) };
 
     /// Closes a connection, as it stands.
     fn close(&mut self, reader: Self::Reader, writer: Self::Writer)
@@ -35,6 +40,8 @@ impl Listen for TcpListener {
     ghost comes = { λ old reader writer new. Unit {0} };
 
     ghost closes = { λ old reader writer new. Unit {0} };
+
+    ghost waits = { λ old new. Unit {0} };
 
     fn next_connection(&mut self) -> io::Result<(TcpStream, TcpStream)> {
         let (stream, _) = self.accept()?;

@@ -3,7 +3,7 @@
 ghost use Rattle.std.specs.Prelude.{◌≡◌, ◌≤◌, ◌⊎◌, false, Err, IfErr, IfOk, List, length, Ok, OnErr, OnOk, ℕ};
 ghost use Rattle.desk.specs.Desk.{Goes, TellsStop, desk_state, snapshot};
 ghost use Rattle.desk.specs.Streams.{Streams};
-ghost use Rattle.stockdesk.specs.Connections.{AreServed, Listens, Pass, PortBegun, TellsPort, listening_line};
+ghost use Rattle.stockdesk.specs.Connections.{AreServed, IsLeft, Listens, Pass, PortCut, TellsPort, listening_line};
 ghost use Rattle.stockdesk.specs.Outside.{listening};
 
 use crate::listener::Listen;
@@ -17,8 +17,9 @@ use std::io::{self, ErrorKind, Write};
 use words::write_whole;
 
 /// Serves so many connections on a desk that is not stopped, one after the other as they come, and closes each after
-/// its answers. A fault of a connection ends only that connection. After an error, all connections that came are
-/// served: `Socket` says that no further connection could be had, `Store` that the last one stopped the desk.
+/// its answers. A fault of a connection ends only that connection. After an error, all connections that came out of the
+/// listener are served: `Socket` says that no further connection could be had, `Store` that the last one stopped the
+/// desk.
 pub fn serve_all<K: Keep, L: Listen>(
     alloc: Global,
     desk: &mut Desk<K>,
@@ -29,11 +30,12 @@ pub fn serve_all<K: Keep, L: Listen>(
     ensures whole { OnOk result ((streams : List Streams) × (length streams ≡ connections)
         × AreServed (desk_state K.Keep desk.new) (snapshot (desk_state K.Keep desk.old)) streams
         (snapshot (desk_state K.Keep desk.new))
-        × Pass (listening L.comes L.closes L.Reader.remaining L.Writer.contents) listener.old streams listener.new) }
+        × Pass (listening L.Listen L.Reader.Read L.Writer.Write) listener.old streams listener.new) }
     ensures cut { OnErr result ((streams : List Streams) × (length streams ≤ connections)
         × AreServed (desk_state K.Keep desk.new) (snapshot (desk_state K.Keep desk.old)) streams
-        (snapshot (desk_state K.Keep desk.new)) × (mid : L)
-        × Pass (listening L.comes L.closes L.Reader.remaining L.Writer.contents) listener.old streams mid) }
+        (snapshot (desk_state K.Keep desk.new)) × (last : L)
+        × Pass (listening L.Listen L.Reader.Read L.Writer.Write) listener.old streams last
+        × IsLeft (listening L.Listen L.Reader.Read L.Writer.Write) last listener.new) }
     ensures fault { IfErr result (λ fault. (fault ≡ Fault.Socket) ⊎ (fault ≡ Fault.Store)) }
     ensures stop { TellsStop (result ≡ Err Fault.Store) (desk_state K.Keep desk.old) (desk_state K.Keep desk.new) }
     ensures goes { Goes K.Keep desk.old desk.new }
@@ -68,7 +70,7 @@ fn port_line(alloc: Global, port: u16) -> Result<Vec<u8>, AllocError>
 /// Writes the text line that tells the port.
 fn tell_port<W: Write>(alloc: Global, port: u16, writer: &mut W) -> Result<(), Fault>
     ensures whole { OnOk result (TellsPort port (W.contents writer.old) (W.contents writer.new)) }
-    ensures beginning { OnErr result (PortBegun (W.contents writer.old) (W.contents writer.new)) }
+    ensures beginning { OnErr result (PortCut (W.contents writer.old) (W.contents writer.new)) }
     ensures fault { IfErr result (λ fault. (fault ≡ Fault.Memory) ⊎ (fault ≡ Fault.Write)) }
 {
     let Ok(line) = port_line(alloc, port) else {
@@ -88,7 +90,7 @@ pub fn tell_listener<L: Drop, W: Write>(
 ) -> Result<L, Fault>
     ensures whole { IfOk result (λ listener. (port : ℕ) × (had ≡ Ok (listener, port))
         × TellsPort port (W.contents writer.old) (W.contents writer.new)) }
-    ensures beginning { OnErr result (PortBegun (W.contents writer.old) (W.contents writer.new)) }
+    ensures beginning { OnErr result (PortCut (W.contents writer.old) (W.contents writer.new)) }
     ensures fault { IfErr result (λ fault. (fault ≡ Fault.Socket) ⊎ ((fault ≡ Fault.Memory) ⊎ (fault ≡ Fault.Write))) }
 {
     let (listener, port) = match had {
@@ -111,7 +113,7 @@ pub fn listen_at<M: Machine, W: Write>(
 ) -> Result<M::Listener, Fault>
     ensures whole { IfOk result (Listens (M.listens machine.now) port (W.contents writer.old)
         (W.contents writer.new)) }
-    ensures beginning { OnErr result (PortBegun (W.contents writer.old) (W.contents writer.new)) }
+    ensures beginning { OnErr result (PortCut (W.contents writer.old) (W.contents writer.new)) }
     ensures fault { IfErr result (λ fault. (fault ≡ Fault.Socket) ⊎ ((fault ≡ Fault.Memory) ⊎ (fault ≡ Fault.Write))) }
 {
     tell_listener(rt.alloc(), machine.listen(rt, port), writer)

@@ -21,6 +21,7 @@ mod memory;
 mod new_desk;
 mod perform;
 mod requests;
+mod roll;
 mod session;
 mod sheet;
 mod upgrade;

@@ -35,11 +35,11 @@ pub fn read_piece<R: Read>(reader: &mut R, buffer: &mut [u8]) -> Result<usize, R
 }
 
 /// Writes the whole text. Where a write fails, in whatever way, or takes nothing, that is the answer at once, and a
-/// beginning of the text is written. For a text without bytes the call always succeeds.
+/// beginning of the text is written, but not all of it. For a text without bytes the call always succeeds.
 pub fn write_whole<W: Write>(writer: &mut W, text: &[u8]) -> Result<(), WriteFault>
     ensures whole { OnOk result (Appends (W.contents writer.old) (W.contents writer.new) text.now) }
     ensures some { OnErr result (0 < length text.now) }
-    ensures beginning { OnErr result ((count : ℕ) × (count ≤ length text.now)
+    ensures beginning { OnErr result ((count : ℕ) × (count < length text.now)
         × Appends (W.contents writer.old) (W.contents writer.new) (take count text.now)) }
 {
     let mut written = 0;

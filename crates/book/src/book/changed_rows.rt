@@ -89,7 +89,7 @@ fn way_code(way: Way) -> i64
 }
 
 /// Returns the row of a field.
-fn field_row(alloc: Global, field: &(FieldName, FieldEntry)) -> Result<FieldRow, Memory>
+pub(super) fn field_row(alloc: Global, field: &(FieldName, FieldEntry)) -> Result<FieldRow, Memory>
     ensures { IfOk result (λ row. field_cells row ≡ entry_row field.now) }
 {
     let (name, entry) = field;
@@ -107,7 +107,7 @@ fn field_row(alloc: Global, field: &(FieldName, FieldEntry)) -> Result<FieldRow,
 }
 
 /// Returns the row of the order.
-fn order_row(order: &Order) -> OrderRow
+pub(super) fn order_row(order: &Order) -> OrderRow
     ensures { order_cells result ≡ order_row (order_of order.now) }
 {
     let (number, entry) = order;
@@ -120,7 +120,12 @@ fn order_row(order: &Order) -> OrderRow
 }
 
 /// Returns the row of an order line; `nr` is its number in the order, counted from 1.
-fn line_row(alloc: Global, number: OrderNo, nr: usize, line: &Line) -> Result<LineRow, Memory>
+pub(super) fn line_row(
+    alloc: Global,
+    number: OrderNo,
+    nr: usize,
+    line: &Line,
+) -> Result<LineRow, Memory>
     requires { nr ≤ MAX_ORDER_LINES }
     ensures { IfOk result (λ row. line_cells row ≡ line_row number nr line.now) }
 {
@@ -149,7 +154,12 @@ fn move_row(alloc: Global, entry: &MoveEntry) -> Result<MoveRow, Memory>
 }
 
 /// Returns the row of a kept key.
-fn kept_row(alloc: Global, key: Key, place: u64, words: &KeptWords) -> Result<KeptRow, Memory>
+pub(super) fn kept_row(
+    alloc: Global,
+    key: Key,
+    place: u64,
+    words: &KeptWords,
+) -> Result<KeptRow, Memory>
     requires { place ≤ MAX_PLACES }
     ensures { IfOk result (λ row. kept_cells row ≡ kept_row
         (record { key = key; place = place; command = words.now })) }
@@ -162,7 +172,7 @@ fn kept_row(alloc: Global, key: Key, place: u64, words: &KeptWords) -> Result<Ke
 }
 
 /// Returns the row of a desk.
-fn desk_row(clock: Moment, places: u64) -> DeskRow
+pub(super) fn desk_row(clock: Moment, places: u64) -> DeskRow
     requires { places ≤ MAX_PLACES }
     ensures { desk_cells result ≡ desk_of clock places }
 {

@@ -1,6 +1,6 @@
 //! What is true of all keepers that there are. The functions do nothing when run; the contract of each is a law.
 
-ghost use Rattle.std.specs.Prelude.{◌↔◌};
+ghost use Rattle.std.specs.Prelude.{◌≡◌, ◌↔◌};
 ghost use Rattle.sqlite_disk.specs.Fuse.{inner_of};
 ghost use Rattle.sqlite_store.specs.FileStore.{files};
 ghost use Rattle.sqlite.specs.Held.{state};
@@ -37,4 +37,12 @@ pub fn a_fuse_tells_no_lie<D: Disk>()
 pub fn keepers_leave_what_stores_leave<S: Alter>()
     ensures { (k : Keeper S) (trees : Trees) → ⟦<SqlKeep<S> as Keep>⟧.may_remain k trees
         ↔ (state S.Store k.connection).may_leave trees }
+{}
+
+/// Whatever is called on a keeper, it stays set as it was: a statement of the one over SQLite may take as many steps as
+/// before, and of the one in lists the changes of the commit that fails are found later as before, or are not.
+pub fn keepers_stay_set<S: Alter>()
+    ensures sql { (old new : Keeper S) → ⟦<SqlKeep<S> as Keep>⟧.same_settings old new
+        → new.connection.step_limit ≡ old.connection.step_limit }
+    ensures plain { (old new : Plain) → ⟦<PlainKeep as Keep>⟧.same_settings old new → new.lands ≡ old.lands }
 {}

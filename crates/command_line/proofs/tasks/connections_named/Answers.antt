@@ -1,4 +1,4 @@
-use Rattle.std.proofs.Common.{◌≡◌, ◌<◌, ◌≤◌, ◌∙◌, arith, decimal, rules, sym}
+use Rattle.std.proofs.Common.{◌≡◌, ◌∙◌, arith, decimal, rules, sym}
 use Rattle.std.proofs.lemmas.Fmt.{decimal_injective}
 use Rattle.command_line.proofs.tasks.connections_named.Goals.{else-count-ge1-via-then-count-ge1+else-count-le-MAX_CONNECTIONS}
 use Rattle.command_line.proofs.tasks.connections_named.Goals.{else-count-ge1-via-else-count-ge1}

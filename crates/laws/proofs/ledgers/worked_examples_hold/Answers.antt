@@ -1,5 +1,6 @@
 use Rattle.std.specs.Fmt.{digits}
 use Rattle.laws.specs.Examples.{firm_order, firm_transfer, long_script, other_bounds, release_and_abort, tight_bounds, transfer}
+use Rattle.laws.specs.Examples.{two_checks_fail}
 use Rattle.ledger.proofs.Prelude.{new_ledger, refl}
 use Rattle.laws.proofs.ScriptPlay.{plays}
 use Rattle.laws.proofs.ledgers.worked_examples_hold.Goals as goal
@@ -27,3 +28,7 @@ returns-clause-firm_order c = plays firm_order new_ledger refl
 
 pub returns-clause-firm_transfer : goal.returns-clause-firm_transfer
 returns-clause-firm_transfer c = plays firm_transfer new_ledger refl
+
+pub returns-clause-two_checks : goal.returns-clause-two_checks
+unfolding digits
+returns-clause-two_checks c = plays two_checks_fail new_ledger refl

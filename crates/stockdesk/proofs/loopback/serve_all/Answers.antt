@@ -1,4 +1,4 @@
-use Rattle.std.proofs.Common.{[], ◌∙◌, refl, rules, sym}
+use Rattle.std.proofs.Common.{[], ◌∙◌, inl, inr, refl, rules, sym}
 use Rattle.desk.proofs.GoesOn.{goes_on, goes_same}
 use Rattle.desk.specs.Desk.{desk_state}
 use Rattle.stockdesk.specs.Outside.{listening}
@@ -14,7 +14,8 @@ loop-turn-init g c = record {
 
 pub returns-in_default-clause-cut : goal.returns-in_default-clause-cut
 returns-in_default-clause-cut g c =
-    serves_so_far _ _ _ (desk_state g.K.Keep c.loop-turn.desk) _ _ _ _ (search rules) c.loop-turn.invariant.served
+    serves_so_far _ _ _ (desk_state g.K.Keep c.loop-turn.desk) _ _ _ _ _ (search rules) (inr c.in_default.ensures.err)
+    c.loop-turn.invariant.served
 
 pub returns-in_default-clause-stop : goal.returns-in_default-clause-stop
 returns-in_default-clause-stop g c = record {
@@ -25,9 +26,9 @@ returns-in_default-clause-stop g c = record {
 pub returns-then-is_stopped-clause-cut : goal.returns-then-is_stopped-clause-cut
 returns-then-is_stopped-clause-cut g c =
     let pass =
-    passes (listening g.L.Listen.comes g.L.Listen.closes g.L.Reader.Read.remaining g.L.Writer.Write.contents) _ _ _
-    _ _ _ _ c.in-Ok.ensures c.close.ensures in
-    serves_so_far _ _ _ (desk_state g.K.Keep c.serve.new.desk) _ _ _ _ (search rules)
+    passes (listening g.L.Listen g.L.Reader.Read g.L.Writer.Write) _ _ _
+    _ _ _ _ c.in-Ok.ensures.ok c.close.ensures in
+    serves_so_far _ _ _ (desk_state g.K.Keep c.serve.new.desk) _ _ _ _ _ (search rules) (inl refl)
     (serves_one _ _ _ (desk_state g.K.Keep c.loop-turn.desk) (desk_state g.K.Keep c.serve.new.desk) _ _ _ _ _ _
     c.loop-turn.invariant.going c.loop-turn.invariant.served pass
     (is_served c.serve.result _ _ _ c.serve.ensures.whole c.serve.ensures.cut))
@@ -45,8 +46,8 @@ pub loop-turn-preserved : goal.loop-turn-preserved
 loop-turn-preserved g c =
     let going = sym c.is_stopped-in-loop-turn.ensures.stopped ∙ c.if-is_stopped.false in
     let pass =
-    passes (listening g.L.Listen.comes g.L.Listen.closes g.L.Reader.Read.remaining g.L.Writer.Write.contents) _ _ _
-    _ _ _ _ c.in-Ok.ensures c.close.ensures in
+    passes (listening g.L.Listen g.L.Reader.Read g.L.Writer.Write) _ _ _
+    _ _ _ _ c.in-Ok.ensures.ok c.close.ensures in
     record {
       going = going;
       served =

@@ -8,7 +8,7 @@ use Rattle.stockdesk.proofs.loopback.serve_all.Given as goal
 abbrev pub invariant-loop-turn : goal.invariant-loop-turn
 invariant-loop-turn g l = record {
   going : g.K.Keep.stopped l.desk.keep ≡ false;
-  served : ServesFrom (listening g.L.Listen.comes g.L.Listen.closes g.L.Reader.Read.remaining g.L.Writer.Write.contents)
+  served : ServesFrom (listening g.L.Listen g.L.Reader.Read g.L.Writer.Write)
       l._turn (desk_state g.K.Keep l.desk) (snapshot (desk_state g.K.Keep l.initial.desk))
       (snapshot (desk_state g.K.Keep l.desk)) l.initial.listener l.listener;
   goes : Goes g.K.Keep l.initial.desk l.desk;

@@ -82,3 +82,11 @@ returns-in-Ok-of_tables-clause-left g c honest = record {
   same = λ going. (c.in-Ok.ensures.found honest).same;
   adds = c.in-Ok.ensures.left honest;
 }
+
+pub returns-in-Ok-of_tables-clause-other : goal.returns-in-Ok-of_tables-clause-other
+returns-in-Ok-of_tables-clause-other g c going =
+    let told = c.in-Ok.ensures.other going in
+    record {
+      nameless = λ no. let is = (told.nameless no).0 in absurd (cc);
+      other = λ names none. let is = (told.other names none).0 in absurd (cc);
+    }
