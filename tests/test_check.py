@@ -17,6 +17,9 @@ from support import TOP
 # notes the call, and which crates its tree has; says what a gate does
 TOOL = """#!/bin/sh
 [ "$1" = doc ] && echo "$KIT/START-HERE.md" && exit
+[ "$2" = --anew ] && [ -n "$OLDER" ] && echo "usage: rt" >&2 && exit 2
+[ -d crates ] || exit 2
+[ -d crates/top ] && mkdir -p crates/top/out && touch crates/top/out/top && chmod +x crates/top/out/top
 echo "${0##*/} $* $(ls crates | tr '\\n' ' ')" >>"$CALLS"
 [ "${0##*/} $*" = "$REFUSED" ] && echo "refused" && exit 1
 echo "1 passed, 0 failed"
@@ -54,8 +57,9 @@ class Gate(unittest.TestCase):
         with open(path, "w", encoding="utf-8") as file:
             file.write(text)
 
-    def check(self, *words: str, refused: str = "") -> tuple[int, list[str], list[str]]:
-        """How the gate ends, the lines that it writes, and the calls that it makes."""
+    def check(self, *words: str, refused: str = "", older: str = "") -> tuple[int, list[str], list[str]]:
+        """How the gate ends, the lines that it writes, and the calls that it makes; with an older toolchain, where a word is
+        told for it."""
         calls = os.path.join(self.top, "calls")
         path = f"{self.top}/bin:{os.environ['PATH']}"
         env = {
@@ -63,6 +67,7 @@ class Gate(unittest.TestCase):
             "PATH": path,
             "CALLS": calls,
             "REFUSED": refused,
+            "OLDER": older,
             "KIT": f"{self.top}/kit",
             "XDG_CACHE_HOME": self.top,
         }
@@ -86,6 +91,12 @@ class Gate(unittest.TestCase):
             "tests",
         ]
         self.assertEqual(calls[3:], wanted)
+
+    def test_an_older_toolchain_proves_all_once(self) -> None:
+        status, lines, calls = self.check(older="1")
+        self.assertEqual(status, 0, lines)
+        self.assertEqual(calls[3:], ["rt ci escrow ", "rt ci all_tests escrow top ", "tests"])
+        self.assertTrue(os.access(os.path.join(self.top, "crates", "top", "out", "top"), os.X_OK), "the program is brought here")
 
     def test_it_says_what_each_part_took(self) -> None:
         _, lines, _ = self.check()

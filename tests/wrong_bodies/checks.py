@@ -113,19 +113,24 @@ def below(crate: str, graph: Mapping[str, list[str]]) -> list[str]:
 
 
 class Libraries:
-    """The crates below those that are looked at, as `rt ci` builds them: what it has proved before, on this machine, it takes
-    over. They lie in a folder of their own."""
+    """The crates below those that are looked at, as `rt ci` builds them. They lie in a folder of their own."""
 
-    def __init__(self, top: str, crates: Collection[str], room: str):
+    def __init__(self, top: str, room: str):
         self.top, self.room, self.kit, self.graph = top, room, kit(), graph_of(top)
+
+    def prove_below(self, crates: Collection[str]) -> None:
+        """Has `rt ci` prove what these crates stand on; that of some toolchains takes over what it has proved before, on this
+        machine. NoCheck: a crate is not proved."""
         wanted = {it for crate in crates for it in below(crate, self.graph)}
-        with open(os.path.join(room, "crates.txt"), "w", encoding="utf-8") as file:
+        with open(os.path.join(self.room, "crates.txt"), "w", encoding="utf-8") as file:
             file.writelines(f"{name}: {' '.join(on)}\n" for name, on in self.graph.items() if name in wanted)
-        shutil.copy(os.path.join(top, "HANDLES"), room)
+        shutil.copy(os.path.join(self.top, "HANDLES"), self.room)
         for name in wanted:
-            copy_parts(os.path.join(top, "crates", name), os.path.join(room, "crates", name))
+            copy_parts(os.path.join(self.top, "crates", name), os.path.join(self.room, "crates", name))
         if wanted:
-            run = subprocess.run(["rt", "ci"], cwd=room, stdin=subprocess.DEVNULL, capture_output=True, text=True, check=False)
+            run = subprocess.run(
+                ["rt", "ci"], cwd=self.room, stdin=subprocess.DEVNULL, capture_output=True, text=True, check=False
+            )
             if run.returncode:
                 raise NoCheck(f"the crates below {' '.join(crates)} are not proved: {run.stdout[-2000:]}{run.stderr[-500:]}")
 

@@ -76,17 +76,21 @@ def run_crate(libraries: Libraries, crate: Crate, edits: list[Edit], kind: str, 
     return count
 
 
-def run(top: str, crates: list[str], kind: str, choose: Callable[[Crate, Iterable[Edit]], list[Edit]]) -> tuple[int, int]:
+def run(
+    top: str, crates: list[str], kind: str, choose: Callable[[Crate, Iterable[Edit]], list[Edit]], proved: str | None = None
+) -> tuple[int, int]:
     """Tries the chosen edits of these crates, several crates at a time. Returns how many came to what they should, and how many
-    did not."""
+    did not. In the folder `proved`, if one is told, `rt ci` has just proved all crates."""
     found = [(crate, choose(crate, edits_of(top, crate.name))) for crate in (Crate(top, name) for name in crates)]
     found = sorted(((crate, edits) for crate, edits in found if edits), key=lambda it: -len(it[0].functions))
     without = [edit for _, edits in found for edit in edits if not edit.has_control]
     for edit in without:
         print(f"{edit}: HAS NO CONTROL", flush=True)
     with tempfile.TemporaryDirectory() as room, ThreadPoolExecutor(at_once()) as pool:
+        libraries = Libraries(top, proved or room)
         try:
-            libraries = Libraries(top, [crate.name for crate, _ in found], room)
+            if proved is None:
+                libraries.prove_below([crate.name for crate, _ in found])
         except NoCheck as why:
             print(f"check: {why}", file=sys.stderr)
             return 0, 1
