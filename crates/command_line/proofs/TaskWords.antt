@@ -1,5 +1,5 @@
 -- What `clap` makes of the words for a task.
-use Rattle.std.proofs.Common.{◌≡◌, ◌<◌, ◌∙◌, ◌&&◌, ◌^◌, [], ◌∷◌, arith, Bool, Bor, IfSome, IsSome, IsTrue, List, None}
+use Rattle.std.proofs.Common.{◌≡◌, ◌<◌, ◌∙◌, ◌&&◌, ◌++◌, ◌^◌, [], ◌∷◌, arith, Bool, Bor, IfSome, IsSome, IsTrue, List, None}
 use Rattle.std.proofs.Common.{Option, Some, ap, codes, decimal, false, get_or, length, refl, subst, suc, sym, true}
 use Rattle.std.proofs.Common.{true≢false, zero, ℕ}
 use Rattle.std.specs.List.{list_all}
@@ -13,8 +13,8 @@ use Rattle.clap.specs.Takes.{level_passes}
 use Rattle.clap.specs.Walk.{nothing_held, rows_after}
 use Rattle.clap.proofs.OnLiterals.{clap_on_literals}
 use Rattle.escrow.specs.Codes.{IsArticle, IsBranch, is_branch_byte}
-use Rattle.command_line.specs.Tasks.{AreWordsFor, Asks, AsksFor, IsFew, IsNoOption}
-use Rattle.command_line.specs.Tasks.{IsRollOverToAsk, IsToAsk, IsWorkToAsk, Takes, TakesOnOne, article}
+use Rattle.command_line.specs.Tasks.{AreWordsFor, Asks, AsksFor, AsksForService, IsFew, IsNoOption}
+use Rattle.command_line.specs.Tasks.{IsRollOverToAsk, IsServiceToAsk, IsToAsk, IsWorkToAsk, Takes, TakesOnOne, article}
 use Rattle.command_line.specs.Tasks.{bounds, command_of, deliveries, init, orders, roll, run, serve, sheet, stockdesk}
 use Rattle.command_line.specs.Tasks.{task_words, upgrade, work_words}
 use Rattle.command_line.specs.declared.work.AtOnce.{AtOnce}
@@ -123,6 +123,26 @@ of_service path service =
     (true, path) ∷ (false, codes "--port") ∷ (true, decimal service.port) ∷ (false, codes "--connections")
     ∷ (true, decimal service.connections) ∷ []
 
+-- the numbers of a service at once are no options
+numbers : {P : Type 0} (service : Service) (together : NonZeroUsize) → IsServiceToAsk service → IsFew (Some together)
+    → (IsNoOption (decimal service.port) → IsNoOption (decimal service.connections)
+    → IsNoOption (decimal (non_zero_usize_get together)) → P) → P
+numbers service together (is_port, some, many) (some_together, few_together) then =
+    then (number_word service.port (omega (arith, is_port))) (number_word service.connections (omega (arith, many)))
+    (number_word (non_zero_usize_get together) (omega (arith, few_together)))
+
+-- what was found has the numbers of a service, written out
+asked_for : (rows : List Row) (service : Service) → first_of (codes "port") rows ≡ Some (decimal service.port)
+    → first_of (codes "connections") rows ≡ Some (decimal service.connections) → IsServiceToAsk service
+    → AsksForService rows service
+asked_for rows service port connections (is_port, some, many) = (
+  decimal service.port,
+  decimal service.connections,
+  port,
+  connections,
+  record { port_is = refl; connections_are = refl; is_port = is_port; some = some; not_many = many },
+)
+
 gives_service : (name : Text) (path : Bor Text) (service : Service) → IsNoOption path.now → IsWorkToAsk (Serve service)
     → Gives (name ∷ work_words path.now (Serve service)) (InFile path (Serve service))
 unfolding clap_on_literals
@@ -130,96 +150,82 @@ gives_service name path service p (is_port, some, many) =
     let port : IsNoOption (decimal service.port) = number_word service.port (omega (arith, is_port)) in
     let connections : IsNoOption (decimal service.connections) = number_word service.connections (omega (arith, many)) in
     gives name (codes "serve") serve.top (of_service path.now service) (InFile path (Serve service)) refl refl
-    (refl, refl, p, (refl, refl, port, (refl, refl, connections, tt))) refl (
-      refl,
-      (
-        refl,
-        refl,
-        refl,
-        (
-          decimal service.port,
-          decimal service.connections,
-          refl,
-          refl,
-          record { port_is = refl; connections_are = refl; is_port = is_port; some = some; not_many = many },
-        ),
-      ),
-    )
+    (refl, refl, p, (refl, refl, port, (refl, refl, connections, tt))) refl
+    (refl, (refl, refl, refl, refl, asked_for (rows_over (leaf serve.top) (of_service path.now service)) service refl refl (is_port, some, many)))
 
 abbrev clients_marked : Option NonZeroUsize → Marked
 clients_marked None = []
 clients_marked (Some most) = (false, codes "--clients") ∷ (true, decimal (non_zero_usize_get most)) ∷ []
 
-abbrev of_service_at_once : Text → Service → AtOnce → Option NonZeroUsize → Marked
-of_service_at_once path service at_once clients =
+abbrev places_marked : Option NonZeroUsize → Marked
+places_marked None = []
+places_marked (Some most) = (false, codes "--places") ∷ (true, decimal (non_zero_usize_get most)) ∷ []
+
+abbrev of_service_at_once : Text → Service → AtOnce → Marked
+of_service_at_once path service at_once =
     (true, path) ∷ (false, codes "--port") ∷ (true, decimal service.port) ∷ (false, codes "--connections")
     ∷ (true, decimal service.connections)
-    ∷ (false, codes "--together") ∷ (true, decimal (non_zero_usize_get at_once.together)) ∷ clients_marked clients
+    ∷ (false, codes "--together") ∷ (true, decimal (non_zero_usize_get at_once.together))
+    ∷ clients_marked at_once.clients ++ places_marked at_once.places
 
 gives_service_at_once : (name : Text) (path : Bor Text) (service : Service) (together : NonZeroUsize)
-    (clients : Option NonZeroUsize) → IsNoOption path.now
-    → IsWorkToAsk (ServeAtOnce service (record { together = together; clients = clients }))
-    → Gives (name ∷ work_words path.now (ServeAtOnce service (record { together = together; clients = clients })))
-    (InFile path (ServeAtOnce service (record { together = together; clients = clients })))
+    (clients places : Option NonZeroUsize) → let at_once : AtOnce =
+    record { together = together; clients = clients; places = places } in IsNoOption path.now
+    → IsWorkToAsk (ServeAtOnce service at_once)
+    → Gives (name ∷ work_words path.now (ServeAtOnce service at_once)) (InFile path (ServeAtOnce service at_once))
 unfolding clap_on_literals
-gives_service_at_once name path service together None p ((is_port, some, many), (some_together, few_together), few_clients) =
-    let port : IsNoOption (decimal service.port) = number_word service.port (omega (arith, is_port)) in
-    let connections : IsNoOption (decimal service.connections) = number_word service.connections (omega (arith, many)) in
-    let few : IsNoOption (decimal (non_zero_usize_get together)) =
-    number_word (non_zero_usize_get together) (omega (arith, few_together)) in
-    let at_once : AtOnce = record { together = together; clients = None } in
-    gives name (codes "serve") serve.top (of_service_at_once path.now service at_once None)
+gives_service_at_once name path service together None None p (ok, few, few_clients, few_places) =
+    let at_once : AtOnce = record { together = together; clients = None; places = None } in
+    gives name (codes "serve") serve.top (of_service_at_once path.now service at_once)
     (InFile path (ServeAtOnce service at_once)) refl refl
-    (refl, refl, p, (refl, refl, port, (refl, refl, connections, (refl, refl, few, tt)))) refl (
-      refl,
-      (
-        refl,
-        (
-          decimal (non_zero_usize_get together),
-          refl,
-          record { together_is = (together, refl, refl, few_together); clients_are = refl },
-        ),
-        (
-          decimal service.port,
-          decimal service.connections,
-          refl,
-          refl,
-          record { port_is = refl; connections_are = refl; is_port = is_port; some = some; not_many = many },
-        ),
-      ),
-    )
-gives_service_at_once name path service together (Some most) p
-    ((is_port, some, many), (some_together, few_together), (some_clients, few_clients)) =
-    let port : IsNoOption (decimal service.port) = number_word service.port (omega (arith, is_port)) in
-    let connections : IsNoOption (decimal service.connections) = number_word service.connections (omega (arith, many)) in
-    let few : IsNoOption (decimal (non_zero_usize_get together)) =
-    number_word (non_zero_usize_get together) (omega (arith, few_together)) in
+    (refl, refl, p, numbers service together ok few (λ port connections many.
+    (refl, refl, port, (refl, refl, connections, (refl, refl, many, tt))))) refl
+    (refl, (refl, (decimal (non_zero_usize_get together), refl, record {
+      together_is = (together, refl, refl, few.1);
+      clients_are = refl;
+      places_are = refl;
+    }), asked_for (rows_over (leaf serve.top) (of_service_at_once path.now service at_once)) service refl refl ok))
+gives_service_at_once name path service together (Some most) None p (ok, few, few_clients, few_places) =
     let clients : IsNoOption (decimal (non_zero_usize_get most)) =
-    number_word (non_zero_usize_get most) (omega (arith, few_clients)) in
-    let at_once : AtOnce = record { together = together; clients = Some most } in
-    gives name (codes "serve") serve.top (of_service_at_once path.now service at_once (Some most))
+    number_word (non_zero_usize_get most) (omega (arith, few_clients.1)) in
+    let at_once : AtOnce = record { together = together; clients = Some most; places = None } in
+    gives name (codes "serve") serve.top (of_service_at_once path.now service at_once)
     (InFile path (ServeAtOnce service at_once)) refl refl
-    (refl, refl, p, (refl, refl, port, (refl, refl, connections, (refl, refl, few, (refl, refl, clients, tt))))) refl (
-      refl,
-      (
-        refl,
-        (
-          decimal (non_zero_usize_get together),
-          refl,
-          record {
-            together_is = (together, refl, refl, few_together);
-            clients_are = (most, refl, refl, few_clients);
-          },
-        ),
-        (
-          decimal service.port,
-          decimal service.connections,
-          refl,
-          refl,
-          record { port_is = refl; connections_are = refl; is_port = is_port; some = some; not_many = many },
-        ),
-      ),
-    )
+    (refl, refl, p, numbers service together ok few (λ port connections many.
+    (refl, refl, port, (refl, refl, connections, (refl, refl, many, (refl, refl, clients, tt)))))) refl
+    (refl, (refl, (decimal (non_zero_usize_get together), refl, record {
+      together_is = (together, refl, refl, few.1);
+      clients_are = (most, refl, refl, few_clients.1);
+      places_are = refl;
+    }), asked_for (rows_over (leaf serve.top) (of_service_at_once path.now service at_once)) service refl refl ok))
+gives_service_at_once name path service together None (Some last) p (ok, few, few_clients, few_places) =
+    let places : IsNoOption (decimal (non_zero_usize_get last)) =
+    number_word (non_zero_usize_get last) (omega (arith, few_places.1)) in
+    let at_once : AtOnce = record { together = together; clients = None; places = Some last } in
+    gives name (codes "serve") serve.top (of_service_at_once path.now service at_once)
+    (InFile path (ServeAtOnce service at_once)) refl refl
+    (refl, refl, p, numbers service together ok few (λ port connections many.
+    (refl, refl, port, (refl, refl, connections, (refl, refl, many, (refl, refl, places, tt)))))) refl
+    (refl, (refl, (decimal (non_zero_usize_get together), refl, record {
+      together_is = (together, refl, refl, few.1);
+      clients_are = refl;
+      places_are = (last, refl, refl, few_places.1);
+    }), asked_for (rows_over (leaf serve.top) (of_service_at_once path.now service at_once)) service refl refl ok))
+gives_service_at_once name path service together (Some most) (Some last) p (ok, few, few_clients, few_places) =
+    let clients : IsNoOption (decimal (non_zero_usize_get most)) =
+    number_word (non_zero_usize_get most) (omega (arith, few_clients.1)) in
+    let places : IsNoOption (decimal (non_zero_usize_get last)) =
+    number_word (non_zero_usize_get last) (omega (arith, few_places.1)) in
+    let at_once : AtOnce = record { together = together; clients = Some most; places = Some last } in
+    gives name (codes "serve") serve.top (of_service_at_once path.now service at_once)
+    (InFile path (ServeAtOnce service at_once)) refl refl
+    (refl, refl, p, numbers service together ok few (λ port connections many.
+    (refl, refl, port, (refl, refl, connections, (refl, refl, many, (refl, refl, clients, (refl, refl, places, tt))))))) refl
+    (refl, (refl, (decimal (non_zero_usize_get together), refl, record {
+      together_is = (together, refl, refl, few.1);
+      clients_are = (most, refl, refl, few_clients.1);
+      places_are = (last, refl, refl, few_places.1);
+    }), asked_for (rows_over (leaf serve.top) (of_service_at_once path.now service at_once)) service refl refl ok))
 
 gives_roll_over : (name : Text) (old new : Bor Text) (keys : Option ℕ)
     → IsRollOverToAsk (record { old = old; new = new; keys = keys })
@@ -255,7 +261,7 @@ gives_task (InFile path (Sheet (Article code))) name (p, form) =
     (refl, refl, p, (refl, refl, article_word code form, tt)) refl (refl, (refl, refl))
 gives_task (InFile path (Serve service)) name (p, ok) = gives_service name path service p ok
 gives_task (InFile path (ServeAtOnce service at_once)) name (p, ok) =
-    gives_service_at_once name path service at_once.together at_once.clients p ok
+    gives_service_at_once name path service at_once.together at_once.clients at_once.places p ok
 
 pub words_give : (task : Task) (words : List Text) → AreWordsFor task words → Gives words task
 words_give task words (name, is, ok) = subst (λ (w : List Text). Gives w task) (sym is) (gives_task task name ok)
@@ -292,13 +298,13 @@ is_given name rows (InFile path (Sheet (Branch branch))) Taken takes (file, (is,
     ((on_one name (codes "sheet") rows Taken takes is refl).on_file path.now file).of_work.of_branch branch is found form
 is_given name rows (InFile path (Sheet (Article code))) Taken takes (file, (is, found)) (p, form) =
     ((on_one name (codes "article") rows Taken takes is refl).on_file path.now file).of_work.of_article code is found form
-is_given name rows (InFile path (Serve service)) Taken takes (file, (is, alone, nobody, asked)) ok =
+is_given name rows (InFile path (Serve service)) Taken takes (file, (is, alone, nobody, no_end, asked)) ok =
     (((on_one name (codes "serve") rows Taken takes is refl).on_file path.now file).of_work.of_service is).in_turn service
-    alone nobody asked
+    alone nobody no_end asked
 is_given name rows (InFile path (ServeAtOnce service at_once)) Taken takes
-    (file, (is, (together, found, numbers), asked)) (p, (ok, few, few_clients)) =
+    (file, (is, (together, found, are), asked)) (p, (ok, few, few_clients, few_places)) =
     (((on_one name (codes "serve") rows Taken takes is refl).on_file path.now file).of_work.of_service is).at_once together
-    service at_once found numbers few few_clients asked
+    service at_once found are few few_clients few_places asked
 
 -- the one word `run` asks for a run in memory alone
 abbrev found_rows : Option (Text × List Row) → List Row

@@ -1,5 +1,5 @@
 -- The words that the program takes, and the task that they ask for, as `clap` sees them.
-use Rattle.std.specs.Prelude.{◌≡◌, ◌≢◌, ◌<◌, ◌≤◌, ◌∷◌, ◌^◌, [], Bool, IfSome, List, None, Option, Some, false, true, codes}
+use Rattle.std.specs.Prelude.{◌≡◌, ◌≢◌, ◌<◌, ◌≤◌, ◌∷◌, ◌++◌, ◌^◌, [], Bool, IfSome, List, None, Option, Some, false, true, codes}
 use Rattle.std.specs.Prelude.{decimal, ℕ}
 use Rattle.std.specs.Int.NonZero.{non_zero_usize_get}
 use Rattle.std.specs.declared.num.NonZeroUsize.{NonZeroUsize}
@@ -75,8 +75,12 @@ serve_in_turn =
     with_rule (with_rule (on_path (codes "serve")) (option true (codes "port"))) (option true (codes "connections"))
 
 -- `serve FILE --port N --connections N [--together N] [--clients N]`
+abbrev pub serve_at_once : App
+serve_at_once = with_rule (with_rule serve_in_turn (option false (codes "together"))) (option false (codes "clients"))
+
+-- `serve FILE --port N --connections N [--together N] [--clients N] [--places N]`
 abbrev pub serve : App
-serve = with_rule (with_rule serve_in_turn (option false (codes "together"))) (option false (codes "clients"))
+serve = with_rule serve_at_once (option false (codes "places"))
 
 -- `upgrade FILE`
 abbrev pub upgrade : App
@@ -124,9 +128,10 @@ abbrev pub AsksTogether : Option Text → Option NonZeroUsize → Type 0
 AsksTogether word together = AsksAtMost 1000 word together
 
 -- the words are the numbers of a service of many connections at once, and are in their ranges
-pub record IsAtOnce (together : Text) (clients : Option Text) (at_once : AtOnce) : Type 0 where
+pub record IsAtOnce (together : Text) (clients places : Option Text) (at_once : AtOnce) : Type 0 where
   pub together_is : AsksAtMost 1000 (Some together) (Some at_once.together)
   pub clients_are : AsksAtMost 4000 clients at_once.clients
+  pub places_are : AsksAtMost 200000 places at_once.places
 
 -- the command that reads files of that kind
 abbrev pub command_of : Kind → Text
@@ -150,10 +155,11 @@ AsksForWork name rows (Sheet (Branch branch)) =
 AsksForWork name rows (Sheet (Article article)) =
     (name ≡ codes "article") × (first_of (codes "ARTICLE") rows ≡ Some article)
 AsksForWork name rows (Serve service) = (name ≡ codes "serve") × (first_of (codes "together") rows ≡ None)
-    × (first_of (codes "clients") rows ≡ None) × AsksForService rows service
+    × (first_of (codes "clients") rows ≡ None) × (first_of (codes "places") rows ≡ None) × AsksForService rows service
 AsksForWork name rows (ServeAtOnce service at_once) = (name ≡ codes "serve") × ((together : Text)
     × (first_of (codes "together") rows ≡ Some together)
-    × IsAtOnce together (first_of (codes "clients") rows) at_once) × AsksForService rows service
+    × IsAtOnce together (first_of (codes "clients") rows) (first_of (codes "places") rows) at_once)
+    × AsksForService rows service
 
 -- where there is a word, it says how many keys, at most 200000
 abbrev pub AsksForKeys : Option Text → Option ℕ → Type 0
@@ -195,6 +201,11 @@ abbrev pub clients_words : Option NonZeroUsize → List Text
 clients_words None = []
 clients_words (Some most) = codes "--clients" ∷ decimal (non_zero_usize_get most) ∷ []
 
+-- the words that say with how many places a service ends
+abbrev pub places_words : Option NonZeroUsize → List Text
+places_words None = []
+places_words (Some most) = codes "--places" ∷ decimal (non_zero_usize_get most) ∷ []
+
 -- the words for work on the desk in a file
 abbrev pub work_words : Text → Work → List Text
 work_words path Script = codes "run" ∷ path ∷ []
@@ -205,7 +216,8 @@ work_words path (Serve service) = codes "serve" ∷ path ∷ codes "--port" ∷ 
     ∷ codes "--connections" ∷ decimal service.connections ∷ []
 work_words path (ServeAtOnce service at_once) = codes "serve" ∷ path ∷ codes "--port" ∷ decimal service.port
     ∷ codes "--connections" ∷ decimal service.connections
-    ∷ codes "--together" ∷ decimal (non_zero_usize_get at_once.together) ∷ clients_words at_once.clients
+    ∷ codes "--together" ∷ decimal (non_zero_usize_get at_once.together)
+    ∷ clients_words at_once.clients ++ places_words at_once.places
 
 -- the words that say how many keys
 abbrev pub keys_words : Option ℕ → List Text
@@ -241,7 +253,7 @@ IsWorkToAsk (Sheet (Branch branch)) = IsBranch branch
 IsWorkToAsk (Sheet (Article article)) = IsArticle article
 IsWorkToAsk (Serve service) = IsServiceToAsk service
 IsWorkToAsk (ServeAtOnce service at_once) = IsServiceToAsk service × IsFew (Some at_once.together)
-    × AreAtMost 4000 at_once.clients
+    × AreAtMost 4000 at_once.clients × AreAtMost 200000 at_once.places
 
 -- the roll-over can be asked for: the names of its files are no options, and its number is in range
 abbrev pub IsRollOverToAsk : RollOver → Type 0
@@ -265,10 +277,11 @@ AreWordsFor task words = (name : Text) × (words ≡ name ∷ task_words task) �
 -- what was found behind the command gives a service, of one connection after the other or of many at once
 pub record TakesService (rows : List Row) (Taken : Type 0) : Type 0 where
   pub in_turn : (service : Service) → first_of (codes "together") rows ≡ None → first_of (codes "clients") rows ≡ None
-      → AsksForService rows service → Taken
+      → first_of (codes "places") rows ≡ None → AsksForService rows service → Taken
   pub at_once : (together : Text) (service : Service) (at_once : AtOnce) → first_of (codes "together") rows ≡ Some together
-      → IsAtOnce together (first_of (codes "clients") rows) at_once → IsFew (Some at_once.together)
-      → AreAtMost 4000 at_once.clients → AsksForService rows service → Taken
+      → IsAtOnce together (first_of (codes "clients") rows) (first_of (codes "places") rows) at_once
+      → IsFew (Some at_once.together) → AreAtMost 4000 at_once.clients → AreAtMost 200000 at_once.places
+      → AsksForService rows service → Taken
 
 -- a command, with what was found behind it, gives work
 pub record TakesWork (name : Text) (rows : List Row) (Taken : Type 0) : Type 0 where

@@ -3,7 +3,7 @@
 ghost use Rattle.std.specs.Prelude.{◌≡◌, false, IfOk};
 ghost use Rattle.clap.specs.Words.{App, app_of, with_rule, with_subcommand};
 ghost use Rattle.clap.specs.declared.builder.command.Command.TheViews.{out-Command as fields_of};
-ghost use Rattle.command_line.specs.Tasks.{article, bounds, deliveries, on_file, on_path, on_requests, option, orders, roll, roll_files, run, scripts, serve, serve_in_turn, sheet, stockdesk, upgrade, with_both};
+ghost use Rattle.command_line.specs.Tasks.{article, bounds, deliveries, on_file, on_path, on_requests, option, orders, roll, roll_files, run, scripts, serve, serve_at_once, serve_in_turn, sheet, stockdesk, upgrade, with_both};
 
 use clap::{Arg, ArgAction, Command};
 use std::alloc::{AllocError, Global};
@@ -164,9 +164,9 @@ fn serve_in_turn_command<'a>(alloc: Global) -> Result<Command<'a>, AllocError>
     with_option(alloc, command, "connections", true, help)
 }
 
-/// Returns the command `serve`, with its file and its four options.
-fn serve_command<'a>(alloc: Global) -> Result<Command<'a>, AllocError>
-    ensures app { IfOk result (λ command. app_of command ≡ serve) }
+/// Returns the command `serve`, with its file and its four options for connections.
+fn serve_at_once_command<'a>(alloc: Global) -> Result<Command<'a>, AllocError>
+    ensures app { IfOk result (λ command. app_of command ≡ serve_at_once) }
     ensures local { IfOk result (λ command. (fields_of command).has_globals ≡ false) }
 {
     let command = serve_in_turn_command(alloc)?;
@@ -176,6 +176,17 @@ fn serve_command<'a>(alloc: Global) -> Result<Command<'a>, AllocError>
     let help =
         "With --together, how many connections may be open at once, 1 to 4000; 1000 without it";
     with_option(alloc, command, "clients", false, help)
+}
+
+/// Returns the command `serve`, with its file and its five options.
+fn serve_command<'a>(alloc: Global) -> Result<Command<'a>, AllocError>
+    ensures app { IfOk result (λ command. app_of command ≡ serve) }
+    ensures local { IfOk result (λ command. (fields_of command).has_globals ≡ false) }
+{
+    let command = serve_at_once_command(alloc)?;
+    let help =
+        "With --together, ends once so many places of the desk are taken or set aside, 1 to 200000; a desk that has so many at the beginning is served all the same";
+    with_option(alloc, command, "places", false, help)
 }
 
 /// Adds the commands that serve connections and upgrade a desk.

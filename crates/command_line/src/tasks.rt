@@ -31,6 +31,9 @@ const MAX_TOGETHER: usize = 1_000;
 /// How many connections may be open at once, at the most.
 const MAX_CLIENTS: usize = 4_000;
 
+/// How many places a desk has.
+const MAX_PLACES: usize = 200_000;
+
 /// What the words ask for.
 #[derive(Clone, Copy)]
 pub enum Task<'a> {
@@ -119,7 +122,7 @@ fn kind_named(name: &str) -> Option<Kind>
 
 /// Returns how many a word asks for, at most `most`.
 fn count_named(word: &str, most: usize) -> Option<NonZeroUsize>
-    requires { most ≤ 4000 }
+    requires { most ≤ 200000 }
     ensures named { IfSome result (λ count. (word.now ≡ decimal (non_zero_usize_get count))
         × (non_zero_usize_get count ≤ most)) }
     ensures taken { (count : ℕ) → 1 ≤ count → count ≤ most → word.now ≡ decimal count → IsSome result }
@@ -135,7 +138,7 @@ fn count_named(word: &str, most: usize) -> Option<NonZeroUsize>
 
 /// Returns how many the word asks for, if there is a word, at most `limit`; `None` where the word is no such number.
 fn most_asked(word: Option<&str>, limit: usize) -> Option<Option<NonZeroUsize>>
-    requires { limit ≤ 4000 }
+    requires { limit ≤ 200000 }
     ensures named { IfSome result (AsksAtMost limit (option_map (λ s. s.now) word.entry)) }
     ensures taken { (most : Option NonZeroUsize) → AsksAtMost limit (option_map (λ s. s.now) word.entry) most
         → AreAtMost limit most → IsSome result }
@@ -166,15 +169,18 @@ fn article_sheet_found<'a>(found: &ArgMatches<'a>) -> Option<Work<'a>>
     Some(Work::Sheet(article_named(article)?))
 }
 
-/// Returns how many two words ask for: in a round, and at once.
-fn at_once_named(together: &str, clients: Option<&str>) -> Option<AtOnce>
-    ensures named { IfSome result (IsAtOnce together.now (option_map (λ s. s.now) clients.entry)) }
-    ensures taken { (at_once : AtOnce) → IsAtOnce together.now (option_map (λ s. s.now) clients.entry) at_once
-        → IsFew (Some at_once.together) → AreAtMost 4000 at_once.clients → IsSome result }
+/// Returns how many three words ask for: in a round, at once, and of places.
+fn at_once_named(together: &str, clients: Option<&str>, places: Option<&str>) -> Option<AtOnce>
+    ensures named { IfSome result (IsAtOnce together.now (option_map (λ s. s.now) clients.entry)
+        (option_map (λ s. s.now) places.entry)) }
+    ensures taken { (at_once : AtOnce) → IsAtOnce together.now (option_map (λ s. s.now) clients.entry)
+        (option_map (λ s. s.now) places.entry) at_once → IsFew (Some at_once.together)
+        → AreAtMost 4000 at_once.clients → AreAtMost 200000 at_once.places → IsSome result }
 {
     let together = count_named(together, MAX_TOGETHER)?;
     let clients = most_asked(clients, MAX_CLIENTS)?;
-    Some(AtOnce { together, clients })
+    let places = most_asked(places, MAX_PLACES)?;
+    Some(AtOnce { together, clients, places })
 }
 
 /// Returns the port and the number of connections that are asked for; `None` where a word for them is no such number.
@@ -188,18 +194,23 @@ fn service_found<'a>(found: &ArgMatches<'a>) -> Option<Service>
 }
 
 /// Returns the service that is asked for, of one connection after the other or of many at once. `None` where a word for
-/// it is no such number, or says how many may be open at once for connections that are served one after the other.
+/// it is no such number, or says for connections that are served one after the other how many may be open at once or
+/// with how many places the service ends.
 fn serving_found<'a>(found: &ArgMatches<'a>) -> Option<Work<'a>>
     ensures asked { IfSome result (AsksForWork (codes "serve") (rows_of (found_of found.now))) }
     ensures taken { TakesService (rows_of (found_of found.now)) (IsSome result) }
 {
     let service = service_found(found)?;
     let clients = word(found, "clients");
+    let places = word(found, "places");
     match word(found, "together") {
-        Some(together) => Some(Work::ServeAtOnce(service, at_once_named(together, clients)?)),
-        None => match clients {
-            Some(_) => None,
-            None => Some(Work::Serve(service)),
+        Some(together) => {
+            let at_once = at_once_named(together, clients, places)?;
+            Some(Work::ServeAtOnce(service, at_once))
+        }
+        None => match (clients, places) {
+            (None, None) => Some(Work::Serve(service)),
+            _ => None,
         },
     }
 }

@@ -35,6 +35,8 @@ pub struct AtOnce {
     pub together: NonZeroUsize,
     /// How many connections may be open at once, where the words say that.
     pub clients: Option<NonZeroUsize>,
+    /// Where the words say that: once so many places of the desk are taken or set aside, nobody else is served.
+    pub places: Option<NonZeroUsize>,
 }
 
 /// How many connections may be open at once where the words say nothing.
