@@ -14,12 +14,14 @@ from support.programs import End
 
 CRATES = "# lowest first\nlow: thiserror\nside:\nmid: low itoa\nstockdesk: mid side low\nlow_tests: low\n"
 TABLE = "|crate|its proof|by the clock|\n|---|---|---|\n|`low`|9|120|\n|`side`|9|60|\n|`mid`|9|90|\n|`stockdesk`|9|240|\n"
-# fails where another run works in the same tree
+# fails where another run works in the same tree; notes which libraries are there, and makes one
 RT = """#!/bin/sh
 mkdir ../busy || exit 1
 sleep 0.2
 rmdir ../busy
 echo "${PWD##*/} $*" >>"$CALLS"
+for library in ../*/out/rlib; do [ -e "$library" ] && echo "${PWD##*/} $library" >>"$LIBRARIES"; done
+[ "$1" = lib ] && mkdir -p out/rlib && touch out/rlib/stamp
 if [ "$1" = try ]; then
     echo "${TRIED:-run=ended status=3 runners=1 proved=no}" >&2
     echo tried && exec cat
@@ -64,7 +66,14 @@ class Build(unittest.TestCase):
         """How the run of a script of the repository ends, and the crates for which rt was called, in order, each with the words
         for rt; the last call's tree is kept for the next."""
         calls = os.path.join(self.folder, "calls")
-        env = {**os.environ, "CALLS": calls, "REFUSED": "", "PATH": f"{self.folder}/{path}:/usr/bin:/bin", **settings}
+        env = {
+            **os.environ,
+            "CALLS": calls,
+            "LIBRARIES": os.path.join(self.folder, "libraries"),
+            "REFUSED": "",
+            "PATH": f"{self.folder}/{path}:/usr/bin:/bin",
+            **settings,
+        }
         command = [os.path.join(self.folder, words[0]), *words[1:]]
         run = subprocess.run(command, env=env, input=given, capture_output=True, timeout=60)
         begun = []
@@ -91,6 +100,14 @@ class Build(unittest.TestCase):
         self.assertIn("stockdesk: low, 1 of 4: proving; about 8 min left", lines)
         self.assertIn("stockdesk: stockdesk, 4 of 4: proving; about", told.decode())
         self.assertIn("stockdesk: proved in 1 min", lines)
+
+    def test_each_tree_has_the_libraries_that_were_proved(self) -> None:
+        self.build()
+        with open(os.path.join(self.folder, "libraries"), encoding="utf-8") as file:
+            found = set(file.read().splitlines())
+        self.assertLessEqual(
+            {"mid ../low/out/rlib", *(f"stockdesk ../{name}/out/rlib" for name in ["low", "mid", "side"])}, found
+        )
 
     def test_what_is_not_proved_is_told_and_nothing_above_it_begun(self) -> None:
         (status, out, told), begun = self.build(refused="mid")

@@ -1,5 +1,8 @@
 -- A service in rounds: what holds for the desk and for those who come, from the beginning of the service to its end.
-use Rattle.std.specs.Prelude.{◌≡◌, ◌<◌, ◌≤◌, false, true, ℕ, List, [], Option, Some, length, slice_get}
+use Rattle.std.specs.Prelude.{◌≡◌, ◌⊎◌, ◌+◌, ◌<◌, ◌≤◌, false, true, ℕ, IsSomeAnd, List, [], Option, Some, length, slice_get}
+use Rattle.std.specs.Int.NonZero.{non_zero_usize_get}
+use Rattle.std.specs.declared.num.NonZeroUsize.{NonZeroUsize}
+use Rattle.ledger.specs.Ledger.{Ledger, open_orders, places}
 use Rattle.keep.specs.declared.keep.Keep.{Ghosts}
 use Rattle.desk.specs.Deferred.{DeferredView, snapshot_off}
 use Rattle.desk.specs.Desk.{DeskView, IsStored, Snapshot}
@@ -24,6 +27,16 @@ pub record InService {K C S P T Q A : Type 0} (g : Speaks S P T Q A) (c : Listen
   pub loss : Option Loss
   pub kept : IsKept k loss desk
   pub serving : IsServing g c first loss start (snapshot_off desk) hub
+
+-- how many places are taken, or set aside for the ends of open orders
+abbrev pub taken : Ledger → ℕ
+taken A = places A + open_orders A
+
+-- A service that served so many connections has served enough: as many as it was to serve; or so many places are taken
+-- as it was to end at, and fewer were at its beginning.
+abbrev pub HasServedEnough : (connections : ℕ) → (most : Option NonZeroUsize) → (count : ℕ) → (old new : Ledger) → Type 0
+HasServedEnough connections most count old new = (count ≤ connections) × ((count ≡ connections)
+    ⊎ IsSomeAnd most (λ places. (taken old < non_zero_usize_get places) × (non_zero_usize_get places ≤ taken new)))
 
 -- So many connections came to the crowd, and were closed again. All their questions have one order, in which the
 -- answers led the desk from `old` to `new`. Each connection was heard on its own stream alone, and was told its

@@ -4,6 +4,7 @@
 
 mod clock;
 mod crowd;
+mod filling;
 mod hub;
 mod laws;
 mod line;

@@ -6,15 +6,17 @@ ghost use Rattle.desk.specs.Desk.{Snapshot};
 ghost use Rattle.rounds.specs.Crowds.{IsServing, listening_to};
 ghost use Rattle.rounds.specs.Lines.{speaks};
 ghost use Rattle.rounds.specs.Rounds.{Loss};
-ghost use Rattle.rounds.specs.Services.{HasServed, InService};
+ghost use Rattle.rounds.specs.Services.{HasServed, HasServedEnough, InService};
 
 use crate::clock::micros_since;
 use crate::crowd::Crowd;
+use crate::filling::{is_filled, still_free};
 use crate::hub::Hub;
 use desk::{Begin, Deferred, Desk};
 use keep::Keep;
 use std::alloc::Global;
 use std::io;
+use std::num::NonZeroUsize;
 use std::time::{Duration, Instant};
 use thiserror::Error;
 
@@ -36,6 +38,9 @@ pub struct Terms {
     pub clients: usize,
     /// How many questions are answered in a round, at the most.
     pub together: usize,
+    /// Where it is told: how many places of the desk are taken or set aside when the service ends, even if fewer
+    /// connections have come. A desk of which so many are taken at the beginning is served on.
+    pub places: Option<NonZeroUsize>,
 }
 
 /// Why a service has ended before its time.
@@ -104,8 +109,8 @@ impl<D: Begin + Drop, C: Crowd + Drop> Hub<D, C> {
         Ok(self.tell_all(rt.alloc()))
     }
 
-    /// Makes turns until so many connections have come and all have left again, or, where the desk is stopped, some
-    /// turns more.
+    /// Makes turns until so many connections have come and all have left again, or so many places are taken as the terms
+    /// say; or, where the desk is stopped, some turns more.
     fn serve<K: Keep>(
         &mut self,
         rt: &HostRuntime,
@@ -121,13 +126,14 @@ impl<D: Begin + Drop, C: Crowd + Drop> Hub<D, C> {
             → InService (speaks D.Dialogue C.Stream.Stream) (listening_to C.Crowd) K.Keep first start desk.new self.new }
         ensures within { self.new.places.connections ≤ terms.now.connections }
         ensures honest { K.is_honest desk.new.keep.keep → K.is_honest desk.old.keep.keep }
-        ensures all { OnOk result ((self.new.places.connections ≡ terms.now.connections)
-            × (desk.new.keep.stopped ≡ false)) }
+        ensures all { OnOk result (HasServedEnough terms.now.connections terms.now.places self.new.places.connections
+            desk.old.ledger desk.new.ledger × (desk.new.keep.stopped ≡ false)) }
         ensures stop { result ≡ Err ServiceFault.Stopped → IsTrue desk.new.keep.stopped }
     {
         let mut piece = [0; PIECE];
         let mut is_busy = true;
         let mut last = 0u32;
+        let most = still_free(terms.places, desk);
         for _turn in 0..u64::MAX {
             let Ok((is_open, more)) = self.turn(rt, terms, is_busy, &mut piece, desk) else {
                 return Err(ServiceFault::Crowd);
@@ -139,7 +145,7 @@ impl<D: Begin + Drop, C: Crowd + Drop> Hub<D, C> {
                 }
                 last += 1;
                 is_busy = true;
-            } else if !is_open && self.connections() == terms.connections {
+            } else if is_filled(most, desk) || (!is_open && self.connections() == terms.connections) {
                 return Ok(());
             } else if !is_open && REFUSED <= self.refused() {
                 return Err(ServiceFault::Memory);
@@ -150,8 +156,8 @@ impl<D: Begin + Drop, C: Crowd + Drop> Hub<D, C> {
 }
 
 /// Serves as many connections as the terms say, many at once, on a desk whose commits are put off. It serves them in
-/// rounds; each round is kept in one transaction before its answers are written. At the end all connections are closed,
-/// and the crowd is given back.
+/// rounds; each round is kept in one transaction before its answers are written. Once a round is kept behind which so
+/// many places are taken as the terms say, it ends. At the end all connections are closed, and the crowd is given back.
 ///
 /// `Memory` is returned where memory is refused before anything is begun, or again and again for somebody who waits
 /// while nobody is there; `Crowd` where the crowd fails; `Stopped` where a round could not be kept, which stops the
@@ -167,9 +173,10 @@ pub fn serve_rounds<D: Begin + Drop, C: Crowd + Drop, K: Keep>(
     requires goes { desk.old.keep.stopped ≡ false }
     requires settled { desk.old.keep.changes ≡ [] }
     requires clients { 1 ≤ terms.now.clients }
-    ensures whole { OnOk result.1 ((desk.new.keep.stopped ≡ false)
+    ensures whole { OnOk result.1 ((desk.new.keep.stopped ≡ false) × (count : ℕ)
+        × HasServedEnough terms.now.connections terms.now.places count desk.old.ledger desk.new.ledger
         × HasServed D.language C.Stream.remaining C.Stream.contents (listening_to C.Crowd) K.Keep
-        crowd result.0 terms.now.connections desk.old desk.new) }
+        crowd result.0 count desk.old desk.new) }
     ensures cut { OnErr result.1 ((count : ℕ) × (count ≤ terms.now.connections)
         × HasServed D.language C.Stream.remaining C.Stream.contents (listening_to C.Crowd) K.Keep
         crowd result.0 count desk.old desk.new) }

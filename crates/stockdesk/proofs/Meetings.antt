@@ -1,6 +1,7 @@
 -- Many connections at once: how their service ends, and what is found after it.
 use Rattle.std.proofs.Common.{◌≡◌, ◌≤◌, ◌⊎◌, ◌∙◌, ◌++◌, Bool, Err, IfErr, List, None, Ok, OnErr, OnOk, Option, Result}
 use Rattle.std.proofs.Common.{Some, ap, false, inl, inr, refl, subst, sym, true, true≢false, ℕ}
+use Rattle.std.specs.declared.num.NonZeroUsize.{NonZeroUsize}
 use Rattle.ledger.specs.Good.{Good}
 use Rattle.ledger.specs.Ledger.{Ledger}
 use Rattle.ledger.specs.Rows.{Content}
@@ -12,7 +13,7 @@ use Rattle.desk.specs.Headline.{LeavesRowsOf}
 use Rattle.desk.proofs.FoundAfter.{either_left, stored_left}
 use Rattle.rounds.specs.Histories.{AreRounds, order_of}
 use Rattle.rounds.specs.Rounds.{AreSaid, IsCutOnce, IsLeftBy, IsOneOrder, Loss}
-use Rattle.rounds.specs.Services.{HasMet, HasServed, IsKept}
+use Rattle.rounds.specs.Services.{HasMet, HasServed, HasServedEnough, IsKept}
 use Rattle.rounds.proofs.Orders.{one_order}
 use Rattle.rounds.proofs.Saying.{said_joined}
 use Rattle.web.specs.Web.{http}
@@ -99,18 +100,22 @@ module _ {K G T : Type 0} (k : Ghosts K) (g : Gathering G T) (first last : G) (I
   abbrev At : Ledger → DeskView K
   At A = record { ledger = A; keep = end.keep.keep }
 
+  -- the desk at the end of it, at that ledger
+  abbrev ClosedAt : Ledger → Type 0
+  ClosedAt A = Good A × StaysStored k (At A) × Meets g first IsSo (desk_state k desk) (desk_state k (At A))
+
   -- the desk at the end of it, by its ledger
   abbrev Closed : Type 0
-  Closed = (A : Ledger) × Good A × StaysStored k (At A) × Meets g first IsSo (desk_state k desk) (desk_state k (At A))
+  Closed = (A : Ledger) × ClosedAt A
 
   module _ (count : ℕ) where
     abbrev Met : Option Loss → Type 0
     Met loss = HasMet http g.remaining g.contents g.doors loss first last count (snapshot (desk_state k desk)) (snapshot_off end)
 
     goes_on : IsSo count None → end.keep.stopped ≡ false → (loss : Option Loss) → Met loss
-        → (k.is_honest end.keep.keep → IsStored (k.holds end.keep.keep) (k.leaves end.keep.keep) end.ledger) → Closed
+        → (k.is_honest end.keep.keep → IsStored (k.holds end.keep.keep) (k.leaves end.keep.keep) end.ledger)
+        → ClosedAt end.ledger
     goes_on so goes None met stored = (
-      end.ledger,
       good,
       λ still honest. stored honest,
       record {
@@ -170,7 +175,7 @@ module _ {K G T : Type 0} (k : Ghosts K) (g : Gathering G T) (first last : G) (I
 
     -- where it goes on nothing was lost
     closed_going : IsSo count None → end.keep.stopped ≡ false
-        → HasServed http g.remaining g.contents g.doors k first last count off end → Closed
+        → HasServed http g.remaining g.contents g.doors k first last count off end → ClosedAt end.ledger
     closed_going so goes served = goes_on so goes served.loss (met_from served) (served.kept.stored goes)
 
     closed : ((loss : Option Loss) → IsSo count loss)
@@ -178,7 +183,7 @@ module _ {K G T : Type 0} (k : Ghosts K) (g : Gathering G T) (first last : G) (I
     closed so served = by end.keep.stopped refl
       where
         by : (b : Bool) → end.keep.stopped ≡ b → Closed
-        by false goes = closed_going (so None) goes served
+        by false goes = (end.ledger, closed_going (so None) goes served)
         by true halted =
             let (loss, is, left) = served.kept.left halted in
             is_lost loss (so (Some loss)) halted (subst (λ (o : Option Loss). Met o) is (met_from served)) left
@@ -192,8 +197,8 @@ crowd_opens fault (inr (inr is)) none = not_unbegun fault _ is refl (inl none)
 abbrev failed : Fault → Result (Unit {0}) Fault
 failed fault = Err fault
 
-module _ {K G T : Type 0} (k : Ghosts K) (g : Gathering G T) (first last : G) (connections : ℕ) (desk : DeskView K)
-    (off end : DeskView (DeferredView K))
+module _ {K G T : Type 0} (k : Ghosts K) (g : Gathering G T) (first last : G) (connections : ℕ)
+    (places : Option NonZeroUsize) (desk : DeskView K) (off end : DeskView (DeferredView K))
     (ledger_is : off.ledger ≡ desk.ledger) (stopped_is : off.keep.stopped ≡ false) (was : k.stopped desk.keep ≡ false)
     (good : Good end.ledger) (going : end.keep.stopped ≡ false → k.stopped end.keep.keep ≡ false)
     (honest : k.is_honest end.keep.keep → k.is_honest desk.keep)
@@ -222,22 +227,27 @@ module _ {K G T : Type 0} (k : Ghosts K) (g : Gathering G T) (first last : G) (c
   pub crowd_ends : {E : Type 0} (ended : Result (Unit {0}) E) (told : Result (Unit {0}) Fault)
       → OnOk told (OnErr ended ⊥) → OnErr told (OnOk ended ⊥) → IfErr told IsCrowdFault
       → (told ≡ Err Fault.Store → stops ≡ true) → OnErr told (stops ≡ true → told ≡ Err Fault.Store)
-      → OnOk ended ((end.keep.stopped ≡ false) × HasServed http g.remaining g.contents g.doors k first last connections off end)
+      → OnOk ended ((end.keep.stopped ≡ false) × (count : ℕ)
+      × HasServedEnough connections places count off.ledger end.ledger
+      × HasServed http g.remaining g.contents g.doors k first last count off end)
       → OnErr ended ((count : ℕ) × (count ≤ connections)
       × HasServed http g.remaining g.contents g.doors k first last count off end)
-      → Ends k (end.keep.keep, told) desk (Meets g first (λ count loss. (count ≡ connections) × (loss ≡ None)))
+      → Ends k (end.keep.keep, told) desk (λ old new. Meets g first
+      (λ count loss. HasServedEnough connections places count old.ledger new.ledger × (loss ≡ None)) old new)
       (λ fault old new. IsCrowdFault fault × Meets g first (λ count loss. count ≤ connections) old new)
-  crowd_ends (Ok done) (Ok all) whole cut fault store still served part =
-      let (A, is, stored, meets) =
-      closed_going k g first last (λ count loss. (count ≡ connections) × (loss ≡ None)) desk off end ledger_is
-      stopped_is was good going connections (refl, refl) served.0 served.1 in (
-        A,
+  crowd_ends (Ok done) (Ok all) whole cut fault store still (goes, count, enough, served) part =
+      let so = subst (λ (A : Ledger). HasServedEnough connections places count A end.ledger) ledger_is enough in
+      let (is, stored, meets) =
+      closed_going k g first last
+      (λ count loss. HasServedEnough connections places count desk.ledger end.ledger × (loss ≡ None)) desk off end
+      ledger_is stopped_is was good going count (so, refl) goes served in (
+        end.ledger,
         record {
           whole = meets;
           cut = tt;
           desk = tt;
-          stop = record { stopped = λ e. absurd (cc e); going = λ other. going served.0 ∙ sym was };
-          goes = goes_so A is stored;
+          stop = record { stopped = λ e. absurd (cc e); going = λ other. going goes ∙ sym was };
+          goes = goes_so end.ledger is stored;
         },
       )
   crowd_ends (Err e) (Ok all) whole cut fault store still served part = absurd whole

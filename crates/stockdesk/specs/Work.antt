@@ -11,6 +11,7 @@ use Rattle.desk.specs.Script.{Writes, lines}
 use Rattle.desk.specs.Streams.{IsSilent, Streams}
 use Rattle.desk.specs.Text.{items_of}
 use Rattle.words.specs.declared.command.Request.{Request}
+use Rattle.rounds.specs.Services.{HasServedEnough}
 use Rattle.stockdesk.specs.Connections.{IsFoundAfterMany, IsFoundAfterService, ManyCut, ServesAll, ServesMany, ServiceCut}
 use Rattle.stockdesk.specs.Outside.{Outside}
 use Rattle.stockdesk.specs.Requests.{BlamesFileAt, FileCut, IsFileAt, RequestsAnswered}
@@ -25,7 +26,7 @@ use Rattle.command_line.specs.declared.work.Work.TheVariants.{Requests, Script, 
 -- The work is done, on a desk that was `old` before it and is `new` after it. All of the input was read, and its text
 -- written; or the requests of the file are answered; or the sheet was written, and the ledger is as it was; or the
 -- port was written, and as many connections as asked for that came there were served, one after the other or many at
--- once.
+-- once; or many at once until so many places were taken as were asked for.
 abbrev pub WorkDone : {C L R W G T : Type 0} → Outside C L R W G T → Work → (old new : DeskState) → Streams → Type 0
 WorkDone out Script old new s = EndsWhole lines old new s
 WorkDone out (Requests kind csv together) old new s = Keeps s.reader_old s.reader_new
@@ -35,8 +36,8 @@ WorkDone out (Sheet of) old new s = Keeps s.reader_old s.reader_new × (new.ledg
     × SheetWritten of old.ledger s.writer_old s.writer_new
 WorkDone out (Serve service) old new s = Keeps s.reader_old s.reader_new × ServesAll out service old new s
 WorkDone out (ServeAtOnce service at_once) old new s = Keeps s.reader_old s.reader_new
-    × ServesMany out service (λ count loss. (count ≡ service.connections) × (loss ≡ None)) old new
-    s.writer_old s.writer_new
+    × ServesMany out service (λ count loss. HasServedEnough service.connections at_once.places count old.ledger new.ledger
+    × (loss ≡ None)) old new s.writer_old s.writer_new
 
 -- the work is cut
 abbrev pub WorkCut : {C L R W G T : Type 0} → Outside C L R W G T → Work → Fault → (old new : DeskState) → Streams → Type 0

@@ -2,6 +2,7 @@
 
 ghost use Rattle.std.specs.Prelude.{◌≡◌, ◌≤◌, ◌⊎◌, false, true, Err, IfErr, IfNone, IfOk, IfSome, None, OnErr, OnOk};
 ghost use Rattle.std.specs.Int.NonZero.{non_zero_usize_get};
+ghost use Rattle.rounds.specs.Services.{HasServedEnough};
 ghost use Rattle.stockdesk.specs.Connections.{IsCrowdFault, Listens, ManyCut, Meets, PortCut, ServesMany};
 ghost use Rattle.stockdesk.specs.Outside.{gathering, outside};
 ghost use Rattle.stockdesk.specs.Work.{Ends};
@@ -43,8 +44,8 @@ fn serve_crowd<K: Keep, C: Crowd + Drop>(
     requires going { K.stopped desk.keep ≡ false }
     requires clients { 1 ≤ terms.now.clients }
     ensures { Ends K.Keep result desk
-        (Meets (gathering C.Crowd C.Stream.Stream) crowd
-        (λ count loss. (count ≡ terms.now.connections) × (loss ≡ None)))
+        (λ old new. Meets (gathering C.Crowd C.Stream.Stream) crowd (λ count loss.
+        HasServedEnough terms.now.connections terms.now.places count old.ledger new.ledger × (loss ≡ None)) old new)
         (λ fault old new. IsCrowdFault fault
         × Meets (gathering C.Crowd C.Stream.Stream) crowd
         (λ count loss. count ≤ terms.now.connections) old new) }
@@ -76,7 +77,8 @@ fn gather_at<M: Machine, W: Write>(
 }
 
 /// Serves as many connections as the service says, many at once, in rounds, on a desk of which the keeper comes back.
-/// What a round changes is kept together, and only then are its answers written. `Socket` says that the port could
+/// Where the words say with how many places it ends, it ends once so many are taken or set aside, unless as many were at
+/// the beginning. What a round changes is kept together, and only then are its answers written. `Socket` says that the port could
 /// not be had, or what tells which connections can be read and written. `Store` says that a round could not be kept,
 /// which stops the desk. `Memory` says that memory was refused for all connections at once; where it is refused for
 /// one connection, only that connection ends.
@@ -92,7 +94,8 @@ pub fn serve_at_once<K: Keep, M: Machine, W: Write>(
     ensures { Ends K.Keep result desk
         (λ old new. ServesMany (outside (M.opens machine.now) (M.listens machine.now) (M.gathers machine.now) M.Csv.Read M.Listener.Listen
         M.Listener.Reader.Read M.Listener.Writer.Write M.Crowd.Crowd M.Crowd.Stream.Stream) service.now
-        (λ count loss. (count ≡ service.now.connections) × (loss ≡ None)) old new
+        (λ count loss. HasServedEnough service.now.connections at_once.now.places count old.ledger new.ledger
+        × (loss ≡ None)) old new
         (W.contents writer.old) (W.contents writer.new))
         (λ fault old new. ManyCut (outside (M.opens machine.now) (M.listens machine.now) (M.gathers machine.now) M.Csv.Read M.Listener.Listen
         M.Listener.Reader.Read M.Listener.Writer.Write M.Crowd.Crowd M.Crowd.Stream.Stream) service.now fault old new
@@ -108,6 +111,7 @@ pub fn serve_at_once<K: Keep, M: Machine, W: Write>(
         connections: service.connections as usize,
         clients: at_once.most_clients(),
         together: at_once.together.get(),
+        places: at_once.places,
     };
     serve_crowd(rt, desk, crowd, &terms)
 }

@@ -31,14 +31,15 @@ returns-clause-whole g c =
     let closed =
     between talk listen g.K.Keep c.args.crowd start c.serve-ended.new.desk _ c.close_all.new.self
     c.close_all.ensures.served after in
+    let count = c.serve-ended.new.self.places.connections in
     on_ok c.serve-ended.result _ _ c.serve-ended.ensures.all (λ all. (
       all.1,
+      count,
+      all.0,
       subst (λ last. HasServed g.D.Dialogue.language g.C.Stream.Stream.remaining g.C.Stream.Stream.contents listen
-          g.K.Keep c.args.crowd last c.args.terms.now.connections c.args.desk.now c.serve-ended.new.desk)
-          (sym c.into_crowd.ensures)
-          (ended talk listen g.K.Keep c.args.crowd start c.args.desk.now c.serve-ended.new.desk c.close_all.new.self
-          c.args.terms.now.connections
-          (c.close_all.ensures.same.1 ∙ all.0) c.close_all.ensures.free closed),
+          g.K.Keep c.args.crowd last count c.args.desk.now c.serve-ended.new.desk) (sym c.into_crowd.ensures)
+          (ended talk listen g.K.Keep c.args.crowd start c.args.desk.now c.serve-ended.new.desk c.close_all.new.self count
+          c.close_all.ensures.same.1 c.close_all.ensures.free closed),
     ))
 
 pub returns-clause-cut : goal.returns-clause-cut

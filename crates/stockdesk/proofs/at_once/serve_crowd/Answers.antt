@@ -1,4 +1,5 @@
 use Rattle.std.proofs.Common.{◌≤◌, ◌≡◌, ◌∙◌, None, ap, subst, sym}
+use Rattle.rounds.specs.Services.{HasServedEnough}
 use Rattle.stockdesk.specs.Connections.{IsCrowdFault, Meets}
 use Rattle.stockdesk.specs.Outside.{gathering}
 use Rattle.stockdesk.specs.Work.{Ends}
@@ -9,14 +10,16 @@ pub returns : goal.returns
 returns g c =
     let crowd = gathering g.C.Crowd g.C.Stream.Stream in
     let most = c.args.terms.now.connections in
+    let places = c.args.terms.now.places in
     let end = c.serve_rounds-crowd.new.desk in
     let ended = c.told_as-ended.ensures in
     let same = c.into_inner-keep.ensures ∙ ap (λ d. d.keep) c.into_keep.ensures.keep in
     subst (λ keep. Ends g.K.Keep (keep, c.told_as-ended.result) c.args.desk
-    (Meets crowd c.args.crowd (λ count loss. (count ≡ most) × (loss ≡ None)))
+    (λ old new. Meets crowd c.args.crowd (λ count loss.
+    HasServedEnough most places count old.ledger new.ledger × (loss ≡ None)) old new)
     (λ fault old new. IsCrowdFault fault × Meets crowd c.args.crowd (λ count loss. count ≤ most) old new))
     (sym same)
-    (crowd_ends g.K.Keep crowd c.args.crowd c.serve_rounds-crowd.result.0 most c.args.desk c.defer-desk.result end
+    (crowd_ends g.K.Keep crowd c.args.crowd c.serve_rounds-crowd.result.0 most places c.args.desk c.defer-desk.result end
     c.defer-desk.ensures.ledger (c.defer-desk.ensures.stopped ∙ c.requires.going) c.requires.going
     c.is_kept.ensures.good c.is_kept.ensures.going
     (λ honest.
