@@ -8,7 +8,7 @@ import subprocess
 from support.cases import ProgramCase
 from support.messages import answer, message
 from support.programs import SECONDS, done, expect, expect_end, new_desk
-from support.service import NOT_CLIENTS, NOT_TOGETHER, TOGETHER, Service, answered
+from support.service import NOT_CLIENTS, NOT_PLACES, NOT_TOGETHER, TOGETHER, Service, answered
 
 COMMANDS = "POST /v1/commands"
 FIRST = '{"command":"field N1 A-1 0 100 40","key":"K1"}'
@@ -232,6 +232,7 @@ NO_NUMBERS = [
 NO_TOGETHER = [
     *[["--together", number] for number in NOT_TOGETHER],
     *[["--together", "1", "--clients", number] for number in NOT_CLIENTS],
+    *[["--together", "1", "--places", number] for number in NOT_PLACES],
 ]
 
 

@@ -24,7 +24,7 @@ from support.programs import (
     note,
     write_records,
 )
-from support.service import NOT_CLIENTS, NOT_TOGETHER
+from support.service import NOT_CLIENTS, NOT_PLACES, NOT_TOGETHER
 from support.tables import COLUMNS, KEYS, TYPES, rows_of, sqlite3
 
 ROUNDS = 50
@@ -44,6 +44,15 @@ CLIENTS = [
     *[["--together", "1", "--clients", number] for number in [*NOT_CLIENTS, "-1"]],
     ["--together", "1", "--clients"],
     ["--together", "1", "--clients", "1", "--clients", "1"],
+]
+
+# and for the places with which it ends
+PLACES = [
+    *[["--places", number] for number in ["1", *NOT_PLACES]],
+    *[["--together", "1", "--places", number] for number in [*NOT_PLACES, "-1"]],
+    ["--together", "1", "--places"],
+    ["--together", "1", "--places", "1", "--places", "1"],
+    ["--clients", "1", "--places", "1"],
 ]
 
 # words that ask for nothing that the program does
@@ -72,7 +81,7 @@ NO_TASK = [
     ["serve", "usage.db", "--port", "0", "--port", "0", "--connections", "1"],
     ["serve", "usage.db", "0", "--port", "0", "--connections", "1"],
     *[[word, "usage.db", "file.csv", *words] for word in ["orders", "deliveries", "bounds"] for words in TOGETHER],
-    *[["serve", "usage.db", "--port", "0", "--connections", "1", *words] for words in TOGETHER + CLIENTS],
+    *[["serve", "usage.db", "--port", "0", "--connections", "1", *words] for words in TOGETHER + CLIENTS + PLACES],
     ["serve", "usage.db", "--port", "0", "--together", "1"],
     ["serve", "usage.db", "--connections", "1", "--together", "1"],
     ["deliveries", "--together", "1", "usage.db"],
@@ -93,7 +102,7 @@ HELP = [
     (["bounds", "--help"], ["FILE", "CSV", "--together"]),
     (["sheet", "--help"], ["FILE", "BRANCH"]),
     (["article", "--help"], ["FILE", "ARTICLE"]),
-    (["serve", "--help"], ["FILE", "--port", "--connections", "--together", "--clients"]),
+    (["serve", "--help"], ["FILE", "--port", "--connections", "--together", "--clients", "--places"]),
     (["upgrade", "--help"], ["FILE"]),
     (["roll", "--help"], ["OLD", "NEW", "--keys"]),
 ]

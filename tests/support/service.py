@@ -19,7 +19,7 @@ JSON = "application/json"
 TOGETHER = ["--together", "1000"]
 # words that are no number of requests to be carried out together, and words that are no number of connections
 NO_NUMBERS = ["0", "x", "+1", "01", "", " 1", "1.0", "1_0", "99999999999999999999"]
-NOT_TOGETHER, NOT_CLIENTS = [*NO_NUMBERS, "1001"], [*NO_NUMBERS, "4001"]
+NOT_TOGETHER, NOT_CLIENTS, NOT_PLACES = [*NO_NUMBERS, "1001"], [*NO_NUMBERS, "4001"], [*NO_NUMBERS, "200001"]
 
 # a resource, and the limit on it
 Limit = tuple[int, int]
