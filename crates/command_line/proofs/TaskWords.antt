@@ -177,40 +177,82 @@ unfolding clap_on_literals
 gives_service_at_once name path service together None None p (ok, few, few_clients, few_places) =
     let at_once : AtOnce = record { together = together; clients = None; places = None } in
     gives name (codes "serve") serve.top (of_service_at_once path.now service at_once)
-    (InFile path (ServeAtOnce service at_once)) refl refl
-    (refl, refl, p, numbers service together ok few (λ port connections many.
-    (refl, refl, port, (refl, refl, connections, (refl, refl, many, tt))))) refl
-    (refl, (refl, (decimal (non_zero_usize_get together), refl, record {
-      together_is = (together, refl, refl, few.1);
-      clients_are = refl;
-      places_are = refl;
-    }), asked_for (rows_over (leaf serve.top) (of_service_at_once path.now service at_once)) service refl refl ok))
+    (InFile path (ServeAtOnce service at_once)) refl refl (
+      refl,
+      refl,
+      p,
+      numbers service together ok few (λ port connections many.
+          (refl, refl, port, (refl, refl, connections, (refl, refl, many, tt)))),
+    ) refl (
+      refl,
+      (
+        refl,
+        (
+          decimal (non_zero_usize_get together),
+          refl,
+          record {
+            together_is = (together, refl, refl, few.1);
+            clients_are = refl;
+            places_are = refl;
+          },
+        ),
+        asked_for (rows_over (leaf serve.top) (of_service_at_once path.now service at_once)) service refl refl ok,
+      ),
+    )
 gives_service_at_once name path service together (Some most) None p (ok, few, few_clients, few_places) =
     let clients : IsNoOption (decimal (non_zero_usize_get most)) =
     number_word (non_zero_usize_get most) (omega (arith, few_clients.1)) in
     let at_once : AtOnce = record { together = together; clients = Some most; places = None } in
     gives name (codes "serve") serve.top (of_service_at_once path.now service at_once)
-    (InFile path (ServeAtOnce service at_once)) refl refl
-    (refl, refl, p, numbers service together ok few (λ port connections many.
-    (refl, refl, port, (refl, refl, connections, (refl, refl, many, (refl, refl, clients, tt)))))) refl
-    (refl, (refl, (decimal (non_zero_usize_get together), refl, record {
-      together_is = (together, refl, refl, few.1);
-      clients_are = (most, refl, refl, few_clients.1);
-      places_are = refl;
-    }), asked_for (rows_over (leaf serve.top) (of_service_at_once path.now service at_once)) service refl refl ok))
+    (InFile path (ServeAtOnce service at_once)) refl refl (
+      refl,
+      refl,
+      p,
+      numbers service together ok few (λ port connections many.
+          (refl, refl, port, (refl, refl, connections, (refl, refl, many, (refl, refl, clients, tt))))),
+    ) refl (
+      refl,
+      (
+        refl,
+        (
+          decimal (non_zero_usize_get together),
+          refl,
+          record {
+            together_is = (together, refl, refl, few.1);
+            clients_are = (most, refl, refl, few_clients.1);
+            places_are = refl;
+          },
+        ),
+        asked_for (rows_over (leaf serve.top) (of_service_at_once path.now service at_once)) service refl refl ok,
+      ),
+    )
 gives_service_at_once name path service together None (Some last) p (ok, few, few_clients, few_places) =
     let places : IsNoOption (decimal (non_zero_usize_get last)) =
     number_word (non_zero_usize_get last) (omega (arith, few_places.1)) in
     let at_once : AtOnce = record { together = together; clients = None; places = Some last } in
     gives name (codes "serve") serve.top (of_service_at_once path.now service at_once)
-    (InFile path (ServeAtOnce service at_once)) refl refl
-    (refl, refl, p, numbers service together ok few (λ port connections many.
-    (refl, refl, port, (refl, refl, connections, (refl, refl, many, (refl, refl, places, tt)))))) refl
-    (refl, (refl, (decimal (non_zero_usize_get together), refl, record {
-      together_is = (together, refl, refl, few.1);
-      clients_are = refl;
-      places_are = (last, refl, refl, few_places.1);
-    }), asked_for (rows_over (leaf serve.top) (of_service_at_once path.now service at_once)) service refl refl ok))
+    (InFile path (ServeAtOnce service at_once)) refl refl (
+      refl,
+      refl,
+      p,
+      numbers service together ok few (λ port connections many.
+          (refl, refl, port, (refl, refl, connections, (refl, refl, many, (refl, refl, places, tt))))),
+    ) refl (
+      refl,
+      (
+        refl,
+        (
+          decimal (non_zero_usize_get together),
+          refl,
+          record {
+            together_is = (together, refl, refl, few.1);
+            clients_are = refl;
+            places_are = (last, refl, refl, few_places.1);
+          },
+        ),
+        asked_for (rows_over (leaf serve.top) (of_service_at_once path.now service at_once)) service refl refl ok,
+      ),
+    )
 gives_service_at_once name path service together (Some most) (Some last) p (ok, few, few_clients, few_places) =
     let clients : IsNoOption (decimal (non_zero_usize_get most)) =
     number_word (non_zero_usize_get most) (omega (arith, few_clients.1)) in
@@ -218,14 +260,28 @@ gives_service_at_once name path service together (Some most) (Some last) p (ok, 
     number_word (non_zero_usize_get last) (omega (arith, few_places.1)) in
     let at_once : AtOnce = record { together = together; clients = Some most; places = Some last } in
     gives name (codes "serve") serve.top (of_service_at_once path.now service at_once)
-    (InFile path (ServeAtOnce service at_once)) refl refl
-    (refl, refl, p, numbers service together ok few (λ port connections many.
-    (refl, refl, port, (refl, refl, connections, (refl, refl, many, (refl, refl, clients, (refl, refl, places, tt))))))) refl
-    (refl, (refl, (decimal (non_zero_usize_get together), refl, record {
-      together_is = (together, refl, refl, few.1);
-      clients_are = (most, refl, refl, few_clients.1);
-      places_are = (last, refl, refl, few_places.1);
-    }), asked_for (rows_over (leaf serve.top) (of_service_at_once path.now service at_once)) service refl refl ok))
+    (InFile path (ServeAtOnce service at_once)) refl refl (
+      refl,
+      refl,
+      p,
+      numbers service together ok few (λ port connections many.
+          (refl, refl, port, (refl, refl, connections, (refl, refl, many, (refl, refl, clients, (refl, refl, places, tt)))))),
+    ) refl (
+      refl,
+      (
+        refl,
+        (
+          decimal (non_zero_usize_get together),
+          refl,
+          record {
+            together_is = (together, refl, refl, few.1);
+            clients_are = (most, refl, refl, few_clients.1);
+            places_are = (last, refl, refl, few_places.1);
+          },
+        ),
+        asked_for (rows_over (leaf serve.top) (of_service_at_once path.now service at_once)) service refl refl ok,
+      ),
+    )
 
 gives_roll_over : (name : Text) (old new : Bor Text) (keys : Option ℕ)
     → IsRollOverToAsk (record { old = old; new = new; keys = keys })

@@ -180,7 +180,11 @@ fn at_once_named(together: &str, clients: Option<&str>, places: Option<&str>) ->
     let together = count_named(together, MAX_TOGETHER)?;
     let clients = most_asked(clients, MAX_CLIENTS)?;
     let places = most_asked(places, MAX_PLACES)?;
-    Some(AtOnce { together, clients, places })
+    Some(AtOnce {
+        together,
+        clients,
+        places,
+    })
 }
 
 /// Returns the port and the number of connections that are asked for; `None` where a word for them is no such number.

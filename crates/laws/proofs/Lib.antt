@@ -27,3 +27,4 @@ pub mod Filling
 pub mod Sides
 pub mod Meeting
 pub mod InBetween
+pub mod OtherSide

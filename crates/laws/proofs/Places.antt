@@ -109,7 +109,7 @@ places_grow : (A B : Ledger) (rs : List Request) (ps : List Reply) → Runs A rs
 places_grow A B rs ps run = along_any (λ M. places A ≤ places M)
     (λ M r p N h le. let more = places_step M N r p h in omega arith) A rs ps B run (omega arith)
 
-stays : (A B : Ledger) (rs : List Request) (ps : List Reply) (n : ℕ) → n ≤ places A → Runs A rs ps B
+pub stays : (A B : Ledger) (rs : List Request) (ps : List Reply) (n : ℕ) → n ≤ places A → Runs A rs ps B
     → kept_at B n ≡ kept_at A n
 stays A B rs ps n there run = (along_any (λ M. (n ≤ places M) × (kept_at M n ≡ kept_at A n))
     (λ M r p N h k. let more = places_step M N r p h in (omega arith, by M N r k.0 (steps M r p N h) ∙ k.1)) A rs ps B run

@@ -195,7 +195,7 @@ module _ (K : ℕ) (A : Ledger) (good : Good A) where
 
 -- ---- where one ledger stands for another, what is recent in it is recent in the other
 
-kept_self : (ks : List Kept) → IsStrictlySortedBy (slice_cmp nat_cmp) (map (λ k. k.key) ks)
+pub kept_self : (ks : List Kept) → IsStrictlySortedBy (slice_cmp nat_cmp) (map (λ k. k.key) ks)
     → Each (λ k. find (λ j. bytes_eq j.key k.key) ks ≡ Some k) ks
 unfolding IsStrictlySortedBy
 kept_self [] sorted = tt

@@ -24,4 +24,6 @@ pub use roll::{
     rolled_runs, rolled_stands, rolls_are_not_seen, rolls_in_between, rows_fill_a_new_desk,
     sides_stand, stands_stay,
 };
-pub use walk::{one_walk_finds_the_place, stopped_desks_find_where_to_go_on};
+pub use walk::{
+    a_roll_begins_the_log_anew, one_walk_finds_the_place, stopped_desks_find_where_to_go_on,
+};

@@ -145,7 +145,9 @@ impl<D: Begin + Drop, C: Crowd + Drop> Hub<D, C> {
                 }
                 last += 1;
                 is_busy = true;
-            } else if is_filled(most, desk) || (!is_open && self.connections() == terms.connections) {
+            } else if is_filled(most, desk)
+                || (!is_open && self.connections() == terms.connections)
+            {
                 return Ok(());
             } else if !is_open && REFUSED <= self.refused() {
                 return Err(ServiceFault::Memory);

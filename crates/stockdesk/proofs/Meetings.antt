@@ -137,31 +137,35 @@ module _ {K G T : Type 0} (k : Ghosts K) (g : Gathering G T) (first last : G) (I
         → IsLeftBy k end.keep.keep loss → Closed
     is_lost loss so halted met (inl (stops, either)) = (
       end.ledger,
-      good,
-      λ still. absurd (true≢false (sym stops ∙ still)),
-      record {
-        last = last;
-        count = count;
-        loss = Some loss;
-        is_so = so;
-        shown = snapshot_off end;
-        met = met;
-        ends = (halted, inl (λ i. record { ledger = end.ledger; is_stopped = (stops ∙ sym halted) i }, either));
-      },
+      (
+        good,
+        λ still. absurd (true≢false (sym stops ∙ still)),
+        record {
+          last = last;
+          count = count;
+          loss = Some loss;
+          is_so = so;
+          shown = snapshot_off end;
+          met = met;
+          ends = (halted, inl (λ i. record { ledger = end.ledger; is_stopped = (stops ∙ sym halted) i }, either));
+        },
+      ),
     )
     is_lost loss so halted met (inr (goes, good_before, stored)) = (
       loss.before,
-      good_before,
-      λ still honest. stored honest,
-      record {
-        last = last;
-        count = count;
-        loss = Some loss;
-        is_so = so;
-        shown = snapshot_off end;
-        met = met;
-        ends = (halted, inr (refl, goes));
-      },
+      (
+        good_before,
+        λ still honest. stored honest,
+        record {
+          last = last;
+          count = count;
+          loss = Some loss;
+          is_so = so;
+          shown = snapshot_off end;
+          met = met;
+          ends = (halted, inr (refl, goes));
+        },
+      ),
     )
 
     met_from : (served : HasServed http g.remaining g.contents g.doors k first last count off end) → Met served.loss
@@ -253,7 +257,7 @@ module _ {K G T : Type 0} (k : Ghosts K) (g : Gathering G T) (first last : G) (c
   crowd_ends (Err e) (Ok all) whole cut fault store still served part = absurd whole
   crowd_ends (Ok done) (Err e) whole cut fault store still served part = absurd cut
   crowd_ends (Err why) (Err e) whole cut fault store still served (count, few, has) =
-      let (A, is, stored, meets) =
+      let (A, (is, stored, meets)) =
       closed k g first last (λ count loss. count ≤ connections) desk off end ledger_is stopped_is was good going
       count (λ loss. few) has in (
         A,
