@@ -30,10 +30,10 @@ class Places(ProgramCase):
         return tables_of(self.path)["desk"][0].places
 
     def expect_done(self, service: Service, commands: dict[str, str]) -> None:
-        connection = service.connect()
-        for key, command in commands.items():
-            status, _, body = post(connection, key, command)
-            expect(status == 200, f"{key}: {status} {body}")
+        with contextlib.closing(service.connect()) as connection:
+            for key, command in commands.items():
+                status, _, body = post(connection, key, command)
+                expect(status == 200, f"{key}: {status} {body}")
 
     def test_it_ends_behind_the_command_that_takes_the_last_place(self) -> None:
         service = self.serve(TAKEN + 3)
@@ -52,8 +52,8 @@ class Places(ProgramCase):
 
     def test_what_is_refused_or_repeated_takes_no_place(self) -> None:
         service = self.serve(TAKEN + 1)
-        connection = service.connect()
-        found = [post(connection, key, command)[0] for key, command in [("X", "writeoff N1 A-1 1000"), BEFORE[0]]]
+        with contextlib.closing(service.connect()) as connection:
+            found = [post(connection, key, command)[0] for key, command in [("X", "writeoff N1 A-1 1000"), BEFORE[0]]]
         expect(found == [409, 200], f"{found}")
         self.expect_done(service, {"D": "deliver N1 A-1 1"})
         service.expect_end()
