@@ -30,7 +30,9 @@ class ReplicasSteps(ProgramCase):
     def test_a_machine_goes_on_wherever_it_was_stopped(self):
         from support.replica_walks import first_wrong
 
-        expect(not (wrong := first_wrong(LOGS)), wrong)
+        wrong, counts = first_wrong(LOGS)
+        expect(not wrong, wrong)
+        expect(counts["logs with rolls"] > LOGS // 6, f"few logs with rolls: {counts}")
 
     def test_marks_of_another_log_are_told(self):
         """A machine says so where another one told marks at which its own log has none; not where that one only is behind."""

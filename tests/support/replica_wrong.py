@@ -29,6 +29,22 @@ KEPT_OVER = """        if line in self.rows:
         return False
 """
 
+DUE = "is_due = revision == self.first and mark.keys is not None and mark.keys < self.walk.place"
+TOLD = """        await self.log.tell_mark(told)
+        await self.home.roll(keys)
+"""
+TOLD_AFTER = """        await self.home.roll(keys)
+        await self.log.tell_mark(told)
+"""
+MARKED = """        before = min(self.past.mark, revision - 1)
+        self.past.set_mark(revision)
+"""
+NOT_MARKED = """        before = min(self.past.mark, revision - 1)
+        self.past.set_mark(revision if keys is None else self.past.mark)
+"""
+TAKES_ROLL = "await self.set_mark(entry.revision, told.keys)"
+OWN_KEYS = "await self.set_mark(entry.revision, told.keys and self.sizes.keys)"
+
 # for each: how it is tried, its module, a part of that, and what is put in place of the part
 STEPS, WALKS = ("support.replica_steps", "150"), ("support.replica_walks", "2000")
 WRONG = {
@@ -43,6 +59,12 @@ WRONG = {
     "late lines count in the walk": (
         *(WALKS, "stockdesk_machine", TOLD_LATE, TOLD_LATE + "                self.walk.passes_over(line)\n"),
     ),
+    "a roll is not done at a start": (WALKS, "stockdesk_machine", DUE, "is_due = False"),
+    "a roll is told once it is done": (WALKS, "stockdesk_machine", TOLD, TOLD_AFTER),
+    "a desk rolled up is looked for at its old rows": (WALKS, "stockdesk_walk", "[*before, *behind]", "before"),
+    "a desk to be rolled up is looked for behind the roll": (WALKS, "stockdesk_walk", "[*before, *behind]", "behind or before"),
+    "each machine has keys of its own": (WALKS, "stockdesk_machine", TAKES_ROLL, OWN_KEYS),
+    "what was asked for before a roll counts behind it": (WALKS, "stockdesk_machine", MARKED, NOT_MARKED),
     "a row is taken by its key alone": (WALKS, "stockdesk_walk", SAME, "if key_of(self.rows[0]) == key_of(line):"),
 }
 
