@@ -91,15 +91,15 @@ class Machine:
 
     async def find_mark(self) -> None:
         """Begins at the newest mark at which a desk stood that had the first of this one's rows and no others, else where the log
-        does."""
-        self.revision = self.walk.go_to_mark(await self.log.marks())
-        self.first = self.revision or await self.log.first()
-        self.past.set_mark(self.revision)
+        does. The mark itself comes again, since it may be the end, or a roll that this desk has not done."""
+        mark = self.walk.go_to_mark(await self.log.marks())
+        self.first = mark or await self.log.first()
+        self.revision = max(0, mark - 1)
+        self.past.set_mark(mark)
 
     # ---- the log, carried out
 
     async def carry_out(self) -> None:
-        # the mark at which this begins comes again, since it may be the end; another machine may have set one meanwhile
         async for entry in self.log.follow(self.first):
             told = read_value(entry.value)
             if isinstance(told, Lines):
@@ -107,7 +107,7 @@ class Machine:
             elif isinstance(told, End):
                 await self.set_mark(entry.revision)
                 self.has_ended = True
-            elif isinstance(told, Begin) and self.revision == 0:
+            elif isinstance(told, Begin) and self.revision == self.past.mark == 0:
                 self.walk.begin(told.places, told.digest)
                 await self.set_mark(entry.revision)
             elif isinstance(told, Mark) and self.takes_mark(entry.revision, told):

@@ -43,7 +43,7 @@ async def start(options: argparse.Namespace) -> Machine:
 
 async def listen(options: argparse.Namespace, machine: Machine) -> None:
     """Serves HTTP once the desk stands where the log stood. Fault: the desk has what the log has not."""
-    began = machine.revision
+    began = machine.first
     while (head := await machine.log.head()) is None:
         pass
     await machine.reach(head)
