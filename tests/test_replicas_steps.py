@@ -2,6 +2,7 @@
 machine goes on wherever it was stopped. Both find wrong programs."""
 
 import os
+import time
 import unittest
 from importlib.util import find_spec
 
@@ -11,6 +12,11 @@ from support.replica_wrong import WRONG, play_wrong
 
 LACKING = [name for name in ["aiohttp", "etcd3", "grpc", "uvloop"] if find_spec(name) is None]
 CASES, LOGS = 100, 1_500
+
+
+def moment(time_of_day: str, day: int = 2) -> float:
+    """A moment of a day, by this machine's time."""
+    return time.mktime(time.strptime(f"2026-12-{day:02} {time_of_day}", "%Y-%m-%d %H:%M:%S"))
 
 
 @unittest.skipIf(LACKING, f"{', '.join(LACKING)} of Python not here")
@@ -26,6 +32,7 @@ class ReplicasSteps(ProgramCase):
         note(f"{CASES} cases: {counts}")
         expect(not wrong, "\n".join(wrong[:5]))
         expect(counts["places"] > 10 * CASES and counts["refused"] > 10 * CASES, "little was asked")
+        expect(counts["rolls"] > CASES, "there are few rolls")
 
     def test_a_machine_goes_on_wherever_it_was_stopped(self):
         from support.replica_walks import first_wrong
@@ -57,14 +64,65 @@ class ReplicasSteps(ProgramCase):
         """A machine passes over a word that the log does not have, and says so; the mark behind it counts."""
         from support.replica_walks import Entry, WrittenLog, said_on_the_way
 
-        values = [b"mark", b"mark xyz", b"End", b"mark 0" + b"0" * 99 + b"x", b"mark 007", b"mark 0"]
+        values = [b"mark", b"mark xyz", b"End", b"mark 0" + b"0" * 99 + b"x", b"roll 0", b"roll 0 0", b"end ", b"mark 007", b"mark 0"]
         log = WrittenLog([Entry(revision, value) for revision, value in enumerate(values, 2)])
         said = said_on_the_way(log).splitlines()
-        expect(len(said) == 4, f"{said}")
+        expect(len(said) == 7, f"{said}")
         for revision, line in enumerate(said, 2):
             text = f"passes over revision {revision}, which is no entry of the log: {values[revision - 2][:60]!r}"
             expect(line.endswith(text), f"{line}")
-        expect({mark.revision for mark in log.told} == {6}, f"{log.told}")
+        expect({mark.revision for mark in log.told} == {9}, f"{log.told}")
+
+    def test_one_of_two_rolls_at_once_counts(self):
+        """The second has a mark before the newest; and where no key would go, a roll is a mark alone."""
+        from support.replica_walks import Entry, ToldMark, WrittenLog, digest_of, said_on_the_way
+
+        lines = [b"F field N1 A-1 0 100 20", *(b"K%d deliver N1 A-1 1" % each for each in range(5))]
+        first, then = b"\n".join([b"lines a 1 0", *lines[:5]]), b"lines a 2 3\n" + lines[5]
+        log = WrittenLog([Entry(at, value) for at, value in enumerate([first, b"roll 0 2", b"roll 0 1", then, b"roll 3 3"], 2)])
+        expect(said_on_the_way(log) == "", "something is said")
+        before, rolled, behind = (digest_of(each).hex() for each in [lines[:5], lines[3:5], lines[3:]])
+        wanted = {ToldMark(3, "m1", 5, before, 2, rolled), ToldMark(6, "m1", 3, behind)}
+        expect(log.told == wanted, f"{log.told}")
+
+    def test_when_a_roll_is_wanted(self):
+        """From 190,000 places on, taken or set aside, and at night from 100,001 on; a quarter of the places is free behind it."""
+        from stockdesk_rolls import Sizes
+
+        sizes = Sizes(20_000, 190_000, 100_000)
+        for places, set_aside, is_night, want in [
+            (189_999, 0, False, None),
+            (190_000, 0, False, 100_000),
+            (150_000, 40_000, False, 100_000),
+            (140_000, 50_001, False, 99_999),
+            (130_000, 60_000, False, 90_000),
+            (100_001, 0, True, 100_000),
+            (100_000, 0, True, None),
+            (100_000, 100_000, False, 50_000),
+            (60_000, 90_000, True, None),
+            (60_001, 90_000, True, 60_000),
+        ]:
+            found = sizes.keys_for(places, set_aside, is_night)
+            expect(found == want, f"{places}, {set_aside}, {is_night}: {found}")
+
+    def test_one_roll_comes_each_night(self):
+        """Night is from 4:00 to 4:30; a machine that began in it, or has rolled its desk up in it, waits for the next one."""
+        from stockdesk_rolls import Nights
+
+        for began, now, want in [
+            ("03:59:59", "04:00:00", True),
+            ("03:00:00", "04:29:59", True),
+            ("03:00:00", "03:59:59", False),
+            ("03:00:00", "04:30:00", False),
+            ("04:00:00", "04:10:00", False),
+            ("04:29:59", "04:29:59", False),
+        ]:
+            found = Nights(moment(began)).is_night(moment(now))
+            expect(found == want, f"{began}, {now}: {found}")
+        nights = Nights(moment("03:00:00"))
+        nights.note(moment("04:05:00"))
+        expect(not nights.is_night(moment("04:06:00")), "a second roll in one night")
+        expect(nights.is_night(moment("04:06:00", day=3)), "no roll in the next night")
 
     def test_wrong_programs_are_found(self):
         for number, name in enumerate(WRONG):

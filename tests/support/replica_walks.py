@@ -21,7 +21,7 @@ from stockdesk_log import Entry, Log, ToldMark
 from stockdesk_machine import Machine
 from stockdesk_rolls import Sizes
 from stockdesk_tools import Fault
-from stockdesk_walk import Walk, link
+from stockdesk_walk import Walk, digest_of, link
 from support.replica_steps import answer_of, lines_of
 from support.rolls import rolled_desk
 from support.rows import rows_by
