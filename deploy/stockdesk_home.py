@@ -41,9 +41,10 @@ class Home:
 
     def take_second_name(self) -> None:
         """Takes from the file the name that a roll gave it which was killed: the program opens no file of two names."""
-        if os.stat(self.path).st_nlink != 1:
-            with tools.kept_shut(self.path):
-                tools.remove_second_name(self.path)
+        path = os.path.realpath(self.path)
+        if os.stat(path).st_nlink != 1:
+            with tools.kept_shut(path):
+                tools.remove_second_name(path)
 
     async def end(self) -> list[bytes]:
         """The rows of the desk, which ends, since its connections have. Fault: it does not end, or not well."""

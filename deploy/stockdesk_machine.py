@@ -249,10 +249,17 @@ class Machine:
             with contextlib.suppress(asyncio.TimeoutError):
                 await asyncio.wait_for(self.fills.wait(), LOOK_SECONDS)
             self.fills.clear()
-            mark, told = self.past.mark, json.loads((await self.shown("/v1/desk")).body)
-            keys = self.sizes.keys_for(told["places"], told["open"], self.nights.is_night())
-            if keys is not None and not self.has_ended:
+            mark, keys = self.past.mark, await self.keys_wanted()
+            if keys is not None:
                 await self.reach(await self.log.put(b"roll %d %d" % (mark, keys)))
+
+    async def keys_wanted(self) -> int | None:
+        """How many keys are to stay at a roll that this machine's desk wants now; None where it wants none."""
+        answer = await self.shown("/v1/desk")
+        if answer.status != 200 or self.has_ended:
+            return None
+        told = json.loads(answer.body)
+        return self.sizes.keys_for(told["places"], told["open"], self.nights.is_night())
 
     async def try_put(self, value: bytes) -> int | None:
         clock = asyncio.get_running_loop()

@@ -8,8 +8,9 @@ import stockdesk_rows as rows
 # so many places are taken or set aside behind a roll at the most: a quarter is free
 BEHIND = rows.PLACES * 3 // 4
 
-# the hour of the day at which the night begins, by this machine's time, and how long it lasts, in seconds
-NIGHT_HOUR, NIGHT_SECONDS = 4, 1_800
+# the hour of the day at which the night begins, by this machine's time; how long it lasts; and how long before it no roll may have
+# been done, since the clocks of others differ: in seconds
+NIGHT_HOUR, NIGHT_SECONDS, BEFORE_SECONDS = 4, 1_800, 3_600
 
 
 class Sizes(NamedTuple):
@@ -27,8 +28,8 @@ class Sizes(NamedTuple):
 
 
 class Nights:
-    """Whether it is night, and no roll was done this night since this machine began. So there is one each night, though each
-    command takes a place more than a roll has left."""
+    """Whether it is night, and no roll was done this night or shortly before. So there is one each night, though each command takes
+    a place more than a roll has left. A machine that has begun shortly before does not know, and leaves it to the others."""
 
     def __init__(self, now: float | None = None):
         self.last = 0.0
@@ -40,7 +41,8 @@ class Nights:
 
     def is_night(self, now: float | None = None) -> bool:
         moment = time.time() if now is None else now
-        return self.last < (begin := night_of(moment)) <= moment < begin + NIGHT_SECONDS
+        begin = night_of(moment)
+        return begin <= moment < begin + NIGHT_SECONDS and self.last < begin - BEFORE_SECONDS
 
 
 def night_of(now: float) -> float:

@@ -1,9 +1,8 @@
 """Tests of a desk on three machines. Processes are killed and stand still, ways are cut, disks are full or lost, and the desk is
 rolled up, while clients ask; then all machines have the same rows, and each answer is one that the rules give, in an order that
-time allows. In the
-environment REPLICAS_FAULTS says how many faults there are at the least, in as many lives of new machines as that takes, and
-REPLICAS_SEED which faults: `REPLICAS_FAULTS=1000 ./check tests replicas.Replicas` has 1,000. REPLICAS_KEEP names a folder; in it
-stays what the processes wrote in a life in which a fault was found."""
+time allows. In the environment REPLICAS_FAULTS says how many faults there are at the least, in as many lives of new machines as
+that takes, and REPLICAS_SEED which faults: `REPLICAS_FAULTS=1000 ./check tests replicas.Replicas` has 1,000. REPLICAS_KEEP names a
+folder; in it stays what the processes wrote in a life in which a fault was found."""
 
 import asyncio
 import itertools
@@ -30,7 +29,7 @@ CLIENTS, PAUSE = 12, 0.12
 # a mark stands behind so many lines, so there are many; and from so many places on the desk is rolled up, with so many keys: more
 # than are done while a client asks again
 MARK_LINES = 300
-ROLL_FROM, KEYS = 1_500, 1_200
+ROLL_FROM, KEYS = 700, 500
 # etcd reserves so many bytes for its log, twice
 DISK = 256 << 20
 # how many faults there are at the least, and after how many seconds all clients have their answers
@@ -123,6 +122,7 @@ class Replicas(ProgramCase):
         expect(not wrong, "\n".join([f"seed {SEED}, life {life}", *wrong[:10], *faults.told]))
         expect(count >= FAULTS or not machines.network.can_cut, f"only {count} faults: {faults.counts}")
         expect(counts["places"] > 300 and counts["refused"] > 300, f"little was asked: {counts}")
+        expect(counts.get("rolls", 0) > 4, f"there were few rolls: {counts}")
         shutil.rmtree(folder)
         return faults.faults()
 

@@ -106,20 +106,21 @@ class ReplicasSteps(ProgramCase):
             expect(found == want, f"{places}, {set_aside}, {is_night}: {found}")
 
     def test_one_roll_comes_each_night(self):
-        """Night is from 4:00 to 4:30; a machine that began in it, or has rolled its desk up in it, waits for the next one."""
+        """Night is from 4:00 to 4:30; a machine that began in it or in the hour before, or then rolled its desk up, waits for the
+        next one."""
         from stockdesk_rolls import Nights
 
         for began, now, want in [
-            ("03:59:59", "04:00:00", True),
-            ("03:00:00", "04:29:59", True),
-            ("03:00:00", "03:59:59", False),
-            ("03:00:00", "04:30:00", False),
-            ("04:00:00", "04:10:00", False),
+            ("02:59:59", "04:00:00", True),
+            ("00:00:00", "04:29:59", True),
+            ("02:00:00", "03:59:59", False),
+            ("02:00:00", "04:30:00", False),
+            ("03:00:00", "04:00:00", False),
             ("04:29:59", "04:29:59", False),
         ]:
             found = Nights(moment(began)).is_night(moment(now))
             expect(found == want, f"{began}, {now}: {found}")
-        nights = Nights(moment("03:00:00"))
+        nights = Nights(moment("00:00:00"))
         nights.note(moment("04:05:00"))
         expect(not nights.is_night(moment("04:06:00")), "a second roll in one night")
         expect(nights.is_night(moment("04:06:00", day=3)), "no roll in the next night")
