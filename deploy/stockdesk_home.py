@@ -14,8 +14,9 @@ from stockdesk_walk import kept_lines
 
 ROLLOVER = os.path.join(os.path.dirname(os.path.realpath(__file__)), "stockdesk-rollover")
 
-# how long a desk may take to end whose connections are closed, in seconds
-END_SECONDS = 60
+# how long a desk may take to end whose connections are closed; and how long a machine waits behind a roll that failed, so that its
+# unit does not start it so often that it stays down: in seconds
+END_SECONDS, FAILED_SECONDS = 60, 10
 
 
 class Home:
@@ -63,6 +64,7 @@ class Home:
         words = [sys.executable, ROLLOVER, self.path, "--keys", str(keys), "--program", self.program]
         status = await asyncio.to_thread(stockdesk_desk.tied(words, self.held).wait)
         if status != 0:
+            await asyncio.sleep(FAILED_SECONDS)
             raise Fault(f"the desk is not rolled up: status {status}")
 
 
