@@ -125,6 +125,25 @@ class ReplicasSteps(ProgramCase):
         expect(not nights.is_night(moment("04:06:00")), "a second roll in one night")
         expect(nights.is_night(moment("04:06:00", day=3)), "no roll in the next night")
 
+    def test_answers_that_fit_no_roll_are_found(self):
+        """Ten commands one after the other, at places that two rolls have lowered to three; then other answers and other rolls."""
+        from support.replica_judged import rolled_life, wrong_with
+
+        expect(wrong_with() == [], "a right life is wrong")
+        key = '{"command":"field N1 A-1 0 100 20","place":1}'
+        for changes, want in [
+            ({"replies": {2: "done 1"}}, "no ledger from 2 to 3 explains K1 deliver N1 A-1 1: done 1"),
+            ({"replies": {9: "done 10"}}, "no ledger from 9 to 10 explains K8 deliver N1 A-1 1: done 10"),
+            ({"replies": {9: "done 11"}}, "is not kept: K8 deliver N1 A-1 1: done 11"),
+            ({"views": [(30, 200, key)]}, f"no ledger from 10 to 10 explains /v1/keys/F: 200 {key}"),
+            ({"views": [(5, 404, '{"error":"none"}')]}, 'no ledger from 2 to 3 explains /v1/keys/F: 404 {"error":"none"}'),
+            ({"olds": [rolled_life().olds[0][:-1]]}, "3 desks were rolled up, 2 of them one behind the other"),
+        ]:
+            found = wrong_with(**changes)
+            expect(found and found[0] == want, f"{changes}: {found}")
+        # the moment of the first roll lies between these answers, and both sides of it are answers
+        expect(wrong_with(views=[(9.5, 200, key), (9.5, 404, '{"error":"none"}')]) == [], "a right view is wrong")
+
     def test_wrong_programs_are_found(self):
         for number, name in enumerate(WRONG):
             with self.subTest(name):
