@@ -113,6 +113,8 @@ class Replicas(ProgramCase):
                 machines.down()
             tables, olds = machines.tables(), [rows_of(path) for each in MACHINES for path in machines.olds(each)]
         wrong, counts = judged(history, tables, olds)
+        # at each mark and roll the machines have compared their digests
+        wrong += [line for each in MACHINES for line in machines.said("replica", each) if "differs" in line]
         count = faults.count()
         note(f"{count} faults in {time.monotonic() - began:.0f} s, {counts}")
         if not machines.network.can_cut:

@@ -231,20 +231,27 @@ def odd_rows(desk: Rules, rows: list[str]) -> list[str]:
     return [f"rows that the rules do not have: {odd[:4]}"] if odd else []
 
 
+def rolled_at(desk: Rules, rolls: Iterable[Roll]) -> tuple[list[Rules], list[str]]:
+    """The desk, and the one behind each of these rolls, one behind the other; and rows before them that the rules do not have."""
+    desks, wrong = [desk], list[str]()
+    for roll in rolls:
+        wrong += odd_rows(desks[-1], roll.rows)
+        desks.append(rolled_desk(desks[-1], roll.keys))
+    return desks, wrong
+
+
 def wrong_answers(history: History, life: Life, windows: Windows, rows: list[str]) -> list[str]:
     """Answers that the rules do not give, and rows that the rules do not have."""
-    desks, explained = [Rules()], Explained(history, windows, bool(life.rolls))
-    wrong, rolls = explained.look(0, desks), life.rolls
+    desk, explained = Rules(), Explained(history, windows, bool(life.rolls))
+    wrong = explained.look(0, [desk])
     for place, (key, command) in enumerate(life.kept, 1):
-        desks = desks[-1:]
-        if (said := desks[0].reply(f"{key} {command}")) != f"{key} done {len(desks[0].kept) + 1}":
+        if (said := desk.reply(f"{key} {command}")) != f"{key} done {len(desk.kept) + 1}":
             return [*wrong, f"at place {place} the rules answer {said}"]
-        desks[0].carry_out(key, command)
-        for roll in [each for each in rolls if each.place == place]:
-            wrong += odd_rows(desks[-1], roll.rows)
-            desks.append(rolled_desk(desks[-1], roll.keys))
-        wrong += explained.look(place, desks)
-    return wrong + odd_rows(desks[-1], rows)
+        desk.carry_out(key, command)
+        desks, odd = rolled_at(desk, [roll for roll in life.rolls if roll.place == place])
+        wrong += odd + explained.look(place, desks)
+        desk = desks[-1]
+    return wrong + odd_rows(desk, rows)
 
 
 def judged(
