@@ -15,7 +15,8 @@ from typing import Any
 from stockdesk_desk import Answer, Desk, Tell, command_message
 from stockdesk_home import Home
 from stockdesk_log import Begin, End, Lines, Log, Mark, ToldMark, read_value, value_of
-from stockdesk_rolls import Nights, Sizes
+from stockdesk_rolls import Rests, Sizes
+from stockdesk_rows import Counts
 from stockdesk_tools import Fault, say
 from stockdesk_walk import Past, Walk, digest_of
 
@@ -64,7 +65,7 @@ class Machine:
 
     def __init__(self, name: str, log: Log, walk: Walk, desk: Desk, home: Home, sizes: Sizes):
         self.name, self.log, self.walk, self.desk, self.home, self.sizes = name, log, walk, desk, home, sizes
-        self.past, self.nights = Past(), Nights()
+        self.past, self.rests = Past(), Rests()
         self.run = uuid.uuid4().hex[:8].encode()
         # how many lines stand behind the last mark, and behind the last look at the desk
         self.revision, self.first, self.lines, self.unseen, self.has_ended = 0, 0, 0, 0, False
@@ -185,7 +186,7 @@ class Machine:
         self.walk = Walk(rows)
         if self.walk.go_to_mark([told]) == 0 or self.walk.rows:
             raise Fault(f"the desk that was rolled up at {told.revision} has other rows than the last {keys}")
-        self.nights.note()
+        self.rests.note()
         self.serves.set()
         return told
 
@@ -259,7 +260,8 @@ class Machine:
         if answer.status != 200 or self.has_ended:
             return None
         told = json.loads(answer.body)
-        return self.sizes.keys_for(told["places"], told["open"], self.nights.is_night())
+        counts = Counts(told["places"], told["open"], told["fields"], told["orders"])
+        return self.sizes.keys_for(counts, self.rests.at())
 
     async def try_put(self, value: bytes) -> int | None:
         clock = asyncio.get_running_loop()

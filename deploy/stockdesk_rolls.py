@@ -8,9 +8,14 @@ import stockdesk_rows as rows
 # so many places are taken or set aside behind a roll at the most: a quarter is free
 BEHIND = rows.PLACES * 3 // 4
 
-# the hour of the day at which the night begins, by this machine's time; how long it lasts; and how long before it no roll may have
-# been done, since the clocks of others differ: in seconds
-NIGHT_HOUR, NIGHT_SECONDS, BEFORE_SECONDS = 4, 1_800, 3_600
+# from so many orders on a roll makes room for others, at night and at any time, where half of them have ended
+HALF_OF_ORDERS, MOST_ORDERS = rows.ORDERS // 2, rows.ORDERS * 19 // 20
+
+# the hour of the day at which the night begins, by this machine's time, and how long it lasts, in seconds
+NIGHT_HOUR, NIGHT_SECONDS = 4, 1_800
+# how long before a roll for orders, or one at night, no other may have been done: the clocks of other machines differ, and a roll
+# may have made little room for orders
+REST_SECONDS = 3_600
 
 
 class Sizes(NamedTuple):
@@ -21,15 +26,29 @@ class Sizes(NamedTuple):
     roll_from: int
     keys: int
 
-    def keys_for(self, places: int, set_aside: int, is_night: bool) -> int | None:
-        """How many keys are to stay at a roll of a desk with so many places; None where no roll is wanted, or no key would go."""
-        keys = max(1, min(self.keys, BEHIND - set_aside))
-        return keys if keys < places and (is_night or places + set_aside >= self.roll_from) else None
+    def keys_for(self, counts: rows.Counts, rest: "Rest") -> int | None:
+        """How many keys are to stay at a roll of a desk that is so full; None where no roll is wanted. At least one goes."""
+        keys = max(1, min(self.keys, BEHIND - counts.set_aside))
+        is_full = rest.is_night or counts.places + counts.set_aside >= self.roll_from
+        wants_places, wants_orders = keys < counts.places and is_full, rest.wants_orders(counts) and counts.places > 1
+        return min(keys, counts.places - 1) if wants_places or wants_orders else None
 
 
-class Nights:
-    """Whether it is night, and no roll was done this night or shortly before. So there is one each night, though each command takes
-    a place more than a roll has left. A machine that has begun shortly before does not know, and leaves it to the others."""
+class Rest(NamedTuple):
+    """What a moment allows: whether no roll was done for long, and whether it is night, too."""
+
+    is_long: bool
+    is_night: bool
+
+    def wants_orders(self, counts: rows.Counts) -> bool:
+        """Whether there are so many orders now that a roll is wanted, and half of them would go."""
+        least = HALF_OF_ORDERS if self.is_night else MOST_ORDERS
+        return self.is_long and counts.orders >= least and 2 * counts.set_aside <= counts.orders
+
+
+class Rests:
+    """How long ago the last roll was done. So there is one each night, though each command takes a place more than a roll has
+    left. A machine that has begun a short time ago does not know, and leaves it to the others."""
 
     def __init__(self, now: float | None = None):
         self.last = 0.0
@@ -39,10 +58,11 @@ class Nights:
         """A roll was done now."""
         self.last = time.time() if now is None else now
 
-    def is_night(self, now: float | None = None) -> bool:
+    def at(self, now: float | None = None) -> Rest:
         moment = time.time() if now is None else now
         begin = night_of(moment)
-        return begin <= moment < begin + NIGHT_SECONDS and self.last < begin - BEFORE_SECONDS
+        is_night = begin <= moment < begin + NIGHT_SECONDS and self.last < begin - REST_SECONDS
+        return Rest(self.last < moment - REST_SECONDS, is_night)
 
 
 def night_of(now: float) -> float:

@@ -86,44 +86,56 @@ class ReplicasSteps(ProgramCase):
         expect(log.told == wanted, f"{log.told}")
 
     def test_when_a_roll_is_wanted(self):
-        """From 190,000 places on, taken or set aside, and at night from 100,001 on; a quarter of the places is free behind it."""
-        from stockdesk_rolls import Sizes
+        """From 190,000 places on, taken or set aside, and at night from 100,001 on; a quarter of the places is free behind it. From
+        95,000 orders on, and at night from 50,000 on, where half of them have ended and no roll was done for an hour. A key goes."""
+        from stockdesk_rolls import Rest, Sizes
+        from stockdesk_rows import Counts
 
-        sizes = Sizes(20_000, 190_000, 100_000)
-        for places, set_aside, is_night, want in [
-            (189_999, 0, False, None),
-            (190_000, 0, False, 100_000),
-            (150_000, 40_000, False, 100_000),
-            (140_000, 50_001, False, 99_999),
-            (130_000, 60_000, False, 90_000),
-            (100_001, 0, True, 100_000),
-            (100_000, 0, True, None),
-            (100_000, 100_000, False, 50_000),
-            (60_000, 90_000, True, None),
-            (60_001, 90_000, True, 60_000),
+        sizes, busy, day, night = Sizes(20_000, 190_000, 100_000), Rest(False, False), Rest(True, False), Rest(True, True)
+        for places, set_aside, orders, rest, want in [
+            (189_999, 0, 0, day, None),
+            (190_000, 0, 0, day, 100_000),
+            (190_000, 0, 0, busy, 100_000),
+            (150_000, 40_000, 40_000, busy, 100_000),
+            (140_000, 50_001, 50_001, day, 99_999),
+            (130_000, 60_000, 60_000, day, 90_000),
+            (100_001, 0, 0, night, 100_000),
+            (100_000, 0, 0, night, None),
+            (100_000, 100_000, 100_000, day, 50_000),
+            (60_000, 90_000, 90_000, night, None),
+            (60_001, 90_000, 90_000, night, 60_000),
+            (97_000, 10, 94_999, day, None),
+            (97_000, 10, 95_000, day, 96_999),
+            (97_000, 10, 95_000, busy, None),
+            (120_000, 47_500, 95_000, day, 100_000),
+            (120_000, 47_501, 95_000, day, None),
+            (60_000, 25_000, 50_000, night, 59_999),
+            (60_000, 25_001, 50_000, night, None),
+            (60_000, 10, 49_999, night, None),
         ]:
-            found = sizes.keys_for(places, set_aside, is_night)
-            expect(found == want, f"{places}, {set_aside}, {is_night}: {found}")
+            found = sizes.keys_for(Counts(places, set_aside, 0, orders), rest)
+            expect(found == want, f"{places}, {set_aside}, {orders}, {rest}: {found}")
 
     def test_one_roll_comes_each_night(self):
         """Night is from 4:00 to 4:30; a machine that began in it or in the hour before, or then rolled its desk up, waits for the
         next one."""
-        from stockdesk_rolls import Nights
+        from stockdesk_rolls import Rests
 
         for began, now, want in [
-            ("02:59:59", "04:00:00", True),
-            ("00:00:00", "04:29:59", True),
-            ("02:00:00", "03:59:59", False),
-            ("02:00:00", "04:30:00", False),
-            ("03:00:00", "04:00:00", False),
-            ("04:29:59", "04:29:59", False),
+            ("02:59:59", "04:00:00", (True, True)),
+            ("00:00:00", "04:29:59", (True, True)),
+            ("02:00:00", "03:59:59", (True, False)),
+            ("02:00:00", "04:30:00", (True, False)),
+            ("03:00:00", "04:00:00", (False, False)),
+            ("03:10:00", "04:20:00", (True, False)),
+            ("04:29:59", "04:29:59", (False, False)),
         ]:
-            found = Nights(moment(began)).is_night(moment(now))
+            found = Rests(moment(began)).at(moment(now))
             expect(found == want, f"{began}, {now}: {found}")
-        nights = Nights(moment("00:00:00"))
-        nights.note(moment("04:05:00"))
-        expect(not nights.is_night(moment("04:06:00")), "a second roll in one night")
-        expect(nights.is_night(moment("04:06:00", day=3)), "no roll in the next night")
+        rests = Rests(moment("00:00:00"))
+        rests.note(moment("04:05:00"))
+        expect(rests.at(moment("04:06:00")) == (False, False), "a second roll in one night")
+        expect(rests.at(moment("04:06:00", day=3)) == (True, True), "no roll in the next night")
 
     def test_answers_that_fit_no_roll_are_found(self):
         """Ten commands one after the other, at places that two rolls have lowered to three; then other answers and other rolls."""
