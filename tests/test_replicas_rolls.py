@@ -19,8 +19,10 @@ from support.tables import tables_of
 FIRST = ["F field N1 A-1 0 1000 500", "O open 7 60 take N1 A-1 5", "P open 8 60 take N1 A-1 2", "Q commit 8"]
 OLD_NAME = "old-20260101T000000Z.db"
 
-# a program that stands still before it does what the file `hold` names, as long as that file is there
+# a program that stands still before it does what the file `hold` names, as long as that file is there; and fails to roll while the
+# file `fail` is there
 HELD_PROGRAM = """#!/bin/sh
+[ "$1" != roll ] || [ ! -e {folder}/fail ] || exit 1
 if [ "$1" = "$(cat {folder}/hold 2>/dev/null)" ]; then
     touch {folder}/held
     while [ -e {folder}/hold ]; do sleep 0.02; done
@@ -142,7 +144,8 @@ class ReplicasRolls(LifeCase):
         expect(len(machines.olds(2)) == 2, "other rolls of the copy")
 
     def test_a_machine_that_is_stopped_amid_its_roll_goes_on(self):
-        """The third machine is killed before its new desk is made, and before that serves; at last it has two names."""
+        """The third machine is killed before its new desk is made, and before that serves. At last its roll fails, and then the old
+        desk has two names."""
         lines = [*FIRST, *delivered("A", 5), *delivered("B", 5), *delivered("C", 5)]
         held = os.path.join(self.folder, "held-program")
         with open(held, "w", encoding="utf-8") as file:
@@ -156,8 +159,7 @@ class ReplicasRolls(LifeCase):
             await fill(machines, MACHINES, lines[9:14], 5)
             await self.kill_amid(machines, held, "serve", machines.olds(3))
             await fill(machines, MACHINES, lines[14:], 5)
-            await machines.stop("replica", 3)
-            await add(machines, "roll {} 4", 1, 2)
+            await self.fail(machines, held)
             os.link(machines.desk(3), os.path.join(os.path.dirname(machines.desk(3)), OLD_NAME))
             machines.start("replica", 3)
             await well(machines)
@@ -167,14 +169,30 @@ class ReplicasRolls(LifeCase):
 
         self.expect_alike(self.run_machines(live), lines[-4:])
 
+    async def fail(self, machines: Machines, held: str) -> None:
+        """The third machine's program fails to roll, and so the machine ends, and has its old desk; the others go on."""
+        await self.start_with(machines, held)
+        with open(os.path.join(self.folder, "fail"), "w", encoding="ascii"):
+            pass
+        await add(machines, "roll {} 4", *MACHINES)
+        status, said = await ended(machines, "replica", 3)
+        expect(status == 1 and "the desk is not rolled up" in said, f"{status}: {said}")
+        await expect_places(machines, 4, 1, 2)
+        expect(tables_of(machines.desk(3))["desk"][0].places == 9, "the desk is another one")
+
+    async def start_with(self, machines: Machines, program: str) -> None:
+        """The third machine begins again with this program."""
+        right = machines.program
+        await machines.stop("replica", 3)
+        machines.program = program
+        machines.start("replica", 3)
+        machines.program = right
+        await well(machines)
+
     async def kill_amid(self, machines: Machines, held: str, word: str, olds: list[str]) -> None:
         """Kills the third machine as its program is to do this at a roll that leaves four keys; before, it has these old files."""
-        program, hold = machines.program, os.path.join(self.folder, "hold")
-        await machines.stop("replica", 3)
-        machines.program = held
-        machines.start("replica", 3)
-        machines.program = program
-        await well(machines)
+        hold = os.path.join(self.folder, "hold")
+        await self.start_with(machines, held)
         with open(hold, "w", encoding="ascii") as file:
             file.write(word)
         await add(machines, "roll {} 4", *MACHINES)
