@@ -55,7 +55,7 @@ class Faults:
         """The desks are rolled up; a moment later this part of a machine is killed, amid it or not."""
         machine, kind = self.random.choice(MACHINES), f"roll, and kill {part}" if part else "roll"
         with contextlib.suppress(Failed):
-            await asyncio.to_thread(self.machines.add_roll, machine, self.machines.keys)
+            await asyncio.to_thread(self.machines.add_roll, machine)
             self.note(kind, str(machine))
         await asyncio.sleep(self.random.uniform(0, 1))
         if part:

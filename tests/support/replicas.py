@@ -223,11 +223,10 @@ class Machines:
         keys = [key.split("/")[-2:] for key in lines[::2]]
         return {(int(revision), name): value for (revision, name), value in zip(keys, lines[1::2], strict=True)}
 
-    def add_roll(self, machine: int, keys: int) -> int:
-        """Adds a roll to the log, as an operator does, by a machine's member of etcd. Returns the mark before it."""
+    def add_roll(self, machine: int) -> None:
+        """Adds a roll to the log, as an operator does, by a machine's member of etcd."""
         newest = max((revision for revision, _ in self.marks(machine)), default=0)
-        self.etcdctl(machine, "put", f"{self.log}/log", f"roll {newest} {keys}")
-        return newest
+        self.etcdctl(machine, "put", f"{self.log}/log", f"roll {newest} {self.keys}")
 
     async def begin_log(self) -> None:
         """Has the log begin with the first machine's desk."""
