@@ -5,10 +5,13 @@ import asyncio
 import hashlib
 import json
 import os
+import random
 import shutil
+from collections import Counter
 from collections.abc import Callable, Iterable
 
-from support.programs import expect
+from support.chance import SEED, TIMES
+from support.programs import expect, note
 from support.replica_lives import SECONDS, LifeCase, all_told, ended, shown, told, well
 from support.replica_network import MACHINES
 from support.replica_wrong import changed_tools
@@ -18,6 +21,8 @@ from support.tables import tables_of
 # an order that stays open, and one that ends; and a name for a file that a roll leaves
 FIRST = ["F field N1 A-1 0 1000 500", "O open 7 60 take N1 A-1 5", "P open 8 60 take N1 A-1 2", "Q commit 8"]
 OLD_NAME = "old-20260101T000000Z.db"
+# how often a machine is killed at some moment of a roll
+KILLS = 8
 
 # a program that stands still before it does what the file `hold` names, as long as that file is there; and fails to roll while the
 # file `fail` is there
@@ -205,12 +210,36 @@ class ReplicasRolls(LifeCase):
         await well(machines)
         await expect_places(machines, 4, *MACHINES)
 
+    def test_a_machine_is_killed_at_any_moment_of_a_roll(self):
+        """The third machine is killed up to a second after a roll was added, again and again."""
+        count, sides = KILLS * TIMES, Counter[str]()
+
+        async def live(machines: Machines) -> None:
+            moments = random.Random(SEED)
+            await self.begin(machines)
+            await fill(machines, [1, 2], FIRST)
+            for number in range(count):
+                await fill(machines, MACHINES, delivered(f"L{number}-", 3), 5)
+                machines.add_roll(1)
+                await asyncio.sleep(moments.uniform(0, 1))
+                await machines.stop("replica", 3)
+                sides["behind the roll" if len(machines.olds(3)) > number else "before it"] += 1
+                machines.start("replica", 3)
+                await well(machines)
+                await expect_places(machines, 4, *MACHINES)
+            expect([len(machines.olds(each)) for each in MACHINES] == [count] * 3, "other rolls")
+            expect(len(set(machines.told(1).values())) == count + 1, "some stand elsewhere")
+
+        last = [*delivered(f"L{count - 2}-", 3), *delivered(f"L{count - 1}-", 3)]
+        self.expect_alike(self.run_machines(live, keys=4), last[-4:])
+        note(f"{count} kills: {dict(sides)}")
+
     def test_a_full_desk_is_rolled_up_by_itself(self):
         """At twelve places, two of them set aside, all but six keys go, once; the shops only wait."""
         lines = ["F field N1 A-1 0 1000 500", *(f"O{each} open {each} 60 take N1 A-1 5" for each in (1, 2)), *delivered("A", 17)]
 
         async def live(machines: Machines) -> None:
-            machines.roll_from, machines.keys = 12, 6
+            machines.roll_from = 12
             await self.begin(machines)
             await fill(machines, MACHINES, lines[:9])
             await asyncio.sleep(7)
@@ -222,7 +251,7 @@ class ReplicasRolls(LifeCase):
             await asyncio.sleep(7)
             expect(len(self.rolls(machines)) == 3, f"{self.rolls(machines)}")
 
-        self.expect_alike(self.run_machines(live), lines[4:13])
+        self.expect_alike(self.run_machines(live, keys=6), lines[4:13])
 
     def rolls(self, machines: Machines) -> list[str]:
         """What machines have told of desks that they rolled up."""

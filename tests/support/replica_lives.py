@@ -12,6 +12,8 @@ from support.replica_network import MACHINES
 from support.replicas import PORT, UP_SECONDS, Machines
 
 LACKING = [name for name in ["aiohttp", "etcd3", "grpc", "uvloop"] if find_spec(name) is None]
+# how many keys stay at a roll where a test does not say it
+KEYS = 100_000
 # how many seconds the tests wait for an end
 SECONDS = 60
 
@@ -47,9 +49,10 @@ async def ended(machines: Machines, kind: str, machine: int) -> tuple[int | None
 @needs_sqlite
 @unittest.skipIf(LACKING, f"{', '.join(LACKING)} of Python not here")
 class LifeCase(ProgramCase):
-    def run_machines(self, work: Callable[[Machines], Awaitable[None]]) -> Machines:
-        """Does a work with three machines, whose members of etcd run."""
+    def run_machines(self, work: Callable[[Machines], Awaitable[None]], keys: int = KEYS) -> Machines:
+        """Does a work with three machines, whose members of etcd run; at a roll so many keys stay."""
         machines = Machines(self.program, self.folder, has_fronts=False)
+        machines.keys = keys
         try:
             machines.make()
             for machine in MACHINES:
