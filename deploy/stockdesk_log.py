@@ -84,8 +84,9 @@ class ToldMark(NamedTuple):
     rolled_digest: str = ""
 
     def value(self) -> bytes:
-        behind = [self.rolled_place, self.rolled_digest] if self.rolled_place else []
-        return " ".join(map(str, [self.place, self.digest, *behind])).encode()
+        """Two words in either case, as machines of before rolls read them, which then find that they differ."""
+        behind = f",{self.rolled_place},{self.rolled_digest}" if self.rolled_place else ""
+        return f"{self.place} {self.digest}{behind}".encode()
 
 
 def value_of(run: bytes, number: int, base: int, lines: Sequence[bytes]) -> bytes:
@@ -109,7 +110,8 @@ def read_value(value: bytes) -> Lines | Mark | Begin | End | None:
 def mark_of(key: bytes, value: bytes) -> ToldMark:
     """What a machine has told at a mark, by the key and the value of that."""
     revision, machine = key.decode().split("/")[-2:]
-    place, digest, rolled_place, rolled_digest = [*value.decode().split(" "), "0", ""][:4]
+    place, digests = value.decode().split(" ")
+    digest, rolled_place, rolled_digest = [*digests.split(","), "0", ""][:3]
     return ToldMark(int(revision), machine, int(place), digest, int(rolled_place), rolled_digest)
 
 

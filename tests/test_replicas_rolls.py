@@ -48,6 +48,11 @@ def stand(lines: list[str]) -> str:
     return f"{len(lines)} {digest.hex()}"
 
 
+def rolled(lines: list[str], keys: int) -> str:
+    """What a machine tells at a roll of such a desk, of which so many keys stay."""
+    return ",".join([stand(lines), *stand(lines[-keys:]).split(" ")])
+
+
 async def until(fact: Callable[[], bool], what: str) -> None:
     clock = asyncio.get_running_loop()
     latest = clock.time() + SECONDS
@@ -107,7 +112,7 @@ class ReplicasRolls(LifeCase):
             old_copy = machines.back_up(2)
             await machines.stop("replica", 3)
             revision = await add(machines, "roll {} 4", 1, 2)
-            expect_told(machines, revision, f"{stand(lines)} {stand(lines[-4:])}", 1, 2)
+            expect_told(machines, revision, rolled(lines, 4), 1, 2)
             await expect_places(machines, 4, 1, 2)
             await self.expect_shown(machines)
             machines.start("replica", 3)
@@ -117,7 +122,7 @@ class ReplicasRolls(LifeCase):
             # of two at once, the second has an old mark; no key would go at a third one
             revision = await add(machines, "roll {0} 3", *MACHINES)
             machines.etcdctl(1, "put", "desk/1/log", f"roll {revision - 1} 2")
-            expect_told(machines, revision, f"{stand(more[-5:])} {stand(more[-3:])}", *MACHINES)
+            expect_told(machines, revision, rolled(more[-5:], 3), *MACHINES)
             expect_told(machines, await add(machines, "roll {} 3", *MACHINES), stand(more[-3:]), *MACHINES)
             expect([len(machines.olds(each)) for each in MACHINES] == [2, 2, 2], "other rolls")
             await self.bring_back(machines, old_copy)
@@ -246,7 +251,7 @@ class ReplicasRolls(LifeCase):
             await expect_places(machines, 9, *MACHINES)
             await fill(machines, MACHINES, lines[9:10], 10)
             await until(lambda: len(self.rolls(machines)) == 3, "the roll")
-            expect(self.rolls(machines) == [f"{stand(lines[:10])} {stand(lines[4:10])}"] * 3, f"{self.rolls(machines)}")
+            expect(self.rolls(machines) == [rolled(lines[:10], 6)] * 3, f"{self.rolls(machines)}")
             await fill(machines, MACHINES, lines[10:13], 7)
             await asyncio.sleep(7)
             expect(len(self.rolls(machines)) == 3, f"{self.rolls(machines)}")
@@ -255,7 +260,7 @@ class ReplicasRolls(LifeCase):
 
     def rolls(self, machines: Machines) -> list[str]:
         """What machines have told of desks that they rolled up."""
-        return [value for value in machines.told(1).values() if value.count(" ") == 3]
+        return [value for value in machines.told(1).values() if "," in value]
 
     def test_a_desk_that_goes_astray_is_ended_at_a_roll(self):
         """A machine whose program leaves a command out has other rows behind the roll, and ends with status 4."""
