@@ -55,8 +55,13 @@ def start(program: str, path: str, held: int) -> subprocess.Popen[bytes]:
     """Starts the desk, which holds the lock, too. The desk serves as many connections as this machine has to it, and so ends when
     all of them end."""
     words = [program, "serve", path, "--port", "0", "--connections", str(1 + VIEWERS), "--together", str(TOGETHER)]
+    return tied(words, held, stdout=subprocess.PIPE)
+
+
+def tied(words: Sequence[str], held: int, stdout: int | None = None) -> subprocess.Popen[bytes]:
+    """A process that ends with this one, and holds the lock, too."""
     tie = functools.partial(die_with, os.getpid())
-    return subprocess.Popen(words, stdin=subprocess.DEVNULL, stdout=subprocess.PIPE, pass_fds=[held], preexec_fn=tie)
+    return subprocess.Popen(words, stdin=subprocess.DEVNULL, stdout=stdout, pass_fds=[held], preexec_fn=tie)
 
 
 def command_message(line: bytes) -> bytes:
@@ -81,7 +86,7 @@ class Connection:
         self.asked = self.answered = 0
         # what is to be done behind so many answers
         self.fences: deque[tuple[int, Callable[[], None]]] = deque()
-        self.has_answered = asyncio.Event()
+        self.has_answered, self.is_over = asyncio.Event(), False
 
     def ask(self, message: bytes, tell: Tell) -> None:
         self.tells.append(tell)
@@ -110,8 +115,15 @@ class Connection:
         body = await self.reader.readexactly(int(length.partition(b":")[2]))
         return Answer(int(first[9:12]), kind.partition(b":")[2].strip().decode(), body)
 
+    def end(self) -> None:
+        self.is_over = True
+        self.close()
+
+    def close(self) -> None:
+        self.writer.close()
+
     async def hear(self) -> None:
-        """Hands each answer on. Fault: the desk is gone."""
+        """Hands each answer on, until this end is closed. Fault: the desk is gone."""
         try:
             while True:
                 answer = await self.read()
@@ -121,7 +133,8 @@ class Connection:
                     self.fences.popleft()[1]()
                 self.has_answered.set()
         except (asyncio.IncompleteReadError, ConnectionError) as fault:
-            raise Fault("the desk is gone") from fault
+            if not self.is_over:
+                raise Fault("the desk is gone") from fault
 
 
 class Desk:
@@ -136,8 +149,14 @@ class Desk:
         self.commands.behind_all(lambda: next(self.turns).ask(view_message(target), tell))
 
     async def hear(self) -> None:
-        """Hands each answer on, until the desk is gone."""
+        """Hands each answer on, until the desk is ended or gone."""
         await asyncio.gather(*(each.hear() for each in [self.commands, *self.viewers]))
+
+    async def end(self) -> None:
+        """Ends the connections, and so the desk, once all is answered; nothing is asked meanwhile."""
+        for each in [self.commands, *self.viewers]:
+            await each.at_most(0)
+            each.end()
 
 
 async def connect(process: subprocess.Popen[bytes]) -> Desk:

@@ -6,7 +6,9 @@ entry. An entry is a head line and, behind `lines`, the commands, each as a line
     begin PLACES DIGEST      the first entry of a log that begins with a certain desk: the desk has so many places, and what is
                              kept at them has that digest; the digest of nothing is an empty word
     mark BASE                a command behind it that was asked for before it does not count; BASE is the mark before
-    end                      nothing behind it counts: the desk is rolled up, or its program changed
+    roll BASE KEYS           a mark, too; where more than so many places are taken there, each machine rolls its own desk up, and
+                             the last so many keys stay
+    end                      nothing behind it counts: the program changed, or another log follows
 
 Any other value is no entry, and all machines pass over it."""
 
@@ -29,7 +31,15 @@ OPTIONS = [
     ("grpc.max_reconnect_backoff_ms", 500),
 ]
 
-HEAD = re.compile(rb"lines ([0-9a-f]+) ([0-9]+) ([0-9]+)|mark ([0-9]+)|begin ([0-9]+) ([0-9a-f]*)|(end)")
+NUMBER, DIGEST = rb"([0-9]+)", rb"([0-9a-f]*)"
+# the words behind the first one, for each first word
+HEADS = {
+    b"lines": re.compile(rb" ".join([rb"([0-9a-f]+)", NUMBER, NUMBER])),
+    b"mark": re.compile(NUMBER),
+    b"roll": re.compile(rb" ".join([NUMBER, rb"(0*[1-9][0-9]*)"])),
+    b"begin": re.compile(rb" ".join([NUMBER, DIGEST])),
+    b"end": re.compile(rb""),
+}
 
 
 class Entry(NamedTuple):
@@ -47,7 +57,10 @@ class Lines(NamedTuple):
 
 
 class Mark(NamedTuple):
+    """A mark; where it is a roll, so many keys stay."""
+
     base: int
+    keys: int | None = None
 
 
 class Begin(NamedTuple):
@@ -60,12 +73,20 @@ class End(NamedTuple):
 
 
 class ToldMark(NamedTuple):
-    """Where a machine's desk stood at a mark: how many places it had, and the digest of what is kept at them."""
+    """Where a machine's desk stood at a mark: how many places it had, and the digest of what is kept at them; and the same behind
+    the mark, where the desk is rolled up there. A desk that is rolled up has a place."""
 
     revision: int
     machine: str
     place: int
     digest: str
+    rolled_place: int = 0
+    rolled_digest: str = ""
+
+    def value(self) -> bytes:
+        """Two words in either case, as machines of before rolls read them, which then find that they differ."""
+        behind = f",{self.rolled_place},{self.rolled_digest}" if self.rolled_place else ""
+        return f"{self.place} {self.digest}{behind}".encode()
 
 
 def value_of(run: bytes, number: int, base: int, lines: Sequence[bytes]) -> bytes:
@@ -75,14 +96,23 @@ def value_of(run: bytes, number: int, base: int, lines: Sequence[bytes]) -> byte
 def read_value(value: bytes) -> Lines | Mark | Begin | End | None:
     """What a value says, or None where it is no entry."""
     first, *lines = value.split(b"\n")
-    head = HEAD.fullmatch(first)
-    if head is None or (lines and not head[1]):
+    kind, space, rest = first.partition(b" ")
+    head = HEADS[kind].fullmatch(rest) if kind in HEADS else None
+    if head is None or bool(rest) != bool(space) or (lines and kind != b"lines"):
         return None
-    if head[1]:
+    if kind == b"lines":
         return Lines(head[1], int(head[2]), int(head[3]), lines)
-    if head[5]:
-        return Begin(int(head[5]), head[6].decode())
-    return Mark(int(head[4])) if head[4] else End()
+    if kind == b"begin":
+        return Begin(int(head[1]), head[2].decode())
+    return End() if kind == b"end" else Mark(*map(int, head.groups()))
+
+
+def mark_of(key: bytes, value: bytes) -> ToldMark:
+    """What a machine has told at a mark, by the key and the value of that."""
+    revision, machine = key.decode().split("/")[-2:]
+    place, digests = value.decode().split(" ")
+    digest, rolled_place, rolled_digest = [*digests.split(","), "0", ""][:3]
+    return ToldMark(int(revision), machine, int(place), digest, int(rolled_place), rolled_digest)
 
 
 class Log:
@@ -142,13 +172,11 @@ class Log:
         request = rpc_pb2.RangeRequest(key=prefix, range_end=prefix[:-1] + b"0")
         while not (found := await self.try_call(self.store.Range, request)):
             pass
-        told = [(*pair.key.decode().split("/")[-2:], *pair.value.decode().split(" ")) for pair in found.kvs]
-        return [ToldMark(int(revision), machine, int(place), digest) for revision, machine, place, digest in told]
+        return [mark_of(pair.key, pair.value) for pair in found.kvs]
 
     async def tell_mark(self, mark: ToldMark) -> None:
         """It is told until etcd has it."""
-        value = f"{mark.place} {mark.digest}".encode()
-        while not await self.put(value, f"marks/{mark.revision:020}/{mark.machine}"):
+        while not await self.put(mark.value(), f"marks/{mark.revision:020}/{mark.machine}"):
             pass
 
     async def follow(self, first: int) -> AsyncIterator[Entry]:

@@ -2,24 +2,34 @@
 machine, and answers a command once its own desk has."""
 
 import asyncio
+import contextlib
 import functools
 import itertools
 import json
 import os
 import uuid
-from collections.abc import Callable, Iterable
+from collections.abc import Callable, Coroutine, Iterable
 from dataclasses import dataclass, replace
+from typing import Any
 
 from stockdesk_desk import Answer, Desk, Tell, command_message
+from stockdesk_home import Home
 from stockdesk_log import Begin, End, Lines, Log, Mark, ToldMark, read_value, value_of
+from stockdesk_rolls import Rests, Sizes
+from stockdesk_rows import Counts
 from stockdesk_tools import Fault, say
-from stockdesk_walk import Past, Walk
+from stockdesk_walk import Past, Walk, digest_of
 
 # how many lines an entry has, and how many messages the desk has not answered yet, at the most
 ENTRY_LINES, UNANSWERED = 256, 1_000
 
 # how long a machine tries one entry, and after how long the others have said where they stand at a mark, in seconds
 PUT_SECONDS, HEAR_SECONDS = 5, 3
+
+# how often a machine looks how full its desk is: after so many lines of the log, and after so many seconds. Of the places from
+# which a roll is wanted to the last one there is room for ten times as many lines.
+LOOK_LINES: int = 1_000
+LOOK_SECONDS: float | None = 5
 
 # how many bytes of a value that is no entry are shown
 SHOWN = 60
@@ -53,31 +63,44 @@ class Machine:
     """A machine by its name, and how far it has come in the log: what stands up to `revision` was passed over or fed to the
     desk."""
 
-    def __init__(self, name: str, log: Log, walk: Walk, desk: Desk, mark_lines: int):
-        self.name, self.log, self.walk, self.desk, self.mark_lines = name, log, walk, desk, mark_lines
-        self.past = Past()
+    def __init__(self, name: str, log: Log, walk: Walk, desk: Desk, home: Home, sizes: Sizes):
+        self.name, self.log, self.walk, self.desk, self.home, self.sizes = name, log, walk, desk, home, sizes
+        self.past, self.rests = Past(), Rests()
         self.run = uuid.uuid4().hex[:8].encode()
-        # how many lines stand behind the last mark
-        self.revision, self.first, self.lines, self.has_ended = 0, 0, 0, False
+        # how many lines stand behind the last mark, and behind the last look at the desk
+        self.revision, self.first, self.lines, self.unseen, self.has_ended = 0, 0, 0, 0, False
+        # whether a desk is there, which ends at a roll; and whether so many lines came that somebody has to look at it
+        self.serves, self.fills = asyncio.Event(), asyncio.Event()
+        self.serves.set()
         self.waiting: list[Ask] = []
         self.mine: dict[int, list[Ask]] = {}
         self.comes, self.moves, self.wants = asyncio.Event(), asyncio.Event(), asyncio.Event()
         self.telling: set[asyncio.Task[None]] = set()
         self.lookers: list[asyncio.Future[int | None]] = []
 
+    def works(self) -> list[Coroutine[Any, Any, None]]:
+        """What a machine does at once, until a fault."""
+        return [self.hear(), self.carry_out(), self.add(), self.add_rolls(), self.look()]
+
+    async def hear(self) -> None:
+        """Hears the desk, and after a roll the next one."""
+        while True:
+            await self.serves.wait()
+            await self.desk.hear()
+
     # ---- the place to go on from
 
     async def find_mark(self) -> None:
         """Begins at the newest mark at which a desk stood that had the first of this one's rows and no others, else where the log
-        does."""
-        self.revision = self.walk.go_to_mark(await self.log.marks())
-        self.first = self.revision or await self.log.first()
-        self.past.set_mark(self.revision)
+        does. The mark itself comes again, since it may be the end, or a roll that this desk has not done."""
+        mark = self.walk.go_to_mark(await self.log.marks())
+        self.first = mark or await self.log.first()
+        self.revision = max(0, mark - 1)
+        self.past.set_mark(mark)
 
     # ---- the log, carried out
 
     async def carry_out(self) -> None:
-        # the mark at which this begins comes again, since it may be the end; another machine may have set one meanwhile
         async for entry in self.log.follow(self.first):
             told = read_value(entry.value)
             if isinstance(told, Lines):
@@ -85,11 +108,11 @@ class Machine:
             elif isinstance(told, End):
                 await self.set_mark(entry.revision)
                 self.has_ended = True
-            elif isinstance(told, Begin) and self.revision == 0:
+            elif isinstance(told, Begin) and self.revision == self.past.mark == 0:
                 self.walk.begin(told.places, told.digest)
                 await self.set_mark(entry.revision)
-            elif isinstance(told, Mark) and told.base >= self.past.mark and not self.has_ended:
-                await self.set_mark(entry.revision)
+            elif isinstance(told, Mark) and self.takes_mark(entry.revision, told):
+                await self.set_mark(entry.revision, told.keys)
             elif told is None:
                 say(f"passes over revision {entry.revision}, which is no entry of the log: {entry.value[:SHOWN]!r}")
             self.revision = entry.revision
@@ -107,6 +130,10 @@ class Machine:
             if not self.walk.passes_over(line):
                 self.desk.commands.ask(command_message(line), functools.partial(self.take_answer, line, tell))
         self.lines += len(entry.lines)
+        self.unseen += len(entry.lines)
+        if self.unseen >= LOOK_LINES:
+            self.unseen = 0
+            self.fills.set()
 
     def take_answer(self, line: bytes, tell: Tell, answer: Answer) -> None:
         """Takes an answer of the desk to a command. Fault: it is none, and this machine ends, since the others may have another
@@ -121,17 +148,47 @@ class Machine:
                 self.walk.take_place(line)
         tell(answer)
 
-    async def set_mark(self, revision: int) -> None:
+    def takes_mark(self, revision: int, mark: Mark) -> bool:
+        """Whether a mark counts: it knows the one before it; or this began at a roll that its desk has not done."""
+        is_due = revision == self.first and mark.keys is not None and mark.keys < self.walk.place
+        return not self.has_ended and (mark.base >= self.past.mark or is_due)
+
+    async def set_mark(self, revision: int, keys: int | None = None) -> None:
+        """The desk stands at a mark, where a roll that leaves so many keys may be done."""
         await self.desk.commands.at_most(0)
+        told = ToldMark(revision, self.name, self.walk.place, self.walk.digest.hex())
+        if keys is not None and keys < told.place:
+            told = await self.roll(told, keys)
         # now, since this forgets where the desk has stood
         self.waiting = self.judged(self.waiting, revision)
-        before = self.past.mark
+        # a mark at which this began is the last one
+        before = min(self.past.mark, revision - 1)
         self.past.set_mark(revision)
         self.lines = 0
-        told = ToldMark(revision, self.name, self.walk.place, self.walk.digest.hex())
         task = asyncio.create_task(self.compare(told, before))
         self.telling.add(task)
         task.add_done_callback(self.telling.discard)
+
+    async def roll(self, told: ToldMark, keys: int) -> ToldMark:
+        """Rolls the desk up that stands at a mark, once it is told what it has before and behind that. Whoever is stopped
+        meanwhile finds by that on which side the desk stands. Fault: the desk is another log's, or the roll fails."""
+        if self.walk.rows:
+            raise Fault(f"the desk went on where the log has a roll, at {told.revision}: it is another log's desk")
+        self.serves.clear()
+        await self.desk.end()
+        rows = await self.home.end()
+        if digest_of(rows).hex() != told.digest:
+            raise Fault(f"the desk has other rows than the log at {told.revision}")
+        told = told._replace(rolled_place=keys, rolled_digest=digest_of(rows[-keys:]).hex())
+        await self.log.tell_mark(told)
+        await self.home.roll(keys)
+        rows, self.desk = await self.home.start()
+        self.walk = Walk(rows)
+        if self.walk.go_to_mark([told]) == 0 or self.walk.rows:
+            raise Fault(f"the desk that was rolled up at {told.revision} has other rows than the last {keys}")
+        self.rests.note()
+        self.serves.set()
+        return told
 
     async def compare(self, own: ToldMark, before: int) -> None:
         """Tells where this desk stands at a mark, and hears the others; the mark before stood at that revision. A desk that most
@@ -156,7 +213,8 @@ class Machine:
         the second are late."""
         for number in itertools.count():
             await self.comes.wait()
-            if self.lines > self.mark_lines:
+            await self.serves.wait()
+            if self.lines > self.sizes.mark_lines:
                 self.lines = 0
                 await self.reach(await self.log.put(b"mark %d" % self.past.mark))
             asks, self.waiting = self.judged(self.waiting[:ENTRY_LINES], self.revision), self.waiting[ENTRY_LINES:]
@@ -185,6 +243,26 @@ class Machine:
                 found.append(replace(ask, base=revision))
         return found
 
+    async def add_rolls(self) -> None:
+        """Adds a roll where this machine's desk wants one. The mark was looked at before the desk, so the roll does not count
+        where another one came meanwhile."""
+        while True:
+            with contextlib.suppress(asyncio.TimeoutError):
+                await asyncio.wait_for(self.fills.wait(), LOOK_SECONDS)
+            self.fills.clear()
+            mark, keys = self.past.mark, await self.keys_wanted()
+            if keys is not None:
+                await self.reach(await self.log.put(b"roll %d %d" % (mark, keys)))
+
+    async def keys_wanted(self) -> int | None:
+        """How many keys are to stay at a roll that this machine's desk wants now; None where it wants none."""
+        answer = await self.shown("/v1/desk")
+        if answer.status != 200 or self.has_ended:
+            return None
+        told = json.loads(answer.body)
+        counts = Counts(told["places"], told["open"], told["fields"], told["orders"])
+        return self.sizes.keys_for(counts, self.rests.at())
+
     async def try_put(self, value: bytes) -> int | None:
         clock = asyncio.get_running_loop()
         latest = clock.time() + PUT_SECONDS
@@ -209,8 +287,11 @@ class Machine:
         looker: asyncio.Future[int | None] = asyncio.get_running_loop().create_future()
         self.lookers.append(looker)
         self.wants.set()
-        if not await self.reach(await looker):
-            return NO_LOG
+        return await self.shown(target) if await self.reach(await looker) else NO_LOG
+
+    async def shown(self, target: str) -> Answer:
+        """What the desk shows; while it is rolled up, that is waited for."""
+        await self.serves.wait()
         waiter: asyncio.Future[Answer] = asyncio.get_running_loop().create_future()
         self.desk.view(target, teller(waiter))
         return await waiter

@@ -13,8 +13,10 @@ import stockdesk_messages
 import stockdesk_tools as tools
 import stockdesk_walk
 import uvloop
+from stockdesk_home import Home, rows_in
 from stockdesk_log import Log
 from stockdesk_machine import Machine
+from stockdesk_rolls import Sizes
 from stockdesk_tools import Fault
 from stockdesk_walk import Walk
 
@@ -33,24 +35,15 @@ async def judge_name(name: str, log: Log) -> None:
 
 
 async def start(options: argparse.Namespace) -> Machine:
-    """The machine, whose desk was started while its rows were read in a copy."""
-    program, path = tools.find_program(options.program), os.path.abspath(options.file)
-    held = stockdesk_desk.lock(path)
-    with tools.workplace(os.path.dirname(path)) as place:
-        copy = os.path.join(place, "desk.db")
-        tools.copy_desk(path, copy)
-        process = stockdesk_desk.start(program, path, held)
-        rows = stockdesk_walk.kept_lines(copy)
-    if options.pid:
-        with open(options.pid, "w", encoding="ascii") as file:
-            file.write(f"{process.pid}\n")
-    desk = await stockdesk_desk.connect(process)
-    return Machine(options.machine, Log(options.etcd, options.log), Walk(rows), desk, options.mark_lines)
+    home = Home(tools.find_program(options.program), os.path.abspath(options.file), options.pid)
+    rows, desk = await home.start()
+    sizes = Sizes(options.mark_lines, options.roll_from, options.keys)
+    return Machine(options.machine, Log(options.etcd, options.log), Walk(rows), desk, home, sizes)
 
 
 async def listen(options: argparse.Namespace, machine: Machine) -> None:
     """Serves HTTP once the desk stands where the log stood. Fault: the desk has what the log has not."""
-    began = machine.revision
+    began = machine.first
     while (head := await machine.log.head()) is None:
         pass
     await machine.reach(head)
@@ -60,20 +53,12 @@ async def listen(options: argparse.Namespace, machine: Machine) -> None:
     tools.say(f"{machine.name} serves {machine.walk.place} places, from {began} to {head} of the log")
 
 
-def digests_in(path: str) -> list[bytes]:
-    """The digest behind each place of a desk that nobody writes."""
-    with tools.workplace(os.path.dirname(path)) as place:
-        copy = os.path.join(place, "desk.db")
-        tools.copy_desk(path, copy)
-        return stockdesk_walk.digests_of(stockdesk_walk.kept_lines(copy))
-
-
 async def begin(options: argparse.Namespace) -> None:
     """Has a log begin with this desk. Fault: a program has the desk open, or the log has begun, or etcd does not answer."""
     path = os.path.abspath(options.file)
     stockdesk_desk.lock(path, waits=False)
     with tools.kept_shut(path):
-        digests, log = digests_in(path), Log(options.etcd, options.log)
+        digests, log = stockdesk_walk.digests_of(rows_in(path)), Log(options.etcd, options.log)
         head = await log.head()
         if head is not None:
             await judge_name(options.machine, log)
@@ -88,8 +73,8 @@ async def serve(options: argparse.Namespace) -> None:
     machine = await start(options)
     await judge_name(options.machine, machine.log)
     await machine.find_mark()
-    works: list[Coroutine[Any, Any, None]] = [machine.desk.hear(), machine.carry_out(), machine.add(), machine.look()]
-    tasks = [asyncio.create_task(each) for each in [*works, listen(options, machine)]]
+    works: list[Coroutine[Any, Any, None]] = [*machine.works(), listen(options, machine)]
+    tasks = [asyncio.create_task(each) for each in works]
     done, _ = await asyncio.wait(tasks, return_when=asyncio.FIRST_EXCEPTION)
     for task in done:
         task.result()

@@ -212,6 +212,18 @@ def kept_shut(path: str) -> Iterator[None]:
         yield
 
 
+def remove_second_name(path: str) -> None:
+    """Takes from a desk that is kept shut the name that a killed roll gave it. Fault: it has yet another name."""
+    desk, folder = os.stat(path), os.path.dirname(path)
+    for name in os.listdir(folder):
+        other = os.path.join(folder, name)
+        if OLD_FILE.fullmatch(name) and other != path and os.path.samestat(os.lstat(other), desk):
+            os.remove(other)
+            sync(folder)
+    if os.stat(path).st_nlink != 1:
+        raise Fault(f"{path} has another name, too, so the program does not open it: remove the other")
+
+
 # ---- copies
 
 

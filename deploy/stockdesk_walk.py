@@ -4,9 +4,13 @@ machines find the same.
 A desk that was stopped has so many places. Take the log's lines behind a mark at which the desk has stood. A line that is word
 for word the next row has taken that row's place; a line between, while rows are left, was refused or repeated. So all these lines
 are passed over, and what stands behind the line of the last row is carried out. A late line counts neither as the one nor as the
-other."""
+other.
+
+A desk that was rolled up has other rows than before: the last of them, from the place 1 on. So it stands behind that mark, and
+goes on there as from the beginning of a log. At a mark where desks are rolled up, a desk that stands before it lacks the roll."""
 
 import contextlib
+import functools
 import hashlib
 import itertools
 import sqlite3
@@ -38,6 +42,11 @@ def digests_of(rows: Iterable[bytes]) -> list[bytes]:
     return list(itertools.accumulate(rows, link, initial=b""))
 
 
+def digest_of(rows: Iterable[bytes]) -> bytes:
+    """The digest behind all of them."""
+    return functools.reduce(link, rows, b"")
+
+
 def has_place(digests: list[bytes], place: int, digest: str) -> bool:
     """Whether the first so many of the rows with these digests have this digest."""
     return place < len(digests) and digests[place].hex() == digest
@@ -51,14 +60,16 @@ class Walk:
         self.rows = deque(rows)
         self.place, self.digest = 0, b""
 
-    def go_to_mark(self, marks: Iterable[ToldMark]) -> int:
-        """Goes to the newest mark at which a desk had exactly the first of these rows, and returns its revision, or 0."""
+    def go_to_mark(self, marks: Sequence[ToldMark]) -> int:
+        """Goes to the newest mark at which a desk had exactly the first of these rows, before a roll there or behind it. Returns
+        the mark's revision, or 0."""
         digests = digests_of(self.rows)
-        fitting = [mark for mark in sorted(marks) if has_place(digests, mark.place, mark.digest)]
-        if not fitting:
-            return 0
-        self.go_to(fitting[-1].place, digests)
-        return fitting[-1].revision
+        before = [(mark.revision, mark.place, mark.digest) for mark in marks]
+        behind = [(mark.revision, mark.rolled_place, mark.rolled_digest) for mark in marks if mark.rolled_place]
+        fitting = [each[:2] for each in [*before, *behind] if has_place(digests, *each[1:])]
+        revision, place = max(fitting, default=(0, 0))
+        self.go_to(place, digests)
+        return revision
 
     def begin(self, places: int, digest: str) -> None:
         """Goes to where the log began. Fault: this desk is not the one with which it began."""

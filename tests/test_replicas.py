@@ -1,8 +1,8 @@
-"""Tests of a desk on three machines. Processes are killed and stand still, ways are cut, disks are full or lost, while clients
-ask; then all machines have the same rows, and each answer is one that the rules give, in an order that time allows. In the
-environment REPLICAS_FAULTS says how many faults there are at the least, in as many lives of new machines as that takes, and
-REPLICAS_SEED which faults: `REPLICAS_FAULTS=1000 ./check tests replicas.Replicas` has 1,000. REPLICAS_KEEP names a folder; in it
-stays what the processes wrote in a life in which a fault was found."""
+"""Tests of a desk on three machines. Processes are killed and stand still, ways are cut, disks are full or lost, and the desk is
+rolled up, while clients ask; then all machines have the same rows, and each answer is one that the rules give, in an order that
+time allows. In the environment REPLICAS_FAULTS says how many faults there are at the least, in as many lives of new machines as
+that takes, and REPLICAS_SEED which faults: `REPLICAS_FAULTS=1000 ./check tests replicas.Replicas` has 1,000. REPLICAS_KEEP names a
+folder; in it stays what the processes wrote in a life in which a fault was found."""
 
 import asyncio
 import itertools
@@ -22,11 +22,14 @@ from support.replica_clients import ARTICLES, BRANCHES, Client, Known, Stock, Wi
 from support.replica_faults import Faults
 from support.replica_network import MACHINES
 from support.replicas import FRONT_PORT, PORT, UP_SECONDS, Machines
+from support.tables import rows_of
 
 SEED = int(os.environ.get("REPLICAS_SEED", "1986"))
 CLIENTS, PAUSE = 12, 0.12
-# a mark stands behind so many lines, so there are many
+# a mark stands behind so many lines, so there are many; and from so many places on the desk is rolled up, with so many keys: more
+# than are done while a client asks again
 MARK_LINES = 300
+ROLL_FROM, KEYS = 700, 500
 # etcd reserves so many bytes for its log, twice
 DISK = 256 << 20
 # how many faults there are at the least, and after how many seconds all clients have their answers
@@ -96,6 +99,7 @@ class Replicas(ProgramCase):
         os.mkdir(folder)
         with small_disk(folder, DISK) as small:
             machines = Machines(self.program, folder, MARK_LINES)
+            machines.roll_from, machines.keys = ROLL_FROM, KEYS
             try:
                 if small:
                     os.symlink(small, machines.folder(MACHINES[-1]))
@@ -107,8 +111,10 @@ class Replicas(ProgramCase):
                 raise
             finally:
                 machines.down()
-            tables = machines.tables()
-        wrong, counts = judged(history, tables)
+            tables, olds = machines.tables(), [rows_of(path) for each in MACHINES for path in machines.olds(each)]
+        wrong, counts = judged(history, tables, olds)
+        # at each mark and roll the machines have compared their digests
+        wrong += [line for each in MACHINES for line in machines.said("replica", each) if "differs" in line]
         count = faults.count()
         note(f"{count} faults in {time.monotonic() - began:.0f} s, {counts}")
         if not machines.network.can_cut:
@@ -118,6 +124,7 @@ class Replicas(ProgramCase):
         expect(not wrong, "\n".join([f"seed {SEED}, life {life}", *wrong[:10], *faults.told]))
         expect(count >= FAULTS or not machines.network.can_cut, f"only {count} faults: {faults.counts}")
         expect(counts["places"] > 300 and counts["refused"] > 300, f"little was asked: {counts}")
+        expect(counts.get("rolls", 0) > 4, f"there were few rolls: {counts}")
         shutil.rmtree(folder)
         return faults.faults()
 

@@ -9,50 +9,26 @@ import shutil
 import signal
 import subprocess
 import sys
-import unittest
 from asyncio.subprocess import PIPE
-from collections.abc import Awaitable, Callable
-from importlib.util import find_spec
+from collections.abc import Callable
 
 from support import TOP
-from support.cases import ProgramCase, needs, needs_sqlite
 from support.copies import alone
 from support.programs import done, expect, new_desk
-from support.replica_clients import NO_ANSWER, Known, Wire, asked, commanded, wait_until_well
+from support.replica_clients import NO_ANSWER, Known, Wire, commanded
+from support.replica_lives import SECONDS, LifeCase, all_told, ended, shown, told, well
 from support.replica_network import MACHINES, Failed, run
 from support.replica_wrong import changed_tools
-from support.replicas import PORT, UP_SECONDS, Machines
+from support.replicas import PORT, Machines
 from support.tables import rows_of
 
 CLIENT = os.path.join(TOP, "examples", "client.py")
-LACKING = [name for name in ["aiohttp", "etcd3", "grpc", "uvloop"] if find_spec(name) is None]
 OLD = "F field N1 A-1 0 100 40\nO open 7 60 take N1 A-1 30\nW writeoff N1 A-1 10\nU use 7 N1 A-1 5\n"
 ENDED = (503, '{"error":"ended"}')
-# how many seconds the tests wait for an end, and for one that has to come at once
-SECONDS, AT_ONCE_SECONDS = 60, 20
+# how many seconds the tests wait for an end that has to come at once
+AT_ONCE_SECONDS = 20
 # how long a machine is seen to wait
 WAITING_SECONDS = 3
-
-
-async def told(machines: Machines, machine: int, key: str, command: str) -> tuple[int, dict]:
-    """The answer of a machine, which at a mark is asked again."""
-    known = Known()
-    place = machines.address(machine), PORT
-    while (answer := await commanded(place, key, command, known)) == (503, '{"error":"late"}'):
-        pass
-    return answer[0], json.loads(answer[1])
-
-
-async def all_told(machines: Machines, asks: list[tuple[int, str, str]]) -> list[tuple[int, dict]]:
-    return [await told(machines, *ask) for ask in asks]
-
-
-async def shown(machines: Machines, machine: int, target: str) -> tuple[int, str]:
-    return await asked((machines.address(machine), PORT), target)
-
-
-async def well(machines: Machines, *numbers: int) -> None:
-    await wait_until_well([(machines.address(each), PORT) for each in numbers or MACHINES], UP_SECONDS)
 
 
 async def answer_of_any(machines: Machines, machine: int) -> tuple[int, str] | None:
@@ -61,12 +37,6 @@ async def answer_of_any(machines: Machines, machine: int) -> tuple[int, str] | N
         return await commanded((machines.address(machine), PORT), "E4", "deliver N1 A-1 1")
     except NO_ANSWER:
         return None
-
-
-async def ended(machines: Machines, kind: str, machine: int) -> tuple[int | None, str]:
-    """The status with which a part ends by itself, and what it said last."""
-    status = await asyncio.to_thread(machines.processes[kind, machine].wait, SECONDS)
-    return status, machines.said(kind, machine)[-1]
 
 
 async def begin(machines: Machines, file: str) -> None:
@@ -117,26 +87,7 @@ async def expect_misnamed(machines: Machines, name: str, *more: str) -> None:
     expect("/" in name or f"MACHINE is {name!r}" in said and "'m1'" in said, f"{name}: {said}")
 
 
-@needs("etcd", "etcdctl", "openssl")
-@needs_sqlite
-@unittest.skipIf(LACKING, f"{', '.join(LACKING)} of Python not here")
-class ReplicasLife(ProgramCase):
-    def run_machines(self, work: Callable[[Machines], Awaitable[None]]) -> Machines:
-        """Does a work with three machines, whose members of etcd run."""
-        machines = Machines(self.program, self.folder, has_fronts=False)
-        try:
-            machines.make()
-            for machine in MACHINES:
-                machines.start("etcd", machine)
-            asyncio.run(asyncio.wait_for(self.with_etcd(machines, work), 10 * SECONDS))
-        finally:
-            machines.down()
-        return machines
-
-    async def with_etcd(self, machines: Machines, work: Callable[[Machines], Awaitable[None]]) -> None:
-        await machines.try_until(lambda: machines.leader() is not None)
-        await work(machines)
-
+class ReplicasLife(LifeCase):
     def old_desk(self, name: str = "old.db") -> str:
         path = new_desk(self.program, self.folder, name)
         expect(len(done(self.program, ["run", path], OLD)) == 4, "another desk")

@@ -51,6 +51,16 @@ class Faults:
         self.machines.signal(part, machine, signal.SIGKILL)
         self.note(f"kill {part}", f"{who} {machine}")
 
+    async def roll(self, part: str | None) -> None:
+        """The desks are rolled up; a moment later this part of a machine is killed, amid it or not."""
+        machine, kind = self.random.choice(MACHINES), f"roll, and kill {part}" if part else "roll"
+        with contextlib.suppress(Failed):
+            await asyncio.to_thread(self.machines.add_roll, machine)
+            self.note(kind, str(machine))
+        await asyncio.sleep(self.random.uniform(0, 1))
+        if part:
+            self.machines.signal(part, self.random.choice(MACHINES), signal.SIGKILL)
+
     async def kill_machine(self, who: str = "any") -> None:
         machine = await asyncio.to_thread(self.machine, who)
         for part in ["etcd", "replica", "front"]:
@@ -153,6 +163,7 @@ class Faults:
         found: list[Fault] = [partial(self.kill, part, who) for part in PARTS for who in ["any", "any", "any", "any", "leader"]]
         found += [partial(self.kill, "etcd", "follower"), partial(self.kill_machine, "leader"), *[self.kill_machine] * 2]
         found += [partial(self.kill_on_all, [part]) for part in PARTS]
+        found += [partial(self.roll, part) for part in [None, "replica", "desk"]]
         return [*found, partial(self.kill_on_all, ["etcd", "replica", "front"])]
 
     def pauses(self) -> list[Fault]:

@@ -1,10 +1,11 @@
 """Three machines that hold a desk, in one process: the code of the tool, over a log and desks that are models. Time is counted in
-turns of the event loop. A put may be kept late, or without an answer, or not at all; a machine may lag and stop; and copies of
-commands come late.
+turns of the event loop. A put may be kept late, or without an answer, or not at all; a machine may lag and stop, also amid a roll,
+and begin again with an old copy; and copies of commands come late.
 
     python3 -m support.replica_steps COUNT [FIRST]    plays so many cases, from that one on, and tells the first that is wrong"""
 
 import asyncio
+import copy
 import itertools
 import json
 import os
@@ -16,12 +17,15 @@ from typing import Any
 import support  # noqa: F401
 import stockdesk_machine
 from stockdesk_desk import Answer, Connection, Desk
+from stockdesk_home import Home
 from stockdesk_log import Entry, Log, ToldMark
 from stockdesk_machine import Machine
+from stockdesk_rolls import Sizes
 from stockdesk_tools import Fault
 from stockdesk_walk import Walk
 from support.histories import Attempt, History, View, judged, reply_to, shown
 from support.messages import answer_to, compact
+from support.rolls import rolled_desk
 from support.rows import rows_by
 from support.rules import Rules
 
@@ -30,6 +34,10 @@ MACHINES, CLIENTS, COMMANDS = 3, 5, 14
 PATIENCE, LATE = 80, 400
 # a case that takes longer hangs
 CASE_SECONDS = 60
+
+# from how many places on a desk is rolled up, and how many keys stay: more than were done since a client asked first for what it
+# asks again
+SIZES = [(30, 20), (40, 30), (25, 24)]
 
 FIELDS = ["N1 A-1", "N2 A-1"]
 VIEWS = [*(f"/v1/fields/{name.replace(' ', '/')}" for name in FIELDS), "/v1/orders/1", "/v1/orders/2", "/v1/desk"]
@@ -51,7 +59,7 @@ class Kept:
     def __init__(self, chance: Chance):
         self.chance = chance
         self.values: list[bytes] = []
-        self.marks: list[ToldMark] = []
+        self.marks: dict[tuple[int, str], ToldMark] = {}
         self.late: set[asyncio.Task[None]] = set()
 
     def revision(self) -> int:
@@ -97,11 +105,12 @@ class ModelLog(Log):
 
     async def marks(self) -> list[ToldMark]:
         await self.chance.turns(3)
-        return list(self.kept.marks)
+        return list(self.kept.marks.values())
 
     async def tell_mark(self, mark: ToldMark) -> None:
         await self.chance.turns(3)
-        self.kept.marks.append(mark)
+        self.kept.marks[mark.revision, mark.machine] = mark
+        await self.chance.turns(3)
 
     async def follow(self, first: int) -> AsyncIterator[Entry]:
         for revision in itertools.count(first):
@@ -139,8 +148,13 @@ class ModelConnection(Connection):
     def carry_out(self) -> Answer:
         return answer_of(self.rules, self.messages.pop(0))
 
+    def close(self) -> None:
+        pass
+
     async def read(self) -> Answer:
         while not self.messages:
+            if self.is_over:
+                raise asyncio.IncompleteReadError(b"", None)
             await asyncio.sleep(0)
         await self.chance.turns(self.slowness)
         answer = self.carry_out()
@@ -148,26 +162,52 @@ class ModelConnection(Connection):
         return answer
 
 
+def lines_of(rules: Rules) -> list[bytes]:
+    """The accepted commands as lines of the log."""
+    return [f"{key} {words}".encode() for key, (_, words) in sorted(rules.kept.items(), key=lambda each: each[1][0])]
+
+
+class ModelHome(Home):
+    """The home of a desk that is a model."""
+
+    def __init__(self, place: "Place"):
+        self.place, self.chance = place, place.chance
+
+    async def start(self) -> tuple[list[bytes], Desk]:
+        place, chance = self.place, self.chance
+        place.commands = ModelConnection(place.rules, chance, chance.choice([2, 8]))
+        await chance.turns(3)
+        return lines_of(place.rules), Desk(place.commands, [ModelConnection(place.rules, chance, 2)])
+
+    async def end(self) -> list[bytes]:
+        await self.chance.turns(3)
+        return lines_of(self.place.rules)
+
+    async def roll(self, keys: int) -> None:
+        await self.chance.turns(6)
+        self.place.olds.append(rows_by(self.place.rules))
+        self.place.rules = rolled_desk(self.place.rules, keys)
+        await self.chance.turns(6)
+
+
 class Place:
     """A machine's place: the rules of its desk stay, the machine runs and stops."""
 
-    def __init__(self, number: int, kept: Kept):
-        self.name, self.kept, self.chance = f"m{number}", kept, kept.chance
-        self.rules = Rules()
+    def __init__(self, number: int, kept: Kept, sizes: Sizes):
+        self.name, self.kept, self.chance, self.sizes = f"m{number}", kept, kept.chance, sizes
+        self.rules, self.home = Rules(), ModelHome(self)
+        self.copies, self.olds = list[Rules](), list[list[str]]()
         self.machine: Machine | None = None
         self.tasks: list[asyncio.Task[Any]] = []
 
     async def start(self) -> None:
         # the machine may have been broken off while it started
         self.cancel()
-        rows = [f"{key} {words}".encode() for key, (_, words) in sorted(self.rules.kept.items(), key=lambda each: each[1][0])]
-        self.commands = ModelConnection(self.rules, self.chance, self.chance.choice([2, 8]))
-        self.desk = Desk(self.commands, [ModelConnection(self.rules, self.chance, 2)])
-        log = ModelLog(self.kept, self.chance.choice([2, 2, 6, 25]))
-        machine = Machine(self.name, log, Walk(rows), self.desk, self.chance.choice([3, 20, 1_000]))
+        rows, desk = await self.home.start()
+        log, sizes = ModelLog(self.kept, self.chance.choice([2, 2, 6, 25])), self.sizes
+        machine = Machine(self.name, log, Walk(rows), desk, self.home, sizes._replace(mark_lines=self.chance.choice([3, 20, 1_000])))
         await machine.find_mark()
-        works = [self.desk.hear(), machine.carry_out(), machine.add(), machine.look()]
-        self.tasks = [asyncio.create_task(work) for work in works]
+        self.tasks = [asyncio.create_task(work) for work in machine.works()]
         head = self.kept.revision()
         while machine.revision < head:
             self.expect_alive()
@@ -187,13 +227,17 @@ class Place:
                 task.result()
 
     def stop(self) -> None:
-        """What the desk was given may be done, though nobody reads an answer."""
+        """What the desk was given may be done, though nobody reads an answer. The disk may be lost, or an old copy be brought
+        back."""
         self.machine = None
         self.cancel()
         for _ in range(self.chance.randint(0, len(self.commands.messages))):
             self.commands.carry_out()
+        self.copies.append(copy.deepcopy(self.rules))
         if self.chance.random() < 0.1:
             self.rules = Rules()
+        elif self.chance.random() < 0.1:
+            self.rules = copy.deepcopy(self.chance.choice(self.copies))
 
 
 class Shop:
@@ -272,7 +316,8 @@ class Case:
     def __init__(self, seed: int):
         self.chance = Chance(seed)
         self.kept, self.history = Kept(self.chance), History()
-        self.places = [Place(number, self.kept) for number in range(1, MACHINES + 1)]
+        sizes = Sizes(0, *self.chance.choice(SIZES))
+        self.places = [Place(number, self.kept, sizes) for number in range(1, MACHINES + 1)]
         self.moments = itertools.count(1)
         self.late: list[asyncio.Task[None]] = []
 
@@ -326,7 +371,7 @@ class Case:
             await asyncio.sleep(0)
         for place in self.places:
             place.expect_alive()
-            await place.desk.commands.at_most(0)
+            await place.commands.at_most(0)
 
 
 async def all_of(tasks: list[asyncio.Task[None]]) -> None:
@@ -340,7 +385,8 @@ async def wrong_of(seed: int, counts: dict[str, int]) -> list[str]:
         await asyncio.wait_for(case.play(), CASE_SECONDS)
     except (Fault, asyncio.TimeoutError) as fault:
         return [f"{type(fault).__name__}: {fault}"]
-    wrong, found = judged(case.history, [rows_by(place.rules) for place in case.places])
+    olds = [old for place in case.places for old in place.olds]
+    wrong, found = judged(case.history, [rows_by(place.rules) for place in case.places], olds)
     for name, count in found.items():
         counts[name] = counts.get(name, 0) + count
     return wrong
@@ -348,7 +394,7 @@ async def wrong_of(seed: int, counts: dict[str, int]) -> list[str]:
 
 def play(first: int, count: int) -> tuple[list[str], dict[str, int]]:
     """What is wrong in the first case that is wrong, and what all cases looked at."""
-    stockdesk_machine.HEAR_SECONDS = 0
+    stockdesk_machine.HEAR_SECONDS, stockdesk_machine.LOOK_LINES, stockdesk_machine.LOOK_SECONDS = 0, 3, None
     counts: dict[str, int] = {}
     for seed in range(first, first + count):
         stockdesk_machine.PUT_SECONDS = seed % 2

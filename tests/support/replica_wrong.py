@@ -29,6 +29,24 @@ KEPT_OVER = """        if line in self.rows:
         return False
 """
 
+DUE = "is_due = revision == self.first and mark.keys is not None and mark.keys < self.walk.place"
+TOLD = """        await self.log.tell_mark(told)
+        await self.home.roll(keys)
+"""
+TOLD_AFTER = """        await self.home.roll(keys)
+        await self.log.tell_mark(told)
+"""
+MARKED = """        before = min(self.past.mark, revision - 1)
+        self.past.set_mark(revision)
+"""
+NOT_MARKED = """        before = min(self.past.mark, revision - 1)
+        self.past.set_mark(revision if keys is None else self.past.mark)
+"""
+BY_PLACES = "if each[1] < len(digests)"
+IS_ROLLED = "if keys is not None and keys < told.place:"
+TAKES_ROLL = "await self.set_mark(entry.revision, told.keys)"
+OWN_KEYS = "await self.set_mark(entry.revision, told.keys and self.sizes.keys)"
+
 # for each: how it is tried, its module, a part of that, and what is put in place of the part
 STEPS, WALKS = ("support.replica_steps", "150"), ("support.replica_walks", "2000")
 WRONG = {
@@ -36,13 +54,20 @@ WRONG = {
     "older copies count behind a mark": (STEPS, "stockdesk_walk", LATE, "return self.recent.get(key_of(line), 0) > base"),
     "what has waited is not judged": (STEPS, "stockdesk_machine", REST, "if ask.is_gone():"),
     "what the client knows is not looked at": (STEPS, "stockdesk_machine", "min(known, self.revision)", "self.revision"),
-    "views of what this desk has": (STEPS, "stockdesk_machine", "not await self.reach(await looker)", "await looker is None"),
+    "views of what this desk has": (STEPS, "stockdesk_machine", "await self.reach(await looker)", "await looker is not None"),
     "views before what the desk was given": (STEPS, "stockdesk_desk", "self.commands.behind_all(", "(lambda act: act())("),
     "all behind the mark is carried out again": (WALKS, "stockdesk_walk", WALK, ALL_AGAIN),
     "what is kept is passed over, all else is carried out": (WALKS, "stockdesk_walk", WALK, KEPT_OVER),
     "late lines count in the walk": (
         *(WALKS, "stockdesk_machine", TOLD_LATE, TOLD_LATE + "                self.walk.passes_over(line)\n"),
     ),
+    "a roll is not done at a start": (WALKS, "stockdesk_machine", DUE, "is_due = False"),
+    "a roll is told once it is done": (WALKS, "stockdesk_machine", TOLD, TOLD_AFTER),
+    "a desk rolled up is looked for at its old rows": (WALKS, "stockdesk_walk", "[*before, *behind]", "before"),
+    "a desk to be rolled up is taken for one that is": (WALKS, "stockdesk_walk", "if has_place(digests, *each[1:])", BY_PLACES),
+    "a desk that is rolled up is rolled up again": (WALKS, "stockdesk_machine", IS_ROLLED, "if keys is not None:"),
+    "each machine has keys of its own": (WALKS, "stockdesk_machine", TAKES_ROLL, OWN_KEYS),
+    "what was asked for before a roll counts behind it": (WALKS, "stockdesk_machine", MARKED, NOT_MARKED),
     "a row is taken by its key alone": (WALKS, "stockdesk_walk", SAME, "if key_of(self.rows[0]) == key_of(line):"),
 }
 

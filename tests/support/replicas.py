@@ -12,6 +12,7 @@ import sys
 import time
 from collections.abc import Callable
 
+from stockdesk_tools import OLD_FILE
 from support import DEPLOY, TOP
 from support.copies import BACKUP, RESTORE
 from support.fronts import Haproxy
@@ -58,6 +59,8 @@ class Machines:
 
     def __init__(self, program: str, folder: str, mark_lines: int = 20_000, has_fronts: bool = True):
         self.program, self.root, self.mark_lines = program, folder, mark_lines
+        # from how many places on a roll comes, and how many keys stay then
+        self.roll_from, self.keys = 190_000, 100_000
         self.kinds = KINDS if has_fronts else KINDS[:2]
         self.network = made_network()
         self.processes: dict[Part, subprocess.Popen] = {}
@@ -97,7 +100,7 @@ class Machines:
         words = [*self.interpreter, self.replica, name, self.desk(machine), "--listen", f"{here}:{PORT}", "--program"]
         words += [self.program, "--etcd", f"{self.network.etcd_address(machine)}:{ETCD_PORT}", "--log", self.log]
         words += ["--pid", f"{self.folder(machine)}/pid", "--mark-lines", str(self.mark_lines)]
-        return words
+        return [*words, "--roll-from", str(self.roll_from), "--keys", str(self.keys)]
 
     def environment(self, kind: str, machine: int) -> dict[str, str]:
         if kind == "front":
@@ -214,6 +217,17 @@ class Machines:
         keys = self.etcdctl(machine, "get", "--prefix", f"{self.log}/marks/", "--keys-only").split()
         return [(int(key.split("/")[-2]), key.split("/")[-1]) for key in keys]
 
+    def told(self, machine: int) -> dict[tuple[int, str], str]:
+        """What each machine has told at each mark, by the mark's revision and the machine's name."""
+        lines = self.etcdctl(machine, "get", "--prefix", f"{self.log}/marks/").splitlines()
+        keys = [key.split("/")[-2:] for key in lines[::2]]
+        return {(int(revision), name): value for (revision, name), value in zip(keys, lines[1::2], strict=True)}
+
+    def add_roll(self, machine: int) -> None:
+        """Adds a roll to the log, as an operator does, by a machine's member of etcd."""
+        newest = max((revision for revision, _ in self.marks(machine)), default=0)
+        self.etcdctl(machine, "put", f"{self.log}/log", f"roll {newest} {self.keys}")
+
     async def begin_log(self) -> None:
         """Has the log begin with the first machine's desk."""
         words = [*self.network.inside(1), *self.words("replica", 1), "--begin"]
@@ -288,6 +302,12 @@ class Machines:
         for machine in MACHINES:
             done(self.program, ["run", self.desk(machine)])
         return [rows_of(self.desk(machine)) for machine in MACHINES]
+
+
+    def olds(self, machine: int) -> list[str]:
+        """The files of a machine's desk from before it was rolled up."""
+        folder = os.path.dirname(self.desk(machine))
+        return sorted(os.path.join(folder, name) for name in os.listdir(folder) if OLD_FILE.fullmatch(name))
 
 
 def parent_of(pid: int) -> int | None:

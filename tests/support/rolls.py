@@ -7,6 +7,8 @@ from collections.abc import Iterable
 from support.chance import Chance
 from support.programs import done, expect, new_desk
 from support.rolled import closed, joined, made, old_desk
+from support.rows import desk_of, tables_by
+from support.rules import Rules
 from support.tables import DeskRow, KeptRow, LineRow, Tables, tables_of
 
 # how many keys are kept where it is not told
@@ -52,6 +54,11 @@ def rolled_by_rules(old: Tables, keys: int = KEYS) -> Tables:
         "kept": [KeptRow(row.reqkey, row.place - gone, row.words) for row in kept],
         "firm": [row for row in old["firm"] if row.number in staying],
     }
+
+
+def rolled_desk(desk: Rules, keys: int) -> Rules:
+    """The desk that goes on behind a roll with so many keys."""
+    return desk_of(rolled_by_rules(tables_by(desk), keys))
 
 
 def left_of(row: LineRow) -> LineRow:
