@@ -47,9 +47,9 @@ class Look(NamedTuple):
 
     def stuck(self) -> str:
         """The deals that hold a roll up, in words."""
-        numbers = self.deals.forgotten
+        numbers = self.deals.long_open
         more = f" and {len(numbers) - NAMED} more" if len(numbers) > NAMED else ""
-        return f"{', '.join(map(str, numbers[:NAMED]))}{more}, open, and named by none of the last {self.keys} commands"
+        return f"{', '.join(map(str, numbers[:NAMED]))}{more}, open for longer than the last {self.keys} commands"
 
     def why(self) -> str:
         """Why a roll is wanted, where it is."""
@@ -66,6 +66,6 @@ class Look(NamedTuple):
                 return f"{self.counts.places} places are taken and {self.counts.set_aside} set aside, fewer than {least}"
             if not self.gives_places():
                 return f"{self.counts.places} places are taken, and all their keys would stay"
-        if self.deals.forgotten and not is_near(self.taken, rows.PLACES):
+        if self.deals.long_open and not is_near(self.taken, rows.PLACES):
             return f"it waits for deals: {self.stuck()}"
         return None

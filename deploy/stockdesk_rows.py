@@ -15,8 +15,8 @@ ORDERS = 100_000
 # from this number on, orders are those of deals
 DEALS = 900_000_000
 
-# the words of a command that names an order of a deal
-NAMING = re.compile(r"(?:open|transfer|more|use|release|commit|abort|firm) (9[0-9]{8})(?: |$)")
+# a command that names an order of a deal; the first two open it
+NAMING = re.compile(r"(?:(open|transfer)|more|use|release|commit|abort|firm) (9[0-9]{8})(?: |$)")
 
 VERSION = 2
 
@@ -35,11 +35,11 @@ class Counts(NamedTuple):
 
 
 class Deals(NamedTuple):
-    """The orders of deals at a roll: how many that have ended stay, since one of the last commands names them, and the numbers of
-    those that are open although none does."""
+    """The orders of deals at a roll: how many that have ended stay, since one of the last commands names them; and the numbers of
+    those that have been open for so long that none of the last commands opens them. Carriers know these by the key that goes."""
 
     staying: int = 0
-    forgotten: tuple[int, ...] = ()
+    long_open: tuple[int, ...] = ()
 
 
 def find(database: sqlite3.Connection) -> None:
@@ -92,16 +92,17 @@ def counts_in(path: str, with_log: bool = False) -> Counts:
         return count(database)
 
 
-def named_late(database: sqlite3.Connection, keys: int) -> set[int]:
-    """The numbers of deals that the last commands name."""
+def named_late(database: sqlite3.Connection, keys: int) -> tuple[set[int], set[int]]:
+    """The numbers of deals that the last commands name, and of those that they open."""
     late = database.execute("SELECT words FROM kept WHERE place > (SELECT places FROM desk) - ?", [keys])
-    return {int(told[1]) for words, in late if (told := NAMING.match(words))}
+    told = [found for words, in late if (found := NAMING.match(words))]
+    return {int(found[2]) for found in told}, {int(found[2]) for found in told if found[1]}
 
 
 def deals_in(path: str, keys: int, with_log: bool = False) -> Deals:
     """How the orders of deals in a file stand at a roll that leaves so many keys."""
     with read(path, with_log) as database:
         orders = database.execute("SELECT number, state FROM orders WHERE number >= ? ORDER BY number", [DEALS]).fetchall()
-        named = named_late(database, keys) if orders else set()
+        named, opened = named_late(database, keys) if orders else (set(), set())
     staying = sum(state != 0 and number in named for number, state in orders)
-    return Deals(staying, tuple(number for number, state in orders if state == 0 and number not in named))
+    return Deals(staying, tuple(number for number, state in orders if state == 0 and number not in opened))

@@ -193,7 +193,8 @@ class RollOvers(ProgramCase):
         path = desk_of(self.program, self.folder)
         found, names = lying(path), os.listdir(self.folder)
         for words, reason in [
-            (["--from", "9"], b"8 places are taken, fewer than 9\n"),
+            (["--from", "12"], b"8 places are taken and 3 set aside, fewer than 12\n"),
+            (["--from", "11"], b"8 places are taken, and all their keys would stay\n"),
             (["--from", "8"], b"8 places are taken, and all their keys would stay\n"),
             (["--from", "8", "--keys", "8"], b"8 places are taken, and all their keys would stay\n"),
         ]:
@@ -203,7 +204,7 @@ class RollOvers(ProgramCase):
             expect(end == (3, b"no roll is wanted: " + reason, b""), f"{words}: {end}")
             expect(lying(path) == found and sorted(os.listdir(self.folder)) == sorted(names), "something was changed")
         words = ["--from", "8", "--keys", "7"]
-        for more, status in [(["--from", "9"], 3), (words, 0)]:
+        for more, status in [(["--from", "12"], 3), (words, 0)]:
             with alone(self.program, path) as service:
                 asked = ["--wants", os.path.join(self.folder, "none.db"), "--port", str(service.port)]
                 expect(tool_ended(self.program, [*asked, *more])[0] == status, f"{more}: another status")
