@@ -27,6 +27,9 @@ from support.replica_network import MACHINES
 from support.replicas import PORT, REPLICA, UP_SECONDS, Machines
 from support.rolled import play_and_kill
 from support.service import Service, post
+from support.units import UNIT, seconds_of, settings_of
+
+import stockdesk_rows as rows
 
 TOOLS = [os.path.basename(path) for path in glob.glob(os.path.join(DEPLOY, "stockdesk-*")) if "." not in os.path.basename(path)]
 MODULES = [os.path.basename(path) for path in glob.glob(os.path.join(DEPLOY, "stockdesk_*.py"))]
@@ -272,12 +275,6 @@ def calls_of(group: str) -> set[str]:
     return {name for name in names if name[0] != "@"}.union(*(calls_of(name) for name in names if name[0] == "@"))
 
 
-def settings_of(unit: str, name: str) -> list[str]:
-    """The values of a setting in a unit, in their order."""
-    with open(os.path.join(DEPLOY, unit), encoding="utf-8") as file:
-        return re.findall(rf"^{name}=(.*)$", file.read(), re.MULTILINE)
-
-
 def calls_in(words: str) -> set[str]:
     return set().union(*(calls_of(word) if word[0] == "@" else {word} for word in words.split()))
 
@@ -354,6 +351,16 @@ class Units(ProgramCase):
                 kept = file.read().splitlines()
             expect(set(SHARED) <= set(kept), f"{name} lacks {set(SHARED) - set(kept)}")
             note(f"{name} {found[1]}")
+
+    def test_rolls_do_not_run_into_the_limit_on_starts(self):
+        """Behind a roll at least a quarter of the places is free, and the service ends once a twentieth is. No load fills what
+        lies between faster than by 20,000 commands a second; then come the pause and a roll, which takes a second at least. A
+        program that ends again and again runs into the limit, if a start takes two seconds at most."""
+        [burst] = settings_of(UNIT, "StartLimitBurst")
+        within, pause = seconds_of("StartLimitIntervalSec"), seconds_of("RestartSec")
+        fastest = (rows.PLACES // 4 - rows.PLACES // 20) / 20_000 + pause + 1
+        expect(int(burst) * fastest > within, f"{burst} rolls, one each {fastest:.1f} s, take less than {within} s")
+        expect(int(burst) * (pause + 2) <= within, f"{burst} ends take more than {within} s")
 
     def test_a_desk_is_served_alone_or_as_one_of_several(self):
         """The desk's settings decide: a unit that is not meant is not started, and says why. So no desk that several machines

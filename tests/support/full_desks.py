@@ -36,16 +36,25 @@ def leave_no_room(desk: Rules) -> None:
         _, field.lo, field.hi = desk.numbers(name)
 
 
-def full_rows() -> list[str]:
-    """A desk of 10,000 fields and 90,000 orders that has 1,000 places left for commands other than the end of an open order."""
+def give_room(desk: Rules) -> None:
+    for field in desk.fields.values():
+        field.lo, field.hi = 0, 2 * MIDDLE
+
+
+def full_rows(open_orders: int = OPEN_ORDERS, places: int = PLACES, has_room: bool = False) -> list[str]:
+    """A desk of 10,000 fields and 90,000 orders, so many of them open, with so many places taken; as it is told here 1,000 places
+    are left for commands other than the end of an open order. The fields have room, or none."""
     generator, desk = random.Random(1986), Rules()
     desk.clock = CLOCK
     names = [(f"N{n % 20}", f"A{n // 20}") for n in range(FIELDS)]
     desk.fields = {name: Field(0, 0, MIDDLE, MIDDLE) for name in names}
-    for index, number in enumerate(generator.sample(range(1, 900_000_000), ORDERS)):
-        add_order(desk, generator, number, OPEN if index < OPEN_ORDERS else generator.choice([COMMITTED, ABORTED]))
+    for index, number in enumerate(generator.sample(range(1_000_000, 900_000_000), ORDERS)):
+        add_order(desk, generator, number, OPEN if index < open_orders else generator.choice([COMMITTED, ABORTED]))
     for place in range(1, 3_001):
         desk.move(place, generator.choice(names), generator.choice([-50, 70]))
-    leave_no_room(desk)
-    desk.kept = {f"K{number:06}": (number, "expire 0") for number in range(1, PLACES + 1)}
+    if has_room:
+        give_room(desk)
+    else:
+        leave_no_room(desk)
+    desk.kept = {f"K{number:06}": (number, "expire 0") for number in range(1, places + 1)}
     return lines_of_rows(tables_by(desk), ",")
