@@ -2,13 +2,10 @@
 desk is only a wait; and where rolls and services are killed, nothing is lost and nothing is done twice. In the environment
 ROLL_KILLS says how many rolls are killed: `ROLL_KILLS=300 ./check tests rolls_crowds.Killed` has 300."""
 
-import contextlib
 import http.client
-import json
 import os
 import random
 import time
-import urllib.request
 from collections import Counter
 from functools import partial
 
@@ -18,7 +15,7 @@ from support.fronts import FIELDS, FrontCase, Haproxy, free_port
 from support.full_desks import full_rows
 from support.programs import SECONDS, done, expect, new_desk, note
 from support.rolled import kill_group
-from support.units import Unit, kept_up
+from support.units import Unit, ended_when_full, kept_up
 from support.writers import expect_once, files_of, values_in, writing
 
 # of a full desk: as many orders are open, so many places are taken, and from so many on, taken and set aside, the service ends
@@ -38,10 +35,10 @@ class Full(FrontCase):
         desks.put(full_rows(OPEN, PLACES, has_room=True))
         before = values_in(desks.path)
         front, unit = Haproxy(self.folder, port), Unit(self.program, desks.path, port)
-        with kept_up(unit):
+        with kept_up(unit), ended_when_full(unit, MOST):
             front.start()
             try:
-                with writing(front.connect, CLIENTS, [f"N1 A{n}" for n in range(8)], is_patient=False) as writers:
+                with writing(front.connect, CLIENTS, [f"N1 A-{n}" for n in range(8)], is_patient=False) as writers:
                     wait_for_rolls(unit)
             finally:
                 front.stop()
@@ -53,16 +50,11 @@ class Full(FrontCase):
 
 
 def wait_for_rolls(unit):
-    """Ends the service whenever the desk has filled up, until it was rolled up so often and serves again."""
+    """Waits until the desk was rolled up so often, and serves again for a while."""
     latest = time.monotonic() + 3 * SECONDS
     while sum(start.is_roll() for start in unit.starts) < ROLLS:
         expect(time.monotonic() < latest, f"no roll: {unit.starts}")
         time.sleep(0.1)
-        # while it does not serve, nobody answers
-        with contextlib.suppress(OSError), urllib.request.urlopen(f"http://127.0.0.1:{unit.port}/v1/desk", timeout=1) as answer:
-            told = json.load(answer)
-            if told["places"] + told["open"] >= MOST:
-                unit.process.kill()
     time.sleep(1)
 
 
