@@ -27,9 +27,7 @@ from support.replica_network import MACHINES
 from support.replicas import PORT, REPLICA, UP_SECONDS, Machines
 from support.rolled import play_and_kill
 from support.service import Service, post
-from support.units import UNIT, seconds_of, settings_of
-
-import stockdesk_rows as rows
+from support.units import settings_of
 
 TOOLS = [os.path.basename(path) for path in glob.glob(os.path.join(DEPLOY, "stockdesk-*")) if "." not in os.path.basename(path)]
 MODULES = [os.path.basename(path) for path in glob.glob(os.path.join(DEPLOY, "stockdesk_*.py"))]
@@ -351,16 +349,6 @@ class Units(ProgramCase):
                 kept = file.read().splitlines()
             expect(set(SHARED) <= set(kept), f"{name} lacks {set(SHARED) - set(kept)}")
             note(f"{name} {found[1]}")
-
-    def test_rolls_do_not_run_into_the_limit_on_starts(self):
-        """Behind a roll at least a quarter of the places is free, and the service ends once a twentieth is. No load fills what
-        lies between faster than by 20,000 commands a second; then come the pause and a roll, which takes a second at least. A
-        program that ends again and again runs into the limit, if a start takes two seconds at most."""
-        [burst] = settings_of(UNIT, "StartLimitBurst")
-        within, pause = seconds_of("StartLimitIntervalSec"), seconds_of("RestartSec")
-        fastest = (rows.PLACES // 4 - rows.PLACES // 20) / 20_000 + pause + 1
-        expect(int(burst) * fastest > within, f"{burst} rolls, one each {fastest:.1f} s, take less than {within} s")
-        expect(int(burst) * (pause + 2) <= within, f"{burst} ends take more than {within} s")
 
     def test_a_desk_is_served_alone_or_as_one_of_several(self):
         """The desk's settings decide: a unit that is not meant is not started, and says why. So no desk that several machines

@@ -19,7 +19,7 @@ from support.units import Unit, ended_when_full, kept_up
 from support.writers import expect_once, files_of, values_in, writing
 
 # of a full desk: as many orders are open, so many places are taken, and from so many on, taken and set aside, the service ends
-OPEN, PLACES, MOST = 55_000, 96_700, 152_000
+OPEN, PLACES, MOST = 55_000, 94_900, 152_000
 CLIENTS, ROLLS, WAIT = 64, 2, 10
 
 # of a small desk: how many keys stay, how many clients write, and how many rolls are killed

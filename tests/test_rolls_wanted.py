@@ -11,9 +11,10 @@ from support.programs import done, expect, new_desk
 from support.rolled import lying, tool_ended
 from support.rolls import expect_rolled
 from support.tables import tables_of
+from support.units import UNIT, seconds_of, settings_of
 
 from stockdesk_room import Look, keys_for
-from stockdesk_rows import Counts, Deals
+from stockdesk_rows import PLACES, Counts, Deals
 
 HALF = 100_000
 
@@ -90,6 +91,16 @@ class Rules(ProgramCase):
             numbers = tuple(range(900_000_001, 900_000_001 + count))
             told = Look(Counts(120_000, count, 1, count), 100_000, Deals(0, numbers)).stuck()
             expect(want in f"{told}, " and told.startswith("900000001"), told)
+
+    def test_rolls_do_not_run_into_the_limit_on_starts(self):
+        """Behind a roll at least a quarter of the places is free, and the service ends once a twentieth is. No load fills what
+        lies between faster than by 20,000 commands a second; then come the pause and a roll, which takes a second at least. A
+        program that ends again and again runs into the limit, if a start takes two seconds at most."""
+        [burst] = settings_of(UNIT, "StartLimitBurst")
+        within, pause = seconds_of("StartLimitIntervalSec"), seconds_of("RestartSec")
+        fastest = (PLACES // 4 - PLACES // 20) / 20_000 + pause + 1
+        expect(int(burst) * fastest > within, f"{burst} rolls, one each {fastest:.1f} s, take less than {within} s")
+        expect(int(burst) * (pause + 2) <= within, f"{burst} ends take more than {within} s")
 
 
 @needs_strict_tables
