@@ -65,15 +65,18 @@ class Killed(ProgramCase):
         it finds; clients ask again under their keys."""
         path, port = new_desk(self.program, self.folder), free_port()
         done(self.program, ["run", path], FIELDS + "".join(f"B{n} deliver N1 A-1 1\n" for n in range(KEYS)))
-        before, kills, generator = values_in(path), int(os.environ.get("ROLL_KILLS", KILLS)), random.Random(1986)
-        unit = Unit(self.program, path, port, look=["--from", str(KEYS), "--keys", str(KEYS)])
+        before, kills, ends = values_in(path), int(os.environ.get("ROLL_KILLS", KILLS)), Counter[str]()
+        unit, generator = Unit(self.program, path, port, look=["--from", str(KEYS), "--keys", str(KEYS)]), random.Random(1986)
         unit.start(time.monotonic())
-        ends = Counter[str]()
+        # so many seconds after its start a roll is killed at the latest; half of them are to come to an end before
+        latest = unit.starts[0].took
         connect = partial(http.client.HTTPConnection, "127.0.0.1", port, timeout=SECONDS)
         with writing(connect, WRITERS, [f"N1 A-{n}" for n in range(1, 9)], is_patient=True) as writers:
             for _ in range(kills):
                 time.sleep(generator.uniform(0.05, 0.25))
-                ends[self.killed(unit, path, generator)] += 1
+                left = self.killed(unit, path, generator.uniform(0, latest))
+                latest *= 0.9 if left == "the new desk" else 1.1
+                ends[left] += 1
             unit.kill()
             unit.start(time.monotonic())
         unit.kill()
@@ -83,11 +86,12 @@ class Killed(ProgramCase):
         note(f"{count} commands, {kills} rolls killed, {rolls} came to an end, {lost} answers lost; {dict(ends)}")
         expect(lost > 0 and len(ends) > 1, f"{ends}")
 
-    def killed(self, unit, path, generator):
-        """Kills the service, and the roll before the next start; starts the service. Returns what the kill left."""
+    def killed(self, unit, path, seconds):
+        """Kills the service, and after so many seconds the roll before the next start; starts the service. Returns what the kill
+        left."""
         unit.kill()
         names, tool = len(files_of(path)), unit.looking()
-        time.sleep(generator.uniform(0, 1.1 * unit.starts[0].took))
+        time.sleep(seconds)
         kill_group(tool, path)
         was_new, has_two = len(files_of(path)) > names, os.stat(path).st_nlink > 1
         if not unit.serve():
