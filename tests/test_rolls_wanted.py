@@ -156,7 +156,7 @@ class Waits(ProgramCase):
             expect(tool_ended(self.program, words)[0] == 0, "it waits, though the key stays")
             done(self.program, ["run", path], f"{NAMES_IT}\n" if turn == 0 else "")
         expect_rolls(self.program, path, ["--from", "1", "--keys", "6"], 1)
-        expect_rolls(self.program, path, ["--keys", "3"], 2)
+        expect_rolls(self.program, path, ["--keys", "3"], 1)
         done(self.program, ["run", path], "M4 commit 900000001\nM5 deliver N1 A-1 1\nM6 deliver N1 A-1 1\n")
         expect_rolls(self.program, path, ["--from", "1", "--keys", "1"], 1)
 

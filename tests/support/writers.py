@@ -75,6 +75,8 @@ class Writer:
                 return answer.status, json.loads(answer.read())
             except (OSError, http.client.HTTPException) as fault:
                 expect(self.is_patient, f"{key} {command}: no answer: {fault!r}")
+                if self.connection:
+                    self.connection.close()
                 self.connection = None
                 self.lost += 1
                 time.sleep(PAUSE)
