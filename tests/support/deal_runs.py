@@ -156,9 +156,7 @@ class Run:
 
     def roll(self, desk: Served) -> None:
         """Rolls a desk up: with as many keys as usual, or with those of the deal and of what came after its first command."""
-        kept = desk.rules.kept
-        first = min((place for place, words in kept.values() if str(NUMBER) in words), default=len(kept) + 1)
-        desk.roll(self.chance.choice([KEYS, len(kept) + 1 - first]))
+        desk.roll(self.chance.choice([KEYS, desk.rules.keys_since(NUMBER)]))
         self.counts.found["rolls"] += 1
 
     def meanwhile(self, desk: Served) -> None:

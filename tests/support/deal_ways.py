@@ -16,8 +16,7 @@ from support.desks import Desks
 from support.messages import answer, compact
 from support.programs import SECONDS, done, expect
 from support.rolled import tool_ended
-from support.rolls import KEYS, rolled_by_rules
-from support.rows import desk_of, tables_by
+from support.rolls import KEYS
 from support.service import TOGETHER, Service
 
 # how long a desk lives at most, in seconds, and how many connections it serves
@@ -77,7 +76,7 @@ class Served:
         """Rolls the desk up, which is not served just now, as it is rolled up by the rules."""
         status, out, errors = tool_ended(self.program, [self.path, "--keys", str(keys)])
         expect((status, errors) == (0, b"") and b"rolled up: " in out, f"desk {self.number}: {status}, {out!r}, {errors!r}")
-        vars(self.rules).update(vars(desk_of(rolled_by_rules(tables_by(self.rules), keys))))
+        self.rules.roll(keys)
         for old in glob.glob(os.path.join(os.path.dirname(self.path), "old-*.db")):
             os.remove(old)
 
