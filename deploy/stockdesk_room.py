@@ -45,6 +45,10 @@ class Look(NamedTuple):
         """Whether at least half of the room for orders is taken, and half of these would go."""
         return 2 * self.counts.orders >= rows.ORDERS and 2 * self.gone >= self.counts.orders
 
+    def waits(self) -> bool:
+        """Whether a roll waits for deals. It does not where nine tenths of the places are taken or set aside."""
+        return bool(self.deals.long_open) and not is_near(self.taken, rows.PLACES)
+
     def stuck(self) -> str:
         """The deals that hold a roll up, in words."""
         numbers = self.deals.long_open
@@ -66,6 +70,4 @@ class Look(NamedTuple):
                 return f"{self.counts.places} places are taken and {self.counts.set_aside} set aside, fewer than {least}"
             if not self.gives_places():
                 return f"{self.counts.places} places are taken, and all their keys would stay"
-        if self.deals.long_open and not is_near(self.taken, rows.PLACES):
-            return f"it waits for deals: {self.stuck()}"
-        return None
+        return f"it waits for deals: {self.stuck()}" if self.waits() else None

@@ -20,7 +20,10 @@ from support.writers import expect_once, files_of, values_in, writing
 
 # of a full desk: as many orders are open, so many places are taken, and from so many on, taken and set aside, the service ends
 OPEN, PLACES, MOST = 55_000, 94_900, 152_000
-CLIENTS, ROLLS, WAIT = 64, 2, 10
+CLIENTS, ROLLS = 64, 2
+
+# on a machine of today nobody waits longer than 10 seconds; a test on a busy machine allows for more
+WAIT = 25
 
 # of a small desk: how many keys stay, how many clients write, and how many rolls are killed
 KEYS, WRITERS, KILLS = 1_000, 8, 15
@@ -45,7 +48,7 @@ class Full(FrontCase):
         count = expect_once(desks.path, before, writers)
         waited = max(writer.longest for writer in writers)
         expect(waited < WAIT, f"a client waited for {waited:.1f} s")
-        took = ", ".join(f"{start.took:.1f}" for start in unit.starts if start.is_roll())
+        took = ", ".join(f"{start.took:.1f} (down {start.down():.1f})" for start in unit.starts if start.is_roll())
         note(f"{count} commands, rolls of {took} s, the longest wait {waited:.1f} s")
 
 

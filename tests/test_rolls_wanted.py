@@ -181,6 +181,9 @@ class Waits(ProgramCase):
                 end = tool_ended(self.program, ["--check", path, "--port", str(service.port)])
             expect((end[0], end[2]) == (status, b"") and end[1].decode().endswith(text), f"{path}: {end}")
             expect((b"deals are not looked at: " in end[1]) == (path == none), f"{path}: {end}")
+        desks.put([*of_orders(90_000), *of_open(1, 900_000_001)[1:]])
+        status, out, errors = tool_ended(self.program, ["--check", desks.path])
+        expect(b"orders: 90001 of 100000, 90 percent, nearly full: a roll waits for deals\n" in out, f"{out!r}, {errors!r}")
         desks.put([*of_desk(3), *of_open(1, 899_999_999)])
         expect(tool_ended(self.program, ["--check", desks.path])[0] == 0, "told of an order that is no deal's")
 

@@ -34,11 +34,11 @@ def settings_of(unit: str, name: str) -> list[str]:
 
 
 def seconds_of(name: str) -> float:
-    """A setting of the desk's unit that is a number of seconds or minutes."""
+    """A setting of the desk's unit that is a time, in seconds."""
     [told] = settings_of(UNIT, name)
-    found = re.fullmatch(r"([0-9]+)(s|min)", told)
+    found = re.fullmatch(r"([0-9]+)(ms|s|min)", told)
     assert found, told
-    return int(found[1]) * {"s": 1, "min": 60}[found[2]]
+    return int(found[1]) * {"ms": 0.001, "s": 1, "min": 60}[found[2]]
 
 
 @dataclass
