@@ -15,7 +15,7 @@ from support.fronts import FIELDS, FrontCase, Haproxy, free_port
 from support.full_desks import full_rows
 from support.programs import SECONDS, done, expect, new_desk, note
 from support.rolled import kill_group
-from support.units import Unit, ended_when_full, kept_up
+from support.units import Unit, kept_up
 from support.writers import expect_once, files_of, values_in, writing
 
 # of a full desk: as many orders are open, so many places are taken, and from so many on, taken and set aside, the service ends
@@ -37,8 +37,8 @@ class Full(FrontCase):
         desks, port = Desks(self.program, self.folder), free_port()
         desks.put(full_rows(OPEN, PLACES, has_room=True))
         before = values_in(desks.path)
-        front, unit = Haproxy(self.folder, port), Unit(self.program, desks.path, port)
-        with kept_up(unit), ended_when_full(unit, MOST):
+        front, unit = Haproxy(self.folder, port), Unit(self.program, desks.path, port, instead={"190000": str(MOST)})
+        with kept_up(unit):
             front.start()
             try:
                 with writing(front.connect, CLIENTS, [f"N1 A-{n}" for n in range(8)], is_patient=False) as writers:

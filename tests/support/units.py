@@ -2,26 +2,20 @@
 service ends, it is started again after a pause."""
 
 import contextlib
-import http.client
-import json
 import os
 import re
 import signal
 import subprocess
 import threading
 import time
-import urllib.request
 from collections.abc import Iterator, Sequence
 from dataclasses import dataclass
 
 from support import DEPLOY
-from support.programs import SECONDS, expect
+from support.programs import expect
 from support.rolled import TOOL
 
 UNIT = "stockdesk@.service"
-
-# how often it is looked how full a desk is
-LOOK_SECONDS = 0.05
 
 # with these statuses the service stays down
 STAYS_DOWN = (2, 3)
@@ -135,26 +129,3 @@ def kept_up(unit: Unit) -> Iterator[None]:
         thread.join()
         unit.kill()
     expect(not faults, f"not kept up: {faults}")
-
-
-@contextlib.contextmanager
-def ended_when_full(unit: Unit, most: int) -> Iterator[None]:
-    """Whenever so many places are taken or set aside, the service is ended."""
-    over = threading.Event()
-
-    def watch() -> None:
-        while not over.wait(LOOK_SECONDS):
-            # while it does not serve, nobody answers
-            with contextlib.suppress(OSError, http.client.HTTPException):
-                with urllib.request.urlopen(f"http://127.0.0.1:{unit.port}/v1/desk", timeout=SECONDS) as answer:
-                    told = json.load(answer)
-                if told["places"] + told["open"] >= most and unit.process:
-                    unit.process.kill()
-
-    thread = threading.Thread(target=watch)
-    thread.start()
-    try:
-        yield
-    finally:
-        over.set()
-        thread.join()
