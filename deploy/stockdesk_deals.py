@@ -73,6 +73,11 @@ class Order:
     def has_used_all(self) -> bool:
         return all(self.used)
 
+    @property
+    def is_rolled(self) -> bool:
+        """Whether a roll has taken from its lines what they had used."""
+        return not all(line.quantity for line in self.lines)
+
 
 @dataclass(frozen=True)
 class Step:
@@ -147,6 +152,11 @@ def key_of_opening(number: int, *sides: Lines) -> str:
     return f"between-{number}-{digest[:16]}"
 
 
+def keys_of(key: str) -> list[str]:
+    """The keys under which a command may be done, in turn: its own, and others for where that was taken for something else."""
+    return [key, *(f"{key}-{count}" for count in range(2, MOST_KEYS + 1))]
+
+
 @dataclass
 class Side:
     """A desk of a deal, what the deal does there if that is known, and its order as it was seen last. `is_ours` says that the
@@ -186,9 +196,26 @@ class Deal:
     def seen(self, side: Side) -> Order | None:
         told = side.desk.order(self.number)
         try:
-            return order_of(told) if told else None
+            order = order_of(told) if told else None
         except Foreign as fault:
             raise self.foreign(side, str(fault)) from fault
+        return self.with_all_held(side, order) if order and order.is_rolled else order
+
+    def with_all_held(self, side: Side, order: Order) -> Order:
+        """An order that was committed before a roll, with what its lines held before: as much as the deal used of them."""
+        lines = [line if line.quantity else self.used_on(side, nr, line) for nr, line in enumerate(order.lines, 1)]
+        return replace(order, lines=tuple(lines))
+
+    def used_on(self, side: Side, nr: int, line: Line) -> Line:
+        """A line with what the deal's command has used on it; as it is, where the desk has forgotten that command."""
+        for key in keys_of(f"between-{self.number}-use-{nr}"):
+            told = side.desk.shown(f"/v1/keys/{key}")
+            words = str(told["command"]).split() if told else []
+            if words[:4] == ["use", str(self.number), line.branch, line.article]:
+                return replace(line, quantity=int(words[4]))
+            if not told:
+                break
+        return line
 
     def seen_if_there(self, side: Side) -> Order | None:
         """The order at a desk, or None where the desk does not answer."""
@@ -270,8 +297,8 @@ class Deal:
         refused. Foreign: the number is taken by an order that was opened under no key of this deal."""
         key, command = self.command_of(step)
         side = self.sides[step.side]
-        for count in range(1, MOST_KEYS + 1):
-            refusal = side.desk.send(key if count == 1 else f"{key}-{count}", command)
+        for each in keys_of(key):
+            refusal = side.desk.send(each, command)
             # an order that is opened under the deal's key with another moment is this deal's
             if not refusal or refusal["refused"] != "KeyReused" or step.verb == "open":
                 break

@@ -1,7 +1,8 @@
-"""How full a desk is, from the rows of its file."""
+"""How full a desk is, and how its deals stand, from the rows of its file."""
 
 import contextlib
 import pathlib
+import re
 import sqlite3
 from collections.abc import Iterator
 from typing import Any, NamedTuple
@@ -10,6 +11,12 @@ from typing import Any, NamedTuple
 PLACES = 200_000
 FIELDS = 10_000
 ORDERS = 100_000
+
+# from this number on, orders are those of deals
+DEALS = 900_000_000
+
+# a command that names an order of a deal; the first two open it
+NAMING = re.compile(r"(?:(open|transfer)|more|use|release|commit|abort|firm) (9[0-9]{8})(?: |$)")
 
 VERSION = 2
 
@@ -25,6 +32,14 @@ class Counts(NamedTuple):
     set_aside: int
     fields: int
     orders: int
+
+
+class Deals(NamedTuple):
+    """The orders of deals at a roll: how many that have ended stay, since one of the last commands names them; and the numbers of
+    those that have been open for so long that none of the last commands opens them. Carriers know these by the key that goes."""
+
+    staying: int = 0
+    long_open: tuple[int, ...] = ()
 
 
 def find(database: sqlite3.Connection) -> None:
@@ -59,12 +74,35 @@ def opened(path: str, with_log: bool) -> Iterator[sqlite3.Connection]:
         yield database
 
 
-def counts_in(path: str, with_log: bool = False) -> Counts:
-    """How full the desk is in a file that nobody changes meanwhile: in the file alone, which is left as it is, or with the log
-    that lies beside it."""
+@contextlib.contextmanager
+def read(path: str, with_log: bool) -> Iterator[sqlite3.Connection]:
+    """The desk in a file that nobody changes meanwhile: in the file alone, which is left as it is, or with the log that lies
+    beside it."""
     try:
         with opened(path, with_log) as database:
             find(database)
-            return count(database)
+            yield database
     except sqlite3.Error as error:
         raise NoDesk("store") from error
+
+
+def counts_in(path: str, with_log: bool = False) -> Counts:
+    """How full the desk in a file is."""
+    with read(path, with_log) as database:
+        return count(database)
+
+
+def named_late(database: sqlite3.Connection, keys: int) -> tuple[set[int], set[int]]:
+    """The numbers of deals that the last commands name, and of those that they open."""
+    late = database.execute("SELECT words FROM kept WHERE place > (SELECT places FROM desk) - ?", [keys])
+    told = [found for words, in late if (found := NAMING.match(words))]
+    return {int(found[2]) for found in told}, {int(found[2]) for found in told if found[1]}
+
+
+def deals_in(path: str, keys: int, with_log: bool = False) -> Deals:
+    """How the orders of deals in a file stand at a roll that leaves so many keys."""
+    with read(path, with_log) as database:
+        orders = database.execute("SELECT number, state FROM orders WHERE number >= ? ORDER BY number", [DEALS]).fetchall()
+        named, opened = named_late(database, keys) if orders else (set(), set())
+    staying = sum(state != 0 and number in named for number, state in orders)
+    return Deals(staying, tuple(number for number, state in orders if state == 0 and number not in opened))

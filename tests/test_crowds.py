@@ -2,10 +2,8 @@
 and with those that go away."""
 
 import concurrent.futures
-import glob
 import http.client
 import json
-import os
 import random
 import signal
 import socket
@@ -20,6 +18,7 @@ from support.fronts import OFFICE, SHOP, WAREHOUSE, Front, FrontCase, credential
 from support.programs import done, expect, new_desk, note
 from support.rolled import tool_ended
 from support.tables import is_able, rows_of, sqlite3, tables_of
+from support.writers import history
 
 CLIENTS = 64
 COMMANDS = 2_000
@@ -104,16 +103,6 @@ def expect_same_rows(program: str, folder: str, front: Front, accepted: list[Don
         expect(rows_of(front.file) == rows_of(played), "other rows")
 
 
-def all_kept(front: Front) -> list[tuple[str, str]]:
-    """The key and the command of all that was accepted, in order, from the old files that rolls have left and the desk's own."""
-    found, stayed = list[tuple[str, str]](), 0
-    for path in [*sorted(glob.glob(os.path.join(front.folder, "old-*.db")), key=os.path.getmtime), front.file]:
-        rows = sorted(tables_of(path)["kept"], key=lambda row: row.place)
-        found += [(row.reqkey, row.words) for row in rows[stayed:]]
-        stayed = min(KEYS, len(rows))
-    return found
-
-
 def longest_wait(front: Front, over: threading.Event) -> float:
     """How many seconds the longest of many deliveries took, sent one after the other until `over` is set."""
     longest = 0.0
@@ -174,7 +163,7 @@ class Crowds(FrontCase):
             accepted, _ = all_told(front, roll)
             front.desk_kill()
             done(self.program, ["run", front.file], "")
-            kept = all_kept(front)
+            kept = history(front.file)
             keys = [key for key, _ in kept]
             expect(len(set(keys)) == len(keys), "a command is done twice")
             expect({key for key in keys if key[0] == "C"} == {key for _, key, _ in accepted}, "other commands are done")

@@ -4,11 +4,12 @@ import os
 import socket
 import subprocess
 import threading
+from collections.abc import Callable
 from unittest import mock
 
 from support.cases import ProgramCase, needs_strict_tables
 from support.copies import alone
-from support.desks import OPEN_ORDER, Desks, of_desk, of_fields, of_orders
+from support.desks import OPEN_ORDER, Desks, of_desk, of_fields, of_open, of_orders
 from support.programs import Session, bytes_of, expect, new_desk, note
 from support.relays import false_desk
 from support.rolled import SCRIPT, desk_of, lying, play_and_kill, tool_ended
@@ -26,6 +27,15 @@ NEARLY = [
     (of_orders, 89_999, [], 0),
     (of_orders, 90_000, [], 3),
 ]
+
+# desks that are nearly full, and whether the next start rolls each up: never for fields, nor where fewer than half of the orders
+# have ended
+ROOM: list[tuple[Callable[[int], list[str]], int, list[str], bool]] = [
+    (of_desk, 180_000, [], True),
+    (of_fields, 9_000, [], False),
+    (of_orders, 90_000, [], True),
+]
+ROOM += [(of_orders, 45_000, of_open(45_000, 50_000)[1:], True), (of_orders, 45_000, of_open(45_001, 50_000)[1:], False)]
 
 # how full the desk of SCRIPT is
 FULL = b"""places: 8 taken and 3 set aside of 200000, 0 percent
@@ -108,6 +118,16 @@ class Fullness(ProgramCase):
             expect(bytes_of(desks.path) == found and sorted(os.listdir(self.folder)) == sorted(names), "something was changed")
         found = tool_ended(self.program, ["--check", desk_of(self.program, self.folder)])
         expect(found == (0, FULL, b""), f"{found}")
+
+    def test_a_look_tells_where_a_second_desk_is_wanted(self):
+        """A desk is nearly full; a roll gives it room, or gives none."""
+        desks = Desks(self.program, self.folder)
+        for make, count, others, has_room in ROOM:
+            desks.put([*make(count), *others])
+            status, out, errors = tool_ended(self.program, ["--check", desks.path])
+            told = [line.partition(", nearly full: ")[2] for line in out.decode().splitlines()]
+            text = "the next start rolls it up" if has_room else "a roll gives no room, so the chain wants a second desk"
+            expect((status, errors, sorted(told)) == (3, b"", ["", "", text]), f"{count}: {status}, {out!r}, {errors!r}")
 
     def test_a_desk_that_is_served_is_asked(self):
         """The desks lie on both sides of nine tenths; the file that is named beside the port is not read, and need not be

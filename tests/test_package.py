@@ -27,6 +27,7 @@ from support.replica_network import MACHINES
 from support.replicas import PORT, REPLICA, UP_SECONDS, Machines
 from support.rolled import play_and_kill
 from support.service import Service, post
+from support.units import settings_of
 
 TOOLS = [os.path.basename(path) for path in glob.glob(os.path.join(DEPLOY, "stockdesk-*")) if "." not in os.path.basename(path)]
 MODULES = [os.path.basename(path) for path in glob.glob(os.path.join(DEPLOY, "stockdesk_*.py"))]
@@ -270,12 +271,6 @@ def calls_of(group: str) -> set[str]:
     lines = run(["systemd-analyze", "syscall-filter", group]).stdout.splitlines()[1:]
     names = {line.strip() for line in lines if line.strip() and not line.strip().startswith("#")}
     return {name for name in names if name[0] != "@"}.union(*(calls_of(name) for name in names if name[0] == "@"))
-
-
-def settings_of(unit: str, name: str) -> list[str]:
-    """The values of a setting in a unit, in their order."""
-    with open(os.path.join(DEPLOY, unit), encoding="utf-8") as file:
-        return re.findall(rf"^{name}=(.*)$", file.read(), re.MULTILINE)
 
 
 def calls_in(words: str) -> set[str]:

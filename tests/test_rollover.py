@@ -19,13 +19,22 @@ from support.copies import alone
 from support.desks import Desks
 from support.full_desks import full_rows
 from support.older import older
-from support.programs import NO_DESK, SECONDS, Session, bytes_of, done, expect, expect_end, new_desk, note
-from support.rolled import SCRIPT, TOOL, closed, desk_of, expect_only, expect_refused, lying, play_and_kill, tool_ended
+from support.programs import NO_DESK, Session, bytes_of, done, expect, expect_end, new_desk, note
+from support.rolled import (
+    SCRIPT,
+    TOOL,
+    closed,
+    desk_of,
+    expect_only,
+    expect_refused,
+    kill_group,
+    lying,
+    play_and_kill,
+    tool_ended,
+)
 from support.rolls import desk_to_roll, expect_rolled, places_told, rolled_by_rules, some_keys
 from support.rows import expect_good
 from support.tables import sqlite3, tables_of
-
-import stockdesk_tools as tools
 
 SEEDS = range(12)
 KILLS = 60
@@ -193,7 +202,8 @@ class RollOvers(ProgramCase):
         path = desk_of(self.program, self.folder)
         found, names = lying(path), os.listdir(self.folder)
         for words, reason in [
-            (["--from", "9"], b"8 places are taken, fewer than 9\n"),
+            (["--from", "12"], b"8 places are taken and 3 set aside, fewer than 12\n"),
+            (["--from", "11"], b"8 places are taken, and all their keys would stay\n"),
             (["--from", "8"], b"8 places are taken, and all their keys would stay\n"),
             (["--from", "8", "--keys", "8"], b"8 places are taken, and all their keys would stay\n"),
         ]:
@@ -203,7 +213,7 @@ class RollOvers(ProgramCase):
             expect(end == (3, b"no roll is wanted: " + reason, b""), f"{words}: {end}")
             expect(lying(path) == found and sorted(os.listdir(self.folder)) == sorted(names), "something was changed")
         words = ["--from", "8", "--keys", "7"]
-        for more, status in [(["--from", "9"], 3), (words, 0)]:
+        for more, status in [(["--from", "12"], 3), (words, 0)]:
             with alone(self.program, path) as service:
                 asked = ["--wants", os.path.join(self.folder, "none.db"), "--port", str(service.port)]
                 expect(tool_ended(self.program, [*asked, *more])[0] == status, f"{more}: another status")
@@ -321,14 +331,6 @@ class Stops(ProgramCase):
                 expect(process.returncode == 1 and told, f"{process.returncode}, {errors}")
                 stopped += 1
         expect(stopped > 0, "none was stopped in time")
-
-
-def kill_group(process, path):
-    """Kills the tool and its program, and waits until neither has the desk open any more."""
-    os.killpg(process.pid, signal.SIGKILL)
-    process.communicate()
-    with open(path, "rb") as file:
-        expect(tools.wait_until(lambda: not tools.is_in_use(file), SECONDS), "it is still in use")
 
 
 def lay(path, files):

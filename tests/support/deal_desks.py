@@ -6,6 +6,8 @@ from random import Random
 from typing import Any
 
 from support.messages import answer_to
+from support.rolls import KEYS, rolled_by_rules
+from support.rows import desk_of, tables_by
 from support.rules import ABORTED, COMMITTED, OPEN, PLACES, Order, Rules
 
 # the number of a deal, the moment until which its first desk may wait for it, and the upper bound of its fields
@@ -26,6 +28,16 @@ class Places(Rules):
     def __init__(self, taken: int = 0, places: int = PLACES):
         super().__init__(places)
         self.kept = {f"R{number}": (number, "expire 0") for number in range(1, taken + 1)}
+
+    def roll(self, keys: int = KEYS) -> None:
+        """Rolls the desk up."""
+        vars(self).update(vars(desk_of(rolled_by_rules(tables_by(self), keys))) | {"places": self.places})
+
+    def keys_since(self, number: int) -> int:
+        """How many keys are those of the commands from the first on that names a deal."""
+        return (
+            len(self.kept) + 1 - min((at for at, words in self.kept.values() if str(number) in words), default=len(self.kept) + 1)
+        )
 
     def does(self, key: str, command: str) -> Told:
         """Carries out a command, and answers it."""

@@ -17,6 +17,7 @@ from support import DEPLOY
 from support.deal_desks import MOMENT, NUMBER, ROOM, Told, bounds_fault, fault, fill, is_moved, others_command, words_of
 from support.deal_ways import Served, Templates, Way
 from support.programs import SECONDS, expect
+from support.rolls import KEYS
 from support.rules import COMMITTED
 
 CARRIER = os.path.join(DEPLOY, "stockdesk-between")
@@ -59,6 +60,8 @@ class Case:
     takes_up: bool = False
     # the last call takes up all that is open
     resumes_all: bool = False
+    # how many of the killed desks are rolled up before they start again
+    rolls: float = 0.0
 
 
 @dataclass
@@ -142,11 +145,19 @@ class Run:
     def kill(self, victim: str | int) -> None:
         if isinstance(victim, int):
             self.counts.found["desks killed"] += 1
-            self.desks[victim].again()
+            self.desks[victim].kill()
+            if self.chance.random() < self.case.rolls:
+                self.roll(self.desks[victim])
+            self.desks[victim].start()
             return
         for carrier in self.carriers:
             self.counts.found["carriers killed"] += carrier.poll() is None
             carrier.kill()
+
+    def roll(self, desk: Served) -> None:
+        """Rolls a desk up: with as many keys as usual, or with those of the deal and of what came after its first command."""
+        desk.roll(self.chance.choice([KEYS, desk.rules.keys_since(NUMBER)]))
+        self.counts.found["rolls"] += 1
 
     def meanwhile(self, desk: Served) -> None:
         if "expiry" in self.case.meanwhile:
@@ -247,6 +258,8 @@ def play(templates: Templates, folder: str, case: Case, seed: object, counts: Co
 POINTS = ["before", "behind"]
 SIDES: list[str | int] = [CARRIERS, 0, 1]
 VICTIMS: list[Victims] = [frozenset(who) for count in (1, 2, 3) for who in combinations(SIDES, count)]
+# of the desks that are killed in runs by rule, so many are rolled up
+ROLLED = 0.25
 # how many messages an undisturbed deal of one line has between two desks, and between three
 STEPS, STEPS_OF_THREE = 10, 15
 
@@ -257,7 +270,7 @@ def each_step(points: Sequence[str] = POINTS, victims: Sequence[Victims] = VICTI
     for at in range(1, STEPS + 1):
         for who in victims:
             for point in points:
-                yield Case(f"{point} {at}", (Stop(at, point, who),), takes_up=bool(at % 2))
+                yield Case(f"{point} {at}", (Stop(at, point, who),), takes_up=bool(at % 2), rolls=ROLLED)
         yield Case(f"late {at}", (Stop(at, "late", frozenset([CARRIERS])),))
         yield Case(f"within {at}", (Stop(at, "within", frozenset([CARRIERS])),), takes_up=bool(at % 2))
         yield Case(f"expiry {at}", (Stop(at, POINTS[at % 2], VICTIMS[at % 7]),), meanwhile=frozenset(["expiry"]))
@@ -268,13 +281,15 @@ def each_step_of_three() -> Iterator[Case]:
     for at in range(1, STEPS_OF_THREE + 3):
         for point in POINTS:
             who: Victims = frozenset([CARRIERS, at % 3] if at % 2 else [CARRIERS])
-            yield Case(f"three, {point} {at}", (Stop(at, point, who),), desks=3, lines=1 + at % 2, takes_up=bool(at % 3))
+            yield Case(f"three, {point} {at}", (Stop(at, point, who),), 3, 1 + at % 2, takes_up=bool(at % 3), rolls=ROLLED)
 
 
 def few_places(steps: Iterable[int]) -> Iterator[Case]:
-    """Runs where a desk has few places left, and where a desk is filled up after a step."""
+    """Runs where a desk has few places left, and where a desk is filled up after a step; and where a roll makes room."""
     for number, left in [(number, left) for left in (3, 4, 5, 6) for number in (0, 1)]:
         yield Case(f"{left} places", (Stop(6, "behind", frozenset([CARRIERS])),), left=((number, left),))
+    for number in (0, 1):
+        yield Case("rolled", (Stop(6, "behind", frozenset([CARRIERS, number])),), left=((number, 3),), rolls=1)
     for at in steps:
         stops = (Stop(at, POINTS[at % 2], VICTIMS[at % 7]),)
         yield Case(f"fill {at}", stops, left=((at % 2, 12),), meanwhile=frozenset(["fill"]))
@@ -303,4 +318,5 @@ def by_chance(count: int, seed: object) -> Iterator[Case]:
             carriers=chance.choice([1, 1, 2, 3]),
             takes_up=chance.random() < 0.5,
             resumes_all=chance.random() < 0.5,
+            rolls=chance.choice([0.0, 0.5, 1.0]),
         )

@@ -148,9 +148,12 @@ class Run:
         return deal.carry() if deal else None
 
     def others(self) -> None:
-        """Somebody else's command, or all places of a desk that has few."""
+        """Somebody else's command, or all places of a desk that has few; and before it sometimes a roll of the desk."""
         number = self.chance.randrange(len(self.desks))
         desk = self.desks[number]
+        if self.chance.random() < 0.05:
+            desk.roll(desk.keys_since(NUMBER))
+            self.counts.found["rolls"] += 1
         desk.does(f"K{self.chance.getrandbits(60)}", others_command(self.chance, number, self.chance.random() < 0.3))
         if self.chance.random() < 0.02 and desk.places < PLACES:
             fill(desk, words_of(number, 1), self.chance)

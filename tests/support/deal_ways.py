@@ -2,6 +2,7 @@
 seen before it is delivered."""
 
 import contextlib
+import glob
 import http.client
 import http.server
 import json
@@ -14,6 +15,8 @@ from support.deal_desks import NONE, PLACES, Places, Told, command_in, words_of
 from support.desks import Desks
 from support.messages import answer, compact
 from support.programs import SECONDS, done, expect
+from support.rolled import tool_ended
+from support.rolls import KEYS
 from support.service import TOGETHER, Service
 
 # how long a desk lives at most, in seconds, and how many connections it serves
@@ -68,6 +71,14 @@ class Served:
     def again(self) -> None:
         self.kill()
         self.start()
+
+    def roll(self, keys: int = KEYS) -> None:
+        """Rolls the desk up, which is not served just now, as it is rolled up by the rules."""
+        status, out, errors = tool_ended(self.program, [self.path, "--keys", str(keys)])
+        expect((status, errors) == (0, b"") and b"rolled up: " in out, f"desk {self.number}: {status}, {out!r}, {errors!r}")
+        self.rules.roll(keys)
+        for old in glob.glob(os.path.join(os.path.dirname(self.path), "old-*.db")):
+            os.remove(old)
 
     def asked(self, method: str, target: str, body: bytes | str | None = None) -> Told:
         connection = http.client.HTTPConnection("127.0.0.1", self.service.port, timeout=SECONDS)

@@ -80,3 +80,9 @@ def of_lines(count: int) -> list[str]:
     """An order of so many lines that is aborted."""
     lines = [f"line,1,{number + 1},N{number % 4},A{number},0,0,0" for number in range(count)]
     return [*of_fields(count), "orders,1,0,0,2", *lines]
+
+
+def of_open(count: int, number: int = 1) -> list[str]:
+    """So many open orders, which hold a piece each of one field; `number` is that of the first."""
+    orders = [f"orders,{each},0,4000000000,0\nline,{each},1,N1,A-1,0,1,0" for each in range(number, number + count)]
+    return [f"field,N1,A-1,0,100000,100000,100000,{100_000 - count},100000", *"\n".join(orders).split("\n")]

@@ -4,6 +4,7 @@ import os
 import random
 import resource
 import shutil
+import signal
 import subprocess
 from collections.abc import Iterable, Sequence
 from dataclasses import dataclass
@@ -14,6 +15,8 @@ from support.inputs import OPENING, known_fields, say_lines
 from support.programs import SECONDS, End, bytes_of, done, expect, new_desk
 from support.rules import Line, Order, Rules
 from support.tables import tables_of
+
+import stockdesk_tools as tools
 
 TOOL = os.path.join(DEPLOY, "stockdesk-rollover")
 
@@ -107,6 +110,14 @@ def tool_ended(program: str, words: Sequence[str], limit: int | None = None) -> 
         preexec_fn=None if limit is None else lambda: resource.setrlimit(resource.RLIMIT_FSIZE, (limit, limit)),
     )
     return run.returncode, run.stdout, run.stderr
+
+
+def kill_group(process: subprocess.Popen[bytes], path: str) -> None:
+    """Kills the tool and its program, and waits until neither has the desk open any more."""
+    os.killpg(process.pid, signal.SIGKILL)
+    process.communicate()
+    with open(path, "rb") as file:
+        expect(tools.wait_until(lambda: not tools.is_in_use(file), SECONDS), "it is still in use")
 
 
 def lying(path: str) -> dict[str, bytes]:

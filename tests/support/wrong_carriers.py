@@ -54,6 +54,7 @@ WRONG: dict[str, list[tuple[str, str]]] = {
         (FIRST_LOOK, "        first.order = self.seen(first)\n        early = [self.seen_if_there(side) for side in others]\n"),
     ],
     "takes another deal's order for its own": [("if is_other or (key and not side.desk.has_kept(key)):", "if is_other:")],
+    "does not know an order that a roll has changed": [("if order and order.is_rolled else order", "if False else order")],
     "leaves the orders of a deal that is given up": [
         ("left = [side for side, order in enumerate(orders) if order and order.state == OPEN]", "left = []"),
     ],
