@@ -173,7 +173,10 @@ class ReplicasRolls(LifeCase):
             os.link(machines.desk(3), os.path.join(os.path.dirname(machines.desk(3)), OLD_NAME))
             machines.start("replica", 3)
             await well(machines)
-            expect(not any(path.endswith(OLD_NAME) for path in machines.olds(3)) and len(machines.olds(3)) == 3, f"{machines.olds(3)}")
+            expect(
+                not any(path.endswith(OLD_NAME) for path in machines.olds(3)) and len(machines.olds(3)) == 3,
+                f"{machines.olds(3)}",
+            )
             revision = await add(machines, "mark {}", *MACHINES)
             expect_told(machines, revision, stand(lines[-4:]), *MACHINES)
 

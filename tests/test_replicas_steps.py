@@ -64,7 +64,17 @@ class ReplicasSteps(ProgramCase):
         """A machine passes over a word that the log does not have, and says so; the mark behind it counts."""
         from support.replica_walks import Entry, WrittenLog, said_on_the_way
 
-        values = [b"mark", b"mark xyz", b"End", b"mark 0" + b"0" * 99 + b"x", b"roll 0", b"roll 0 0", b"end ", b"mark 007", b"mark 0"]
+        values = [
+            b"mark",
+            b"mark xyz",
+            b"End",
+            b"mark 0" + b"0" * 99 + b"x",
+            b"roll 0",
+            b"roll 0 0",
+            b"end ",
+            b"mark 007",
+            b"mark 0",
+        ]
         log = WrittenLog([Entry(revision, value) for revision, value in enumerate(values, 2)])
         said = said_on_the_way(log).splitlines()
         expect(len(said) == 7, f"{said}")
@@ -87,7 +97,8 @@ class ReplicasSteps(ProgramCase):
 
     def test_when_a_roll_is_wanted(self):
         """From 190,000 places on, taken or set aside, and at night from 100,001 on; a quarter of the places is free behind it. From
-        95,000 orders on, and at night from 50,000 on, where half of them have ended and no roll was done for an hour. A key goes."""
+        95,000 orders on, and at night from 50,000 on, where half of them have ended and no roll was done for an hour. A key goes.
+        """
         from stockdesk_rolls import Rest, Sizes
         from stockdesk_rows import Counts
 

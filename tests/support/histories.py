@@ -254,16 +254,16 @@ def wrong_answers(history: History, life: Life, windows: Windows, rows: list[str
     return wrong + odd_rows(desk, rows)
 
 
-def judged(
-    history: History, tables: list[list[str]], olds: Iterable[list[str]] = ()
-) -> tuple[list[str], Mapping[str, int]]:
+def judged(history: History, tables: list[list[str]], olds: Iterable[list[str]] = ()) -> tuple[list[str], Mapping[str, int]]:
     """What is wrong with the answers, and with the rows of all machines; and how much was looked at. `olds` are the rows of desks
     before they were rolled up."""
     rolled = sorted({tuple(each): each for each in olds}.values())
     life = life_of(tables[0], rolled)
     wrong = [f"machine {nr} has other rows: {sorted(set(each) ^ set(tables[0]))[:4]}" for nr, each in enumerate(tables, 1)]
     wrong = [text for text, each in zip(wrong, tables) if each != tables[0]]
-    wrong += [f"{len(rolled)} desks were rolled up, {len(life.rolls)} of them one behind the other"] * (len(rolled) > len(life.rolls))
+    wrong += [f"{len(rolled)} desks were rolled up, {len(life.rolls)} of them one behind the other"] * (
+        len(rolled) > len(life.rolls)
+    )
     windows = Windows(history.attempts, life.kept)
     wrong += wrong_places(history, life, windows) + done_after_all(history.attempts, life.kept)
     wrong += wrong_answers(history, life, windows, tables[0])

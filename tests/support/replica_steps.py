@@ -205,7 +205,9 @@ class Place:
         self.cancel()
         rows, desk = await self.home.start()
         log, sizes = ModelLog(self.kept, self.chance.choice([2, 2, 6, 25])), self.sizes
-        machine = Machine(self.name, log, Walk(rows), desk, self.home, sizes._replace(mark_lines=self.chance.choice([3, 20, 1_000])))
+        machine = Machine(
+            self.name, log, Walk(rows), desk, self.home, sizes._replace(mark_lines=self.chance.choice([3, 20, 1_000]))
+        )
         await machine.find_mark()
         self.tasks = [asyncio.create_task(work) for work in machine.works()]
         head = self.kept.revision()

@@ -303,7 +303,6 @@ class Machines:
             done(self.program, ["run", self.desk(machine)])
         return [rows_of(self.desk(machine)) for machine in MACHINES]
 
-
     def olds(self, machine: int) -> list[str]:
         """The files of a machine's desk from before it was rolled up."""
         folder = os.path.dirname(self.desk(machine))
