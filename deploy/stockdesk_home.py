@@ -14,8 +14,8 @@ from stockdesk_walk import kept_lines
 
 ROLLOVER = os.path.join(os.path.dirname(os.path.realpath(__file__)), "stockdesk-rollover")
 
-# how long a desk may take to end whose connections are closed; and how long a machine waits behind a roll that failed, so that its
-# unit does not start it so often that it stays down: in seconds
+# how long a desk may take to end whose connections are closed; and how long a machine waits behind a roll that failed, so that
+# its unit does not start it so often that it stays down: in seconds
 END_SECONDS, FAILED_SECONDS = 60, 10
 
 

@@ -3,9 +3,11 @@ the desk up; a desk that has as many as it begins is served on."""
 
 import json
 
+from support.asks import ask_of
 from support.cases import ProgramCase
 from support.programs import done, expect, new_desk
-from support.service import TOGETHER, Service, post
+from support.service import TOGETHER, Service, answered, post
+from support.tables import tables_of
 from support.units import Unit, settings_of
 
 # commands of a desk, and how many places are taken or set aside behind each
@@ -19,6 +21,8 @@ COMMANDS = [
     ("K6", "open 8 60 take N1 A-1 1", 8),
     ("K7", "deliver N1 A-1 1", 9),
 ]
+# of how many messages that come at once, and how many there are in a round at the most
+SENT, ROUND = 90, 8
 
 
 class Places(ProgramCase):
@@ -53,6 +57,27 @@ class Places(ProgramCase):
             service = self.service(path, most)
             self.sent(service, COMMANDS[4:]).close()
             service.expect_end()
+
+    def test_what_is_refused_or_repeated_takes_no_place(self):
+        path = new_desk(self.program, self.folder)
+        service = self.service(path, 2, 2)
+        connection = self.sent(service, COMMANDS[:1] * 3)
+        status, _, body = post(connection, "X", "writeoff N1 A-1 41")
+        expect(status == 409, f"{status}, {body}")
+        connection.close()
+        self.sent(service, COMMANDS[1:2]).close()
+        service.expect_end()
+
+    def test_it_ends_within_a_round(self):
+        """Of many commands that come at once a first part is answered, and what is answered is kept."""
+        path, most = new_desk(self.program, self.folder), 20
+        done(self.program, ["run", path], "F field N1 A-1 0 100 0\n")
+        service = Service(self.program, path, 9, options=[TOGETHER[0], str(ROUND), "--places", str(most)])
+        found = answered(service.port, [b"".join(ask_of(f"D{number} deliver N1 A-1 1").text for number in range(SENT))])
+        service.expect_end()
+        places = tables_of(path)["desk"][0].places
+        expect(most <= places < most + ROUND, f"{places} places")
+        expect(found.count(b"HTTP/1.1 200 ") < places, f"{places} places, and more answers")
 
     def test_the_unit_leaves_a_twentieth_of_the_places_free(self):
         """That suffices for the last round, and for the ends of orders."""
