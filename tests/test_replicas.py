@@ -1,8 +1,8 @@
 """Tests of a desk on three machines. Processes are killed and stand still, ways are cut, disks are full or lost, and the desk is
 rolled up, while clients ask; then all machines have the same rows, and each answer is one that the rules give, in an order that
 time allows. In the environment REPLICAS_FAULTS says how many faults there are at the least, in as many lives of new machines as
-that takes, and REPLICAS_SEED which faults: `REPLICAS_FAULTS=1000 ./check tests replicas.Replicas` has 1,000. REPLICAS_KEEP names a
-folder; in it stays what the processes wrote in a life in which a fault was found."""
+that takes, and REPLICAS_SEED which faults: `REPLICAS_FAULTS=1000 ./check tests replicas.Replicas` has 1,000. REPLICAS_KEEP names
+a folder; in it stays what the processes wrote in a life in which a fault was found."""
 
 import asyncio
 import itertools

@@ -24,8 +24,8 @@ OLD_NAME = "old-20260101T000000Z.db"
 # how often a machine is killed at some moment of a roll
 KILLS = 8
 
-# a program that stands still before it does what the file `hold` names, as long as that file is there; and fails to roll while the
-# file `fail` is there
+# a program that stands still before it does what the file `hold` names, as long as that file is there; and fails to roll while
+# the file `fail` is there
 HELD_PROGRAM = """#!/bin/sh
 [ "$1" != roll ] || [ ! -e {folder}/fail ] || exit 1
 if [ "$1" = "$(cat {folder}/hold 2>/dev/null)" ]; then
@@ -64,7 +64,8 @@ async def until(fact: Callable[[], bool], what: str) -> None:
 async def fill(machines: Machines, numbers: Iterable[int], lines: list[str], first: int = 1) -> None:
     """Has these machines in turn carry lines out, which get the places from that one on."""
     turns = list(numbers)
-    answers = await all_told(machines, [(turns[at % len(turns)], *line.split(" ", 1)) for at, line in enumerate(lines)])
+    asks = [(turns[at % len(turns)], *line.partition(" ")[::2]) for at, line in enumerate(lines)]
+    answers = await all_told(machines, asks)
     wanted = [(200, {"place": first + at}) for at in range(len(lines))]
     expect(answers == wanted, f"{answers}")
 
@@ -154,8 +155,8 @@ class ReplicasRolls(LifeCase):
         expect(len(machines.olds(2)) == 2, "other rolls of the copy")
 
     def test_a_machine_that_is_stopped_amid_its_roll_goes_on(self):
-        """The third machine is killed before its new desk is made, and before that serves. At last its roll fails, and then the old
-        desk has two names."""
+        """The third machine is killed before its new desk is made, and before that serves. At last its roll fails, and then the
+        old desk has two names."""
         lines = [*FIRST, *delivered("A", 5), *delivered("B", 5), *delivered("C", 5)]
         held = os.path.join(self.folder, "held-program")
         with open(held, "w", encoding="utf-8") as file:
@@ -169,7 +170,7 @@ class ReplicasRolls(LifeCase):
             await fill(machines, MACHINES, lines[9:14], 5)
             await self.kill_amid(machines, held, "serve", machines.olds(3))
             await fill(machines, MACHINES, lines[14:], 5)
-            await self.fail(machines, held)
+            await self.fails(machines, held)
             os.link(machines.desk(3), os.path.join(os.path.dirname(machines.desk(3)), OLD_NAME))
             machines.start("replica", 3)
             await well(machines)
@@ -182,7 +183,7 @@ class ReplicasRolls(LifeCase):
 
         self.expect_alike(self.run_machines(live), lines[-4:])
 
-    async def fail(self, machines: Machines, held: str) -> None:
+    async def fails(self, machines: Machines, held: str) -> None:
         """The third machine's program fails to roll, and so the machine ends, and has its old desk; the others go on."""
         await self.start_with(machines, held)
         with open(os.path.join(self.folder, "fail"), "w", encoding="ascii"):
@@ -203,7 +204,7 @@ class ReplicasRolls(LifeCase):
         await well(machines)
 
     async def kill_amid(self, machines: Machines, held: str, word: str, olds: list[str]) -> None:
-        """Kills the third machine as its program is to do this at a roll that leaves four keys; before, it has these old files."""
+        """Kills the third machine as its program is to do this at a roll that leaves four keys; it has these old files before."""
         hold = os.path.join(self.folder, "hold")
         await self.start_with(machines, held)
         with open(hold, "w", encoding="ascii") as file:

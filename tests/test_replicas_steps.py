@@ -96,9 +96,9 @@ class ReplicasSteps(ProgramCase):
         expect(log.told == wanted, f"{log.told}")
 
     def test_when_a_roll_is_wanted(self):
-        """From 190,000 places on, taken or set aside, and at night from 100,001 on; a quarter of the places is free behind it. From
-        95,000 orders on, and at night from 50,000 on, where half of them have ended and no roll was done for an hour. A key goes.
-        """
+        """From 190,000 places on, taken or set aside, and at night from 100,001 on; a quarter of the places is free behind it.
+        From 95,000 orders on, and at night from 50,000 on, where half of them have ended and no roll was done for an hour. A
+        key goes."""
         from stockdesk_rolls import Rest, Sizes
         from stockdesk_rows import Counts
 
@@ -149,7 +149,7 @@ class ReplicasSteps(ProgramCase):
         expect(rests.at(moment("04:06:00", day=3)) == (True, True), "no roll in the next night")
 
     def test_answers_that_fit_no_roll_are_found(self):
-        """Ten commands one after the other, at places that two rolls have lowered to three; then other answers and other rolls."""
+        """Ten commands in turn, at places that two rolls have lowered to three; then other answers and other rolls."""
         from support.replica_judged import rolled_life, wrong_with
 
         expect(wrong_with() == [], "a right life is wrong")

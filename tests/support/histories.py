@@ -216,8 +216,8 @@ class Explained:
         self.open: list[tuple[int, int, Attempt | View]] = []
 
     def look(self, place: int, desks: list[Rules]) -> list[str]:
-        """The desk has come to a place, or is rolled up there. Answers that are those of one of these desks are explained; answers
-        whose time ends here unexplained are returned as wrong."""
+        """The desk has come to a place, or is rolled up there. Answers that are those of one of these desks are explained;
+        answers whose time ends here unexplained are returned as wrong."""
         while self.coming and self.coming[-1][0] <= place:
             self.open.append(self.coming.pop())
         self.open = [each for each in self.open if not any(each[2].fits(desk) for desk in desks)]

@@ -41,7 +41,7 @@ def wrong_with(
     views: list[tuple[float, int, str]] | None = None,
     olds: list[list[str]] | None = None,
 ) -> list[str]:
-    """What is found wrong where some commands have other answers, the first key was looked at, or other desks were rolled up, too."""
+    """What is found wrong where some commands have other answers, the first key was looked at, or other desks were rolled up."""
     life = copy.deepcopy(rolled_life())
     for number, reply in (replies or {}).items():
         life.history.attempts[number].reply = reply

@@ -1,6 +1,6 @@
 """Three machines that hold a desk, in one process: the code of the tool, over a log and desks that are models. Time is counted in
-turns of the event loop. A put may be kept late, or without an answer, or not at all; a machine may lag and stop, also amid a roll,
-and begin again with an old copy; and copies of commands come late.
+turns of the event loop. A put may be kept late, or without an answer, or not at all; a machine may lag and stop, also amid a
+roll, and begin again with an old copy; and copies of commands come late.
 
     python3 -m support.replica_steps COUNT [FIRST]    plays so many cases, from that one on, and tells the first that is wrong"""
 
@@ -198,6 +198,8 @@ class Place:
         self.rules, self.home = Rules(), ModelHome(self)
         self.copies, self.olds = list[Rules](), list[list[str]]()
         self.machine: Machine | None = None
+        # the connection of the desk that was started last
+        self.commands: ModelConnection
         self.tasks: list[asyncio.Task[Any]] = []
 
     async def start(self) -> None:

@@ -21,7 +21,7 @@ from stockdesk_log import Entry, Log, ToldMark
 from stockdesk_machine import Machine
 from stockdesk_rolls import Sizes
 from stockdesk_tools import Fault
-from stockdesk_walk import Walk, digest_of, link
+from stockdesk_walk import Walk, link
 from support.replica_steps import answer_of, lines_of
 from support.rolls import rolled_desk
 from support.rows import rows_by
@@ -124,8 +124,8 @@ def random_value(chance: random.Random, revision: int, fixed: dict[str, str]) ->
 
 
 def random_log(chance: random.Random) -> list[Entry]:
-    """A log about a small field, so that much is refused now and accepted later; with some marks and rolls, and with revisions that
-    are not the log's. Behind a roll most keys are others."""
+    """A log about a small field, so that much is refused now and accepted later; with some marks and rolls, and with revisions
+    that are not the log's. Behind a roll most keys are others."""
     fixed = {f"K{each}": chance.choice(WORDS) for each in range(chance.choice([3, 6, 12]))}
     entries, mark = [Entry(1, b"lines a 0 0\nF field N1 A-1 0 4 2")], 0
     rolls = chance.choice([0, 0.06, 0.15])
