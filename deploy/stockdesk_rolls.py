@@ -4,9 +4,7 @@ import time
 from typing import NamedTuple
 
 import stockdesk_rows as rows
-
-# so many places are taken or set aside behind a roll at the most: a quarter is free
-BEHIND = rows.PLACES * 3 // 4
+from stockdesk_room import BEHIND
 
 # from so many orders on a roll makes room for others, at night and at any time, where half of them have ended
 HALF_OF_ORDERS, MOST_ORDERS = rows.ORDERS // 2, rows.ORDERS * 19 // 20
