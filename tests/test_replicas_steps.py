@@ -85,7 +85,8 @@ class ReplicasSteps(ProgramCase):
 
     def test_one_of_two_rolls_at_once_counts(self):
         """The second has a mark before the newest; and where no key would go, a roll is a mark alone."""
-        from support.replica_walks import Entry, ToldMark, WrittenLog, digest_of, said_on_the_way
+        from stockdesk_walk import digest_of
+        from support.replica_walks import Entry, ToldMark, WrittenLog, said_on_the_way
 
         lines = [b"F field N1 A-1 0 100 20", *(b"K%d deliver N1 A-1 1" % each for each in range(5))]
         first, then = b"\n".join([b"lines a 1 0", *lines[:5]]), b"lines a 2 3\n" + lines[5]
