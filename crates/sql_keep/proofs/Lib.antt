@@ -19,3 +19,4 @@ pub mod NewTables
 pub mod LaterTables
 pub mod Upgrades
 pub mod NothingMore
+pub mod NewFile

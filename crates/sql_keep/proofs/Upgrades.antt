@@ -1,11 +1,10 @@
 -- What an upgrade does: the tables of later versions are made beside the others, and the row of `desk` is put in.
-use Rattle.std.proofs.Common.{◌≡◌, ◌∙◌, ◌<◌, ◌≤◌, Ok, Err, Result, ℕ, List, [], ◌∷◌, IsTrue, ap, arith, pos, map, refl}
+use Rattle.std.proofs.Common.{◌≡◌, ◌∙◌, ◌<◌, ◌≤◌, ℕ, List, [], ◌∷◌, IsTrue, ap, arith, pos, map, refl}
 use Rattle.std.proofs.Common.{subst, sym}
 use Rattle.std.proofs.lemmas.Cmp.{int_cmp_total, tied_itself}
-use Rattle.std.specs.Prelude.{OnOk}
 use Rattle.sqlite.specs.Effect.{Database}
 use Rattle.sqlite.specs.State.{State, HasCleanDisk, IsUnchanged, Survives}
-use Rattle.sqlite.proofs.StateLemmas.{survives_then, survives_weaker}
+use Rattle.sqlite.proofs.StateLemmas.{survives_then}
 use Rattle.sqlite_trees.specs.Tree.{Trees}
 use Rattle.ledger.specs.declared.rows.Change.{Change}
 use Rattle.ledger.specs.declared.rows.Change.TheVariants as change

@@ -1,5 +1,5 @@
 -- The content of a store: what its seven tables hold, and what a stop leaves of it.
-use Rattle.std.specs.Prelude.{◌≡◌, ◌<◌, ◌≤◌, ◌⊎◌, ℕ, ℤ, pos, List, [], ◌∷◌, map, IsTrue, IsPermutation}
+use Rattle.std.specs.Prelude.{◌≡◌, ◌<◌, ◌≤◌, ℕ, List, [], map, IsTrue, IsPermutation}
 use Rattle.std.specs.List.{AllByRecursion}
 use Rattle.std.specs.List.Sorted.{IsStrictlySortedBy}
 use Rattle.std.specs.declared.cmp.Ordering.{Ordering}
@@ -11,7 +11,7 @@ use Rattle.sqlite_trees.specs.Tree.{Trees, rowid}
 use Rattle.sqlite_trees.specs.Objects.{catalog_tree}
 use Rattle.sqlite_trees.specs.View.{is_int}
 use Rattle.sqlite_catalog.specs.Listing.{Lists}
-use Rattle.ledger.specs.Rows.{Content, DeskCells}
+use Rattle.ledger.specs.Rows.{Content}
 use Rattle.keep.specs.Content.{IsAmong, newest}
 use Rattle.keep.specs.TableRows.{Cells, key_cmp, rows_of}
 use Rattle.sql_keep.specs.Description.{columns, declared, schema_of, since, stored}

@@ -6,7 +6,9 @@ mod commit;
 mod create;
 mod description;
 mod fault;
+mod files;
 mod load;
+mod new_file;
 mod opening;
 mod schema;
 mod sql;
@@ -15,6 +17,8 @@ mod tables;
 mod trials;
 mod upgrade;
 
+pub use files::PAGE_BYTES;
+pub use new_file::create_path;
 pub use opening::open_path;
 pub use sql::SqlKeep;
 pub use trials::{

@@ -1,8 +1,10 @@
-//! A keeper over files.
+//! A keeper over files, and the file of a new desk.
 
-ghost use Rattle.std.specs.Prelude.{◌≡◌, ℕ, [], ◌∷◌, false, None, IsTrue, IfErr, IfOk};
+ghost use Rattle.std.specs.Prelude.{◌≡◌, ℕ, [], ◌∷◌, false, None, IsTrue, IfErr, IfOk, IfSome};
 ghost use Rattle.sqlite.specs.State.{HasCleanDisk};
-ghost use Rattle.sqlite.specs.Files.{file_state, HoldsDatabase, IsBlankAs};
+ghost use Rattle.sqlite.specs.Files.{file_state, HoldsDatabase, IsBlankAs, IsOpened};
+ghost use Rattle.sqlite.specs.Held.{IsNew};
+ghost use Rattle.sqlite.specs.Start.{FindsIn};
 ghost use Rattle.sqlite_store.specs.FileStore.{view};
 ghost use Rattle.sqlite.specs.Opening.{is_open_error};
 ghost use Rattle.sqlite.specs.WalFiles.{image_at};
@@ -10,6 +12,7 @@ ghost use Rattle.sqlite_trees.specs.Tree.{Trees};
 ghost use Rattle.ledger.specs.Rows.{Content};
 ghost use Rattle.sql_keep.specs.StoreContent.{Holds, HoldsOf, IsContentOf, LeavesOnly};
 
+use crate::files::{open_files, options, page_bytes};
 use crate::sql::SqlKeep;
 use sqlite::{Connection, Error, FileFrom, FileStore, Start};
 use sqlite_disk::Disk;
@@ -24,6 +27,28 @@ pub(crate) fn over_files<D: Disk + Drop>(conn: Connection<FileStore<D>>) -> SqlK
         → LeavesOnly (file_state conn).may_leave (x ∷ []) }
 {
     SqlKeep::over(conn)
+}
+
+/// Connects to the file at the path, as it is set here.
+fn connect<S: Start>(
+    rt: &HostRuntime,
+    path: &str,
+    start: S,
+) -> Result<Connection<FileStore<FileFrom<S>>>, Error>
+    ensures fresh { IfOk result IsNew }
+    ensures opened { IfOk result (λ conn. HasCleanDisk (file_state conn) → IsOpened conn) }
+    ensures found { IfOk result (λ conn. HasCleanDisk (file_state conn)
+        → FindsIn (image_at S.Start) (file_state conn)) }
+    ensures plain { IfOk result (λ conn. HasCleanDisk (file_state conn) → IsBlankAs false (image_at S.Start)
+        → (view conn.store).has_sums ≡ false) }
+    ensures error { IfErr result (λ error. IsTrue (is_open_error error)) }
+{
+    let options = options(rt, page_bytes(rt, path))?;
+    let files = open_files(rt, path, start)?;
+    match Connection::open_files_with(rt.alloc(), files, options, false) {
+        Ok(conn) => Ok(conn),
+        Err((error, _)) => Err(error),
+    }
 }
 
 /// Opens a keeper over the file at this path; `start` names the bytes that the file has at the start. The keeper holds
@@ -50,8 +75,8 @@ pub fn open_path<S: Start>(
         → (view keep.connection.store).has_sums ≡ false) }
     ensures error { IfErr result (λ error. IsTrue (is_open_error error)) }
 {
-    match Connection::open_from(rt, path, false, start) {
+    match connect(rt, path, start) {
         Ok(conn) => Ok(over_files(conn)),
-        Err((error, _)) => Err(error),
+        Err(error) => Err(error),
     }
 }

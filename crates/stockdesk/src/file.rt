@@ -30,23 +30,53 @@ use crate::{upgrade, work};
 use command_line::Work;
 use keep::Keep;
 use ledger::Change;
-use sql_keep::{SqlKeep, open_path};
+use sql_keep::{PAGE_BYTES, SqlKeep, create_path, open_path};
 use sqlite::{Connection, Error, ErrorCode, FileFrom, FileStore, Start};
 use sqlite_disk::{Disk, Files};
-use std::fs;
+use std::fs::{self, File};
 use std::io::{ErrorKind, Read, Write};
 
 /// The keeper of what a file holds; `S` names the bytes of the file.
 pub type FileKeep<S> = SqlKeep<FileStore<FileFrom<S>>>;
+
+/// The bytes with which each file of SQLite begins.
+const MAGIC: &[u8; 16] = b"SQLite format 3\0";
 
 /// What lies at a path.
 #[derive(Clone, Copy)]
 enum Found {
     /// No file, or one without bytes.
     Nothing,
-    /// A directory, or a file of one byte, which `sqlite` would take for a database that is half made.
+    /// A directory, or a file of one byte, which is no store.
     NoStore,
+    /// A file of at most one page that begins with a zero byte: a stop of `init` may leave one, and `sqlite` would
+    /// make a store in its place.
+    Unfinished,
+    /// A file of one page that begins as a store does: it may be a store without tables, as a stop of `init` leaves.
+    OnePage,
     File,
+}
+
+/// Returns what a file of so many bytes is, by how it begins.
+fn look_inside(rt: &HostRuntime, path: &str, len: u64) -> Result<Found, Fault>
+    ensures { IfErr result (λ fault. fault ≡ Fault.Store) }
+{
+    let mut head = [0; MAGIC.len()];
+    let Ok(mut file) = File::open(rt, path) else {
+        return Err(Fault::Store);
+    };
+    if file.read(&mut head).is_err() {
+        return Err(Fault::Store);
+    }
+    Ok(if head[0] == 0 {
+        Found::Unfinished
+    } else if len == 1 {
+        Found::NoStore
+    } else if len == PAGE_BYTES as u64 && head == *MAGIC {
+        Found::OnePage
+    } else {
+        Found::File
+    })
 }
 
 /// Returns what lies at the path. The program looks before it opens, since an opening may make the file or replace it.
@@ -54,8 +84,9 @@ fn look(rt: &HostRuntime, path: &str) -> Result<Found, Fault>
     ensures { IfErr result (λ fault. fault ≡ Fault.Store) }
 {
     match fs::metadata(rt, path) {
-        Ok(found) if found.is_dir() || found.len() == 1 => Ok(Found::NoStore),
+        Ok(found) if found.is_dir() => Ok(Found::NoStore),
         Ok(found) if found.len() == 0 => Ok(Found::Nothing),
+        Ok(found) if found.len() <= PAGE_BYTES as u64 => look_inside(rt, path, found.len()),
         Ok(_) => Ok(Found::File),
         Err(error) if error.kind() == ErrorKind::NotFound => Ok(Found::Nothing),
         Err(_) => Err(Fault::Store),
@@ -124,9 +155,9 @@ fn make_over<D: Disk + Drop>(
     }
 }
 
-/// Makes a desk with these rows in a file that is not there or has no bytes, and returns its keeper. The rows are put
-/// into those of a new desk by their keys, in the one transaction that makes it. Any other file stays as it is, and the
-/// answer is `NotADesk`.
+/// Makes a desk with these rows in a file that is not there or has no bytes, or that a stop of this call left without
+/// a desk, and returns its keeper. The rows are put into those of a new desk by their keys, in the one transaction that
+/// makes it. Any other file stays as it is, and the answer is `NotADesk`.
 pub fn make<S: Start>(
     rt: &HostRuntime,
     path: &str,
@@ -136,17 +167,17 @@ pub fn make<S: Start>(
     ensures made { IfOk result (IsDeskOf ⟦<FileKeep<S> as Keep>⟧ (with_changes changes.now new_content)) }
     ensures fault { IfErr result IsNotOpened }
 {
-    let Found::Nothing = look(rt, path)? else {
+    let (Found::Nothing | Found::Unfinished | Found::OnePage) = look(rt, path)? else {
         return Err(Fault::NotADesk);
     };
-    match Connection::open_from(rt, path, false, start) {
-        Ok(conn) => make_over(conn, changes),
-        Err((error, _)) => Err(Fault::from(error)),
+    match create_path(rt, path, start)? {
+        Some(conn) => make_over(conn, changes),
+        None => Err(Fault::NotADesk),
     }
 }
 
-/// Makes a new desk in a file that is not there or has no bytes, and returns its keeper. Any other file stays as it is,
-/// and the answer is `NotADesk`.
+/// Makes a new desk in a file that is not there or has no bytes, or that a stop of this call left without a desk, and
+/// returns its keeper. Any other file stays as it is, and the answer is `NotADesk`.
 pub fn init<S: Start>(rt: &HostRuntime, path: &str, start: S) -> Result<FileKeep<S>, Fault>
     ensures made { IfOk result (IsNewDesk ⟦<FileKeep<S> as Keep>⟧) }
     ensures fault { IfErr result IsNotOpened }
@@ -167,8 +198,8 @@ pub fn open<S: Start>(rt: &HostRuntime, path: &str, start: S) -> Result<FileKeep
 {
     match look(rt, path)? {
         Found::Nothing => Err(Fault::NotADesk),
-        Found::NoStore => Err(Fault::Store),
-        Found::File => Ok(open_path(rt, path, start)?),
+        Found::NoStore | Found::Unfinished => Err(Fault::Store),
+        Found::OnePage | Found::File => Ok(open_path(rt, path, start)?),
     }
 }
 

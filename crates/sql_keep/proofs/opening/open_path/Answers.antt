@@ -39,10 +39,10 @@ pub returns-in-Ok-clause-plain : goal.returns-in-Ok-clause-plain
 returns-in-Ok-clause-plain g c clean blank =
     let same : c.over_files.result.connection ≡ c.in-Ok.conn = ap (λ k. k.connection) c.over_files.ensures.keeper in
     let first : HasCleanDisk (file_state c.in-Ok.conn) = subst (λ h. HasCleanDisk (file_state h)) same clean in
-    subst (λ h. (view h.store).has_sums ≡ false) (sym same) (c.in-Ok.ensures.sums first blank)
+    subst (λ h. (view h.store).has_sums ≡ false) (sym same) (c.in-Ok.ensures.plain first blank)
 
 pub returns-in-Ok-clause-going : goal.returns-in-Ok-clause-going
 returns-in-Ok-clause-going g c = search rules
 
-pub returns-clause-error : goal.returns-clause-error
-returns-clause-error g c = c.in-Err.ensures.named
+pub returns-in-Err-clause-error : goal.returns-in-Err-clause-error
+returns-in-Err-clause-error g c = c.in-Err.ensures.error
