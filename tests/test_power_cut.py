@@ -43,7 +43,7 @@ def recorded_script(program, folder, seed):
     def may(replies):
         return [NOT_A_DESK, STORE, rows[0]] if replies is None else rows[replies : replies + 2]
 
-    return Recorded(there, {}, calls, may)
+    return Recorded(there, {}, calls, may, new=rows[0])
 
 
 def recorded_upgrade(program, folder):

@@ -8,7 +8,7 @@ from collections.abc import Callable, Iterable, Sequence
 from dataclasses import dataclass
 from random import Random
 
-from support.programs import End, done, ended, expect, new_desk, note
+from support.programs import NOT_A_DESK, WELL, End, done, ended, expect, new_desk, note
 from support.recorded import SYNCS, Call, Disk, record, traced
 from support.tables import rows_of, sqlite3
 
@@ -63,13 +63,14 @@ def lines_in(written: bytes) -> int:
 class Recorded:
     """Calls that were recorded, with their folder and its files before the first call; and what may be found, by how many replies
     were written whole (None: the desk is not made yet). The replies are counted in all that the calls wrote: by lines, or by
-    something else."""
+    something else. Where the desk is made by the first calls: the rows of the new desk."""
 
     folder: str
     files: dict[str, bytes]
     calls: list[Call]
     may: Callable[[int | None], list[Found]]
     told: Callable[[bytes], int] = lines_in
+    new: Found | None = None
 
 
 class Cuts:
@@ -106,13 +107,26 @@ class Cuts:
         self.openings += 1
         return disk.left(self.chance)
 
+    def is_made_at_last(self, files: dict[str, bytes]) -> bool:
+        """Whether the next `init` makes the desk on what a cut left of the first one, or finds it made; also where the desk was
+        asked for before."""
+        path = self.laid(files)
+        if self.chance.randrange(2) == 0:
+            ended(self.program, ["run", path])
+        is_made = ended(self.program, ["init", path]) in (WELL, NOT_A_DESK) and rows_of(path) == self.recorded.new
+        shutil.rmtree(os.path.dirname(path))
+        return is_made
+
     def cut(self, disk: Disk, replies: int | None) -> None:
-        """Cuts the power, and opens what is left."""
+        """Cuts the power, and opens what is left. Where the desk was not made yet, the next `init` goes on with that."""
         files = disk.left(self.chance)
         if self.chance.randrange(OPENINGS) == 0:
             files = self.left_by_an_opening(files)
         self.tried += 1
-        self.lost += self.opened(files) not in self.recorded.may(replies)
+        is_found = self.opened(files) in self.recorded.may(replies)
+        if replies is None and self.recorded.new is not None:
+            is_found = is_found and self.is_made_at_last(files)
+        self.lost += not is_found
 
     def after_each(self, disk: Disk, calls: Sequence[Call], count: int) -> None:
         """Cuts the power `count` times in all, about equally often after each of the calls, which the disk carries out."""
