@@ -20,3 +20,4 @@ pub mod ListLines
 pub mod ShortLines
 pub mod ManyBatches
 pub mod PutOff
+pub mod OneRow

@@ -1,23 +1,19 @@
 -- Changes that are put off.
-use Rattle.std.proofs.Common.{◌≡◌, ◌∙◌, List, [], ◌∷◌, ◌++◌, All, Err, Ok, Result, ap, inl, inr, refl, subst, sym}
+use Rattle.std.proofs.Common.{◌≡◌, ◌∙◌, List, [], ◌∷◌, Err, Ok, Result, ap, inl, inr, refl, subst, sym}
 use Rattle.std.proofs.Math.Logic.{∥∥₁_elim}
 use Rattle.std.proofs.Props.{props}
-use Rattle.std.proofs.lemmas.List.Elements.{All-append}
 use Rattle.ledger.specs.Good.{Good}
 use Rattle.ledger.specs.Ledger.{Ledger}
 use Rattle.ledger.specs.Rows.{Content, DeskCells, FieldCells, FirmCells, IsRowsOf, KeptCells, LineCells, MoveCells, OrderCells}
-use Rattle.ledger.specs.Changes.{put_content}
 use Rattle.ledger.specs.Tables.{rows_among, with_change}
 use Rattle.ledger.specs.declared.rows.Change.{Change}
 use Rattle.ledger.specs.declared.rows.Change.TheVariants as change
-use Rattle.ledger.proofs.Puts.{put_in_turn}
-use Rattle.keep.specs.Content.{IsAmong, IsTheRow, with_changes}
+use Rattle.keep.specs.Content.{IsAmong, with_changes}
 use Rattle.keep.specs.declared.keep.Keep.{Ghosts}
 use Rattle.std.specs.List.{AllZip}
 use Rattle.desk.specs.Deferred.{IsSameRow, PutsOff, PutsOffOneOf}
 use Rattle.desk.specs.Desk.{IsStored, LeavesEither}
 use Rattle.std.specs.Prelude.{OnErr, OnOk}
-use Rattle.desk.proofs.Batches.{desk_joined}
 
 -- a row of the same cells goes in alike
 same_put : (c d : Change) (x : Content) → IsSameRow c d → with_change d x ≡ with_change c x
@@ -42,23 +38,6 @@ copies_same [] [] h = refl
 copies_same [] (d ∷ ds) h = absurd h
 copies_same (c ∷ cs) [] h = absurd h
 copies_same (c ∷ cs) (d ∷ ds) h = same_put c d (rows_among ds) h.0 ∙ ap (with_change c) (copies_same cs ds h.1)
-
--- the rows of `desk` among copies, behind others
-pub rows_joined : (xs ys zs all : List Change) → all ≡ xs ++ zs → rows_among zs ≡ rows_among ys
-    → All IsTheRow (rows_among xs).desk
-    → All IsTheRow (rows_among ys).desk → All IsTheRow (rows_among all).desk
-rows_joined xs ys zs all is same h k =
-    subst (λ (cs : List Change). All IsTheRow (rows_among cs).desk) (sym is)
-    (subst (λ (rows : List DeskCells). All IsTheRow rows) (sym (desk_joined xs zs))
-    (All-append IsTheRow (rows_among xs).desk (rows_among zs).desk h
-    (subst (λ (c : Content). All IsTheRow c.desk) (sym same) k)))
-
--- copies are put in behind others as what they are copies of
-pub put_joined : (xs ys zs all : List Change) (x : Content) → all ≡ xs ++ zs → rows_among zs ≡ rows_among ys
-    → with_changes all x ≡ with_changes ys (with_changes xs x)
-put_joined xs ys zs all x is same =
-    ap (λ (cs : List Change). with_changes cs x) is ∙ put_in_turn xs zs x
-    ∙ ap (λ (rows : Content). put_content rows (with_changes xs x)) same
 
 -- ---- one content behind it
 

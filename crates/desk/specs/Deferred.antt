@@ -1,9 +1,10 @@
 -- A keeper that puts commits off, and what it would hold once all that is put off is kept.
-use Rattle.std.specs.Prelude.{◌≡◌, ◌+◌, ◌≤◌, Bool, List, [], ◌∷◌, Vec, length}
+use Rattle.std.specs.Prelude.{◌≡◌, ◌⊎◌, ◌+◌, ◌<◌, ◌≤◌, ℕ, Bool, List, [], ◌∷◌, ◌++◌, Vec, length, slice_set}
+use Rattle.std.specs.declared.cmp.Ordering.TheVariants.{Equal}
 use Rattle.std.specs.Global.{Global}
-use Rattle.std.specs.List.{AllZip}
+use Rattle.std.specs.List.{AllWithin, AllZip, HoldsAt}
 use Rattle.std.specs.Vec.{vec_capacity, vec_len}
-use Rattle.ledger.specs.Rows.{Content}
+use Rattle.ledger.specs.Rows.{Content, desk_cmp, field_cmp}
 use Rattle.ledger.specs.Tables.{desk_cells, field_cells, firm_cells, kept_cells, line_cells, move_cells, order_cells}
 use Rattle.ledger.specs.declared.rows.Change.{Change}
 use Rattle.ledger.specs.declared.rows.Change.TheVariants as change
@@ -62,3 +63,27 @@ IsSameRow (change.Firm row) other = (copy : FirmRow) × (other ≡ change.Firm c
 pub record IsReady (kept : Vec Change Global) (made changes : List Change) : Type 0 where
   pub copies : AllZip IsSameRow changes made
   pub room : vec_len kept + length changes ≤ vec_capacity kept
+
+-- ---- rows that take the place of others (private)
+
+-- both are rows of `desk`, or rows of `field`, with one key
+abbrev pub IsOfOneKey : Change → Change → Type 0
+IsOfOneKey (change.Desk row) (change.Desk old) = desk_cmp (desk_cells row) (desk_cells old) ≡ Equal
+IsOfOneKey (change.Field row) (change.Field old) = field_cmp (field_cells row) (field_cells old) ≡ Equal
+IsOfOneKey row old = ⊥
+
+-- no row stands there that has that row's key
+abbrev pub HasNoKeyOf : Change → List Change → Type 0
+HasNoKeyOf row kept = AllWithin (λ old. ¬ IsOfOneKey row old) kept 0 (length kept)
+
+-- a row with that row's key stands at the place, and none stands behind it
+pub record IsLastOfKey (row : Change) (kept : List Change) (place : ℕ) : Type 0 where
+  pub within : place < length kept
+  pub here : HoldsAt (IsOfOneKey row) kept place
+  pub last : AllWithin (λ old. ¬ IsOfOneKey row old) kept (place + 1) (length kept)
+
+-- the row takes the place of the last row with its key, or, where no row has that key, stands behind all
+abbrev pub IsTakenIn : Change → List Change → List Change → Type 0
+IsTakenIn row before after =
+    ((place : ℕ) × IsLastOfKey row before place × (after ≡ slice_set before place row))
+    ⊎ (HasNoKeyOf row before × (after ≡ before ++ row ∷ []))

@@ -1,13 +1,13 @@
-//! Copies of changes.
+//! Copies of changes, which are put off.
 
-ghost use Rattle.std.specs.Prelude.{◌≡◌, All, IfOk, OnErr, OnOk};
+ghost use Rattle.std.specs.Prelude.{◌≡◌, ◌↔◌, ◌+◌, ◌<◌, ◌≤◌, All, IfNone, IfOk, IfSome, IsTrue, OnErr, OnOk};
 ghost use Rattle.std.specs.List.{AllZip};
+ghost use Rattle.std.specs.Vec.{vec_capacity, vec_len};
 ghost use Rattle.ledger.specs.Tables.{rows_among};
 ghost use Rattle.ledger.specs.Rows.{Content};
 ghost use Rattle.keep.specs.Content.{IsTheRow, with_changes};
-ghost use Rattle.desk.specs.Deferred.{IsReady, IsSameRow};
+ghost use Rattle.desk.specs.Deferred.{HasNoKeyOf, IsLastOfKey, IsOfOneKey, IsReady, IsSameRow, IsTakenIn};
 
-use crate::run::append;
 use crate::same::are_same;
 use keep::TableRow;
 use ledger::Change;
@@ -53,7 +53,7 @@ fn copies_of(
     copy_changes(alloc, changes)
 }
 
-/// Makes copies of the changes, and room to append them to the rows that are put off (`kept`). Where memory is refused,
+/// Makes copies of the changes, and room for them among the rows that are put off (`kept`). Where memory is refused,
 /// the rows that are put off stay as they were.
 pub fn make_ready(
     alloc: Global,
@@ -69,8 +69,46 @@ pub fn make_ready(
     Ok(())
 }
 
-/// Appends copies of the changes to the rows that are put off (`kept`). After `make_ready` with the same changes this
-/// succeeds; else memory may be refused, and then nothing has changed.
+/// Returns whether both are rows of `desk`, or rows of `field`, under one key.
+fn are_of_one_key(row: &Change, old: &Change) -> bool
+    ensures { IsTrue result ↔ IsOfOneKey row.now old.now }
+{
+    match (row, old) {
+        (Change::Desk(a), Change::Desk(b)) => a.compare(b).is_eq(),
+        (Change::Field(a), Change::Field(b)) => a.compare(b).is_eq(),
+        _ => false,
+    }
+}
+
+/// Returns the place that the row takes: that of the last row of `desk` or of `field` under its key.
+fn place_of(kept: &[Change], row: &Change) -> Option<usize>
+    ensures there { IfSome result (IsLastOfKey row.now kept.now) }
+    ensures none { IfNone result (HasNoKeyOf row.now kept.now) }
+{
+    match row {
+        Change::Desk(_) | Change::Field(_) => {
+            kept.iter().rposition(|old| are_of_one_key(row, old))
+        }
+        _ => None,
+    }
+}
+
+/// Puts a row off, in the place that it takes or else behind all. There must be room for one row more.
+fn put_one(kept: &mut Vec<Change>, row: Change)
+    requires { vec_len kept.old < vec_capacity kept.old }
+    ensures taken { IsTakenIn row kept.old.items kept.new.items }
+    ensures len { vec_len kept.new ≤ vec_len kept.old + 1 }
+    ensures capacity { vec_capacity kept.new ≡ vec_capacity kept.old }
+{
+    match place_of(kept, &row) {
+        Some(place) => kept[place] = row,
+        None => kept.push_reserved(row),
+    }
+}
+
+/// Puts copies of the changes off, among the rows that are put off already (`kept`). A row of `desk` or of `field`
+/// takes the place of the earlier row under its key, if there is one. Every other row stands behind all. After
+/// `make_ready` with the same changes this succeeds; else memory may be refused, and then nothing has changed.
 pub fn put_off(
     alloc: Global,
     kept: &mut Vec<Change>,
@@ -87,6 +125,8 @@ pub fn put_off(
 {
     let copies = copies_of(alloc, made, changes)?;
     kept.reserve(copies.len())?;
-    append(kept, copies);
+    for copy in copies {
+        put_one(kept, copy);
+    }
     Ok(())
 }

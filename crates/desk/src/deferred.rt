@@ -7,7 +7,8 @@ use std::alloc::{AllocError, Global};
 use std::marker::Model;
 use std::mem;
 
-/// A keeper that collects the rows of commits, and puts all of them into the inner keeper when `settle` is called.
+/// A keeper that collects the rows of commits, and puts them into the inner keeper when `settle` is called. A later
+/// row of `desk`, or of the same field, takes the place of the earlier one.
 #[derive(Drop)]
 pub struct Deferred<K: Keep> {
     keep: K,
