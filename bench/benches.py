@@ -28,8 +28,8 @@ SECONDS, MOST_SECONDS = 5, 8
 SLOW_MILLIS = 5
 MOST_CLIENTS = 256
 
-# a run is ended after so many seconds, whatever hangs
-LIMIT = 900
+# a bench is ended after so many seconds for each run of its cells, whatever hangs; and how many runs there are at most
+LIMIT, MOST_RUNS = 900, 9
 
 # as ./stockdesk sets it for the program
 os.environ.setdefault("MALLOC_MMAP_THRESHOLD_", "131072")
@@ -153,6 +153,10 @@ class Bench(ABC):
     def beside(self) -> str:
         """What is measured beside the program."""
 
+    def goals(self) -> list[str]:
+        """The goals beside what was found."""
+        return crowds.goals_text(self.found)
+
     @abstractmethod
     def short(self) -> list[str]:
         """All that was found, as docs/PERFORMANCE.md shows it."""
@@ -166,7 +170,7 @@ class Bench(ABC):
         return found
 
     def measure_cell(self, cell: Cell, most: int = MOST_SECONDS) -> Figures:
-        pace, name = self.paces[cell.pace], crowds.SERVERS[cell.server]
+        pace, name = self.paces[cell.pace], self.found.servers[cell.server]
         return self.measure(self.server(cell.server, pace), pace, self.works[cell.work], cell.clients, name, most)
 
     def head(self) -> list[str]:
@@ -187,7 +191,7 @@ class Bench(ABC):
         for part in self.options.parts:
             self.parts()[part]()
         tail = self.tail(began)
-        tell([*crowds.goals_text(self.found), tail])
+        tell([*self.goals(), tail])
         if self.options.write:
             print("\n".join([*head, *self.short(), "", tail]), file=self.options.write, flush=True)
 
@@ -201,11 +205,11 @@ def end(number: int, _: FrameType | None) -> None:
     sys.exit(f"bench: ended by {signal.Signals(number).name}")
 
 
-def play(options: argparse.Namespace, bench: Callable[[argparse.Namespace, str], Bench]) -> None:
-    """Plays a bench in a folder that is removed afterwards, within a limited time."""
+def play(options: argparse.Namespace, bench: Callable[[argparse.Namespace, str], Bench], runs: int = 1) -> None:
+    """Plays a bench in a folder that is removed afterwards, within a time that is limited for each of its runs."""
     signal.signal(signal.SIGTERM, end)
     signal.signal(signal.SIGALRM, end)
-    signal.alarm(LIMIT)
+    signal.alarm(LIMIT * runs)
     folder = tempfile.mkdtemp(prefix="bench-", dir=options.dir)
     # a folder of PostgreSQL may belong to another user
     os.chmod(folder, 0o711)
