@@ -2,6 +2,7 @@
 refused, scripts played line by line in runs of their own, long scripts, files of requests, replies on a pipe that stays open, the
 file as another SQLite reads it, and sessions that are killed."""
 
+import contextlib
 import os
 import random
 import resource
@@ -13,6 +14,7 @@ from support.programs import (
     NOT_A_DESK,
     NO_DESK,
     STORE,
+    WELL,
     Session,
     bytes_of,
     done,
@@ -22,6 +24,7 @@ from support.programs import (
     lines_of,
     new_desk,
     note,
+    write_bytes,
     write_records,
 )
 from support.service import NOT_CLIENTS, NOT_PLACES, NOT_TOGETHER
@@ -29,6 +32,8 @@ from support.tables import COLUMNS, KEYS, TYPES, rows_of, sqlite3
 
 ROUNDS = 50
 LINES = 1000
+# how many bytes a page of a new desk has
+PAGE = 512
 
 # what stands behind the words of a command with a file of requests, and is no number of requests to carry out together
 TOGETHER = [
@@ -184,6 +189,7 @@ class Stores(ProgramCase):
             expect(end == want, f"init in {size} bytes: {end}")
             if want == STORE:
                 expect_end(self.program, ["run", path], NOT_A_DESK)
+                expect_end(self.program, ["init", path], WELL)
 
     def test_want_of_memory_is_told(self):
         """With less and less memory a script is answered in full, then in part, and the program says what ended it; then nothing
@@ -267,6 +273,28 @@ class Stores(ProgramCase):
         expect_end(self.program, ["init", path], NOT_A_DESK)
         expect(bytes_of(path) == desk, "the desk was changed")
 
+    @needs_sqlite
+    def test_what_a_stop_of_init_leaves_becomes_a_desk(self):
+        """That is a zero byte, or a database with pages of this length and no tables. Others are left alone."""
+        for name, text, end in [("byte", bytes(1), STORE), ("page", self.without_tables(PAGE), NOT_A_DESK)]:
+            path = os.path.join(self.folder, f"{name}.db")
+            write_bytes(path, text)
+            expect_end(self.program, ["run", path], end)
+            expect_end(self.program, ["init", path], WELL)
+            expect(rows_of(path) == ["desk,1,2,0,0"], f"{name}: another desk")
+        for number, text in enumerate([bytes(2), bytes(PAGE), bytes(PAGE + 1), b"S" * PAGE, self.without_tables(2 * PAGE)]):
+            path = os.path.join(self.folder, f"{number}.db")
+            write_bytes(path, text)
+            expect_end(self.program, ["init", path], NOT_A_DESK)
+            expect(bytes_of(path) == text, f"{text[:20]!r} was changed")
+
+    def without_tables(self, size: int) -> bytes:
+        """A database of another SQLite, with pages of so many bytes and no tables."""
+        path = os.path.join(self.folder, f"empty{size}")
+        with contextlib.closing(sqlite3.connect(path)) as database:
+            database.executescript(f"PRAGMA page_size = {size}; CREATE TABLE t (n); DROP TABLE t; VACUUM")
+        return bytes_of(path)
+
     @needs_strict_tables
     def test_another_sqlite_reads_the_file(self):
         path = new_desk(self.program, self.folder)
@@ -276,6 +304,7 @@ class Stores(ProgramCase):
             expect(database.execute("PRAGMA integrity_check").fetchall() == [("ok",)], "the file is not whole")
             names = [name for (name,) in database.execute("SELECT name FROM sqlite_schema WHERE type = 'table' ORDER BY rowid")]
             expect(names == list(ROWS), f"other tables: {names}")
+            expect(database.execute("PRAGMA page_size").fetchone() == (PAGE,), "pages of another length")
             for table, rows in ROWS.items():
                 columns = COLUMNS[table]
                 want = [

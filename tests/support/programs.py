@@ -112,6 +112,11 @@ def bytes_of(path: str) -> bytes:
         return file.read()
 
 
+def write_bytes(path: str, data: bytes) -> None:
+    with open(path, "wb") as file:
+        file.write(data)
+
+
 def new_desk(program: str, folder: str, name: str = "desk.db") -> str:
     path = os.path.join(folder, name)
     done(program, ["init", path])
