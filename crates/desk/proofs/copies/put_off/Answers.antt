@@ -1,4 +1,4 @@
-use Rattle.std.proofs.Common.{◌≡◌, ◌∙◌, ◌∷◌, ◌++◌, All, List, ap, arith, length, rules, subst, sym}
+use Rattle.std.proofs.Common.{◌≡◌, ◌∙◌, ◌∷◌, All, List, ap, arith, length, rules, subst, sym}
 use Rattle.std.specs.Vec.Iter.{into_iter_items}
 use Rattle.ledger.specs.Rows.{Content}
 use Rattle.ledger.specs.Tables.{rows_among}
@@ -13,10 +13,13 @@ use Rattle.desk.proofs.copies.put_off.Goals as goal
 pub loop-copy-init : goal.loop-copy-init
 loop-copy-init c =
     let copies = c.in_ok-copies.copies.items in
-    let all : into_iter_items c.into_iter-copy-iterator.result ≡ copies = c.into_iter-copy-iterator.ensures.into_iter_gives.0 in
+    let all : into_iter_items c.into_iter-copy-iterator.result ≡ copies =
+    c.into_iter-copy-iterator.ensures.into_iter_gives.0 in
     let same : rows_among copies ≡ rows_among c.args.changes.now = copies_same _ _ c.in_ok-copies.ensures.same in
     record {
-      desk = subst (λ (cs : List Change). All IsTheRow (rows_among cs).desk) (sym c.reserve.ensures.items) c.requires.before;
+      desk =
+          subst (λ (cs : List Change). All IsTheRow (rows_among cs).desk) (sym c.reserve.ensures.items)
+          c.requires.before;
       one =
           subst (λ (cs : List Change). All IsTheRow (rows_among cs).desk) (sym all)
           (subst (λ (rows : Content). All IsTheRow rows.desk) (sym same) c.requires.more);
