@@ -199,7 +199,7 @@ pub fn open<S: Start>(rt: &HostRuntime, path: &str, start: S) -> Result<FileKeep
     match look(rt, path)? {
         Found::Nothing => Err(Fault::NotADesk),
         Found::NoStore | Found::Unfinished => Err(Fault::Store),
-        Found::OnePage | Found::File => Ok(open_path(rt, path, start)?),
+        Found::File | Found::OnePage => Ok(open_path(rt, path, start)?),
     }
 }
 
