@@ -5,6 +5,7 @@ import pathlib
 import re
 import sqlite3
 from collections.abc import Iterator
+from itertools import zip_longest
 from typing import Any, NamedTuple
 
 # the limits of the rules: places taken or set aside, fields and orders of a desk
@@ -19,6 +20,20 @@ DEALS = 900_000_000
 NAMING = re.compile(r"(?:(open|transfer)|more|use|release|commit|abort|firm) (9[0-9]{8})(?: |$)")
 
 VERSION = 2
+
+# the tables, each with the columns of its key
+KEYS = {
+    "desk": "one",
+    "field": "branch, article",
+    "move": "place",
+    "orders": "number",
+    "line": "number, nr",
+    "kept": "reqkey",
+    "firm": "number",
+}
+
+# how many bytes a page of a new desk has, and which two bytes of a file say that of its pages
+PAGE, PAGE_AT = 512, slice(16, 18)
 
 
 class NoDesk(Exception):
@@ -90,6 +105,34 @@ def counts_in(path: str, with_log: bool = False) -> Counts:
     """How full the desk in a file is."""
     with read(path, with_log) as database:
         return count(database)
+
+
+def rows_of(database: sqlite3.Connection) -> Iterator[tuple[Any, ...]]:
+    """All rows, table by table, in the order of their keys."""
+    for table, key in KEYS.items():
+        yield from database.execute(f"SELECT '{table}', * FROM {table} ORDER BY {key}")
+
+
+def are_same(path: str, other: str) -> bool:
+    """Whether the desks in two files have the same rows."""
+    with read(path, False) as one, read(other, False) as two:
+        return all(row == same for row, same in zip_longest(rows_of(one), rows_of(two)))
+
+
+def has_small_pages(path: str) -> bool:
+    """Whether the pages of a file are as small as those of a new desk."""
+    with open(path, "rb") as file:
+        return int.from_bytes(file.read(PAGE_AT.stop)[PAGE_AT], "big") == PAGE
+
+
+def give_small_pages(path: str) -> None:
+    """Gives a file that nobody else has open small pages; its rows stay."""
+    try:
+        with contextlib.closing(sqlite3.connect(path, isolation_level=None)) as database:
+            for line in ["PRAGMA journal_mode = DELETE", f"PRAGMA page_size = {PAGE}", "VACUUM"]:
+                database.execute(line).fetchall()
+    except sqlite3.Error as error:
+        raise NoDesk("store") from error
 
 
 def named_late(database: sqlite3.Connection, keys: int) -> tuple[set[int], set[int]]:

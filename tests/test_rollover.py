@@ -121,6 +121,19 @@ def rolled_up(program, path, *words):
     return out.decode(), os.path.join(folder, name)
 
 
+def with_large_pages(path):
+    """Gives a desk pages of the length that they had in older versions."""
+    with contextlib.closing(sqlite3.connect(path, isolation_level=None)) as database:
+        for line in ["PRAGMA journal_mode = DELETE", "PRAGMA page_size = 4096", "VACUUM"]:
+            database.execute(line).fetchall()
+
+
+def pages_of(path):
+    """How many bytes the pages of a file have."""
+    with contextlib.closing(sqlite3.connect(path)) as database:
+        return database.execute("PRAGMA page_size").fetchone()[0]
+
+
 def started(program, words):
     """The tool, in a process group of its own."""
     pipe = subprocess.PIPE
@@ -221,6 +234,24 @@ class RollOvers(ProgramCase):
         expect(end == (0, b"a roll is wanted: 8 places are taken\n", b""), f"{end}")
         rolled_up(self.program, path, *words)
         expect(tables_of(path)["desk"][0].places == 7, "other places")
+
+    def test_a_desk_with_large_pages_gets_small_ones(self):
+        """All its rows stay, also those that are in its log alone; the old file stays beside it, and the next run does nothing. A
+        run by hand, which rolls the desk up, gives small ones too."""
+        path = desk_of(self.program, self.folder)
+        with_large_pages(path)
+        play_and_kill(self.program, path, "K9 deliver N1 A-1 1\n")
+        found = tables_of(path)
+        out, other = rolled_up(self.program, path, "--from", "100000")
+        expect(out.startswith("made anew with small pages: all rows stay; the file with large ones is old-"), out)
+        expect((pages_of(path), pages_of(other)) == (512, 4096), "other pages")
+        expect(tables_of(path) == tables_of(other) == found, "other rows")
+        end = tool_ended(self.program, [path, "--from", "100000"])
+        expect(end[0] == 0 and end[1].startswith(b"nothing is done: "), f"{end}")
+        expect(done(self.program, ["run", path], "K10 deliver N1 A-1 1\n") == ["K10 done 10"], "another answer")
+        with_large_pages(path)
+        rolled_up(self.program, path)
+        expect(pages_of(path) == 512, "a roll leaves large pages")
 
     def test_a_desk_is_its_owners_alone(self):
         """So are a desk and an old file whose desk others could read; they have the owner that the desk had."""
