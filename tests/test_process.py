@@ -281,7 +281,7 @@ class Stores(ProgramCase):
             write_bytes(path, text)
             expect_end(self.program, ["run", path], end)
             expect_end(self.program, ["init", path], WELL)
-            expect(rows_of(path) == ["desk,1,2,0,0"], f"{name}: another desk")
+            expect(rows_of(path) == ["desk|1|2|0|0"], f"{name}: another desk")
         for number, text in enumerate([bytes(2), bytes(PAGE), bytes(PAGE + 1), b"S" * PAGE, self.without_tables(2 * PAGE)]):
             path = os.path.join(self.folder, f"{number}.db")
             write_bytes(path, text)

@@ -1,6 +1,6 @@
 """Tests of the built program that serves many connections at once, where it is killed, a sync fails, the power is cut behind any
 call, or memory is refused. What was answered as done is kept; nothing is kept but what was sent; and no round is answered that
-was not kept."""
+was not kept. In the environment STOCKDESK_CUTS asks for so many power cuts."""
 
 import contextlib
 import math
@@ -37,7 +37,7 @@ KILLS, FAULTS = 12, 12
 LOAD = 500
 # how many syncs of a service may come before the one that fails, at the most
 MOST_SYNCS = 60
-CUTS = 400
+CUTS = int(os.environ.get("STOCKDESK_CUTS", "400"))
 
 # up to which number of a read, and of a write, each is made to fail
 SOME_CALLS = 16

@@ -113,7 +113,8 @@ class Cuts:
         path = self.laid(files)
         if self.chance.randrange(2) == 0:
             ended(self.program, ["run", path])
-        is_made = ended(self.program, ["init", path]) in (WELL, NOT_A_DESK) and rows_of(path) == self.recorded.new
+        ends = ended(self.program, ["init", path]), ended(self.program, ["run", path])
+        is_made = ends in [(WELL, WELL), (NOT_A_DESK, WELL)] and rows_of(path) == self.recorded.new
         shutil.rmtree(os.path.dirname(path))
         return is_made
 
