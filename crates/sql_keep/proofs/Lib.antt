@@ -4,8 +4,10 @@ pub mod UpsertTrees
 pub mod OneRow
 pub mod Upsert
 pub mod Insert
+pub mod PlainInsert
 pub mod UpsertRows
 pub mod Upserts
+pub mod Insertions
 pub mod Puts
 pub mod Selects
 pub mod Steps

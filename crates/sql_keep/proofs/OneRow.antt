@@ -6,6 +6,7 @@ use Rattle.sqlite.specs.Term.{Term}
 use Rattle.sqlite_schema.specs.declared.schema.Table.{Table}
 use Rattle.sqlite_schema.specs.declared.schema.Schema.{Schema}
 use Rattle.sqlite_schema.specs.declared.command.Source.TheVariants.{Values}
+use Rattle.sqlite_schema.specs.declared.command.Command.{Command}
 use Rattle.sqlite_schema.specs.declared.command.Command.TheVariants.{InsertOr}
 use Rattle.sqlite_schema.specs.declared.command.Conflict.TheVariants.{Abort}
 use Rattle.sqlite_schema.specs.declared.command.Upsert.{Upsert}
@@ -20,7 +21,7 @@ use Rattle.sqlite_rules.specs.Action.{works}
 use Rattle.sqlite.specs.declared.run.Mode.{Mode}
 use Rattle.sqlite.specs.Effect.{Database, value_rows}
 use Rattle.sqlite.specs.Rows.{Written, Task, TriesEach, Counts, InsertsOr, rowids_for, stamped, Puts, Tries, nothing}
-use Rattle.sqlite.specs.Does.{Tally, Does, AtPlace, OnRows}
+use Rattle.sqlite.specs.Does.{Tally, Does, AtPlace, OnRows, WritesRows}
 use Rattle.sqlite.proofs.Callers.{one_step}
 use Rattle.sql_keep.proofs.NewTables.{same_value, went}
 use Rattle.sql_keep.proofs.UpsertTrees.{IsAlone}
@@ -33,6 +34,30 @@ module _ (limit : Option ℕ) (mode : Mode) (params : Row) (schema : Schema) (at
     (is : slice_get schema.tables at ≡ Some table) (uncounted : table.is_counted ≡ false) where
   abbrev task : Task
   task = record { limit = limit; keys = mode.keys; schema = schema; table = table; params = params }
+
+  -- what a statement on the rows of the table wrote is there after it
+  pub wrote : (command : Command) (db : Database) (has : db.schema ≡ schema) (tally : Tally) (after : Database)
+      → AtPlace (λ t. OnRows (record {
+        limit = limit;
+        keys = mode.keys;
+        schema = db.schema;
+        table = t;
+        params = params;
+      }) mode None command db.trees) (slice_get db.schema.tables at) (Ok (tally, after))
+      → (after.schema ≡ schema) × (w : Written) × WritesRows task db.trees command (Ok w) × (after.trees ≡ w.trees)
+  wrote command db has tally after h =
+      let own : AtPlace (λ t. OnRows (record task { table = t }) mode None command db.trees) (slice_get schema.tables at)
+      (Ok (tally, after)) =
+      subst (λ s. AtPlace (λ t. OnRows (record task { schema = s; table = t }) mode None command db.trees)
+      (slice_get s.tables at) (Ok (tally, after))) has h in
+      let ran : OnRows task mode None command db.trees (Ok (tally, after)) = rw is at own in
+      let done = went ran in
+      let now = ap (λ (p : Tally × Database). p.1) (same_value (went (went done.2).2).2) in
+      (ap (λ (d : Database). d.schema) now, done.0, done.1, ap (λ (d : Database). d.trees) now)
+
+  -- no number is taken from a count, where the table has none
+  pub counts : (next after : Trees) (counter : Option Row) (top : ℤ) → Counts task next counter top (Ok after) → after ≡ next
+  counts next after counter top h = let plain = rw uncounted at h in same_value plain
 
   -- the row goes in where none has its key
   pub added : (idle : (gone : List Row) (news : List Row) → works schema mode.keys 0 table.tree gone news ≡ [])
@@ -68,9 +93,6 @@ module _ (limit : Option ℕ) (mode : Mode) (params : Row) (schema : Schema) (at
           let same = ap (λ (o : Written × ℤ). o.0.trees) (same_value first.2) in
           subst Is (sym same) (tries first.0 ran)
 
-      counts : (next after : Trees) (counter : Option Row) (top : ℤ) → Counts task next counter top (Ok after) → after ≡ next
-      counts next after counter top h = let plain = rw uncounted at h in same_value plain
-
       inserts : (w : Written) → InsertsOr task Abort clauses (Values terms width) db (Ok w) → Is w.trees
       inserts w h =
           let rows = went h in
@@ -87,20 +109,5 @@ module _ (limit : Option ℕ) (mode : Mode) (params : Row) (schema : Schema) (at
         → Does limit mode params db text None (InsertOr at Abort (Values terms width) clauses) (Ok (tally, after))
         → (after.schema ≡ schema) × Is after.trees
     puts_one text db has tally after tries h =
-        let own : AtPlace (λ t. OnRows (record {
-          limit = limit;
-          keys = mode.keys;
-          schema = schema;
-          table = t;
-          params = params;
-        }) mode None (InsertOr at Abort (Values terms width) clauses) db.trees) (slice_get schema.tables at)
-        (Ok (tally, after)) =
-        subst (λ s. Does limit mode params (record db { schema = s }) text None
-        (InsertOr at Abort (Values terms width) clauses) (Ok (tally, after))) has h in
-        let ran : OnRows task mode None (InsertOr at Abort (Values terms width) clauses) db.trees (Ok (tally, after)) =
-        rw is at own in
-        let done = went ran in
-        let now = ap (λ (p : Tally × Database). p.1) (same_value (went (went done.2).2).2) in (
-          ap (λ (d : Database). d.schema) now,
-          subst Is (sym (ap (λ (d : Database). d.trees) now)) (inserts db.trees tries done.0 done.1),
-        )
+        let ran = wrote (InsertOr at Abort (Values terms width) clauses) db has tally after h in
+        (ran.0, subst Is (sym ran.3) (inserts db.trees tries ran.1 ran.2))

@@ -3,24 +3,24 @@ use Rattle.std.proofs.Common.{◌≡◌, ◌∙◌, ℕ, Ok, Err, Result, refl, 
 use Rattle.std.specs.Prelude.{OnOk, ◌≢◌}
 use Rattle.sqlite.specs.declared.error.Error.{Error}
 use Rattle.sqlite.specs.Order.{Row}
-use Rattle.sqlite.specs.State.{State, Executes, ExecutesInside}
+use Rattle.sqlite.specs.State.{State, Executes, ExecutesInside, IsUnchanged}
 use Rattle.ledger.specs.declared.rows.Change.{Change}
 use Rattle.ledger.specs.declared.rows.Change.TheVariants as change
 use Rattle.ledger.specs.Rows.{Content}
 use Rattle.sqlite.specs.Effect.{Database}
-use Rattle.ledger.specs.Tables.{desk_cells, field_cells, move_cells, order_cells, line_cells, kept_cells, firm_cells}
 use Rattle.keep.specs.TableRows.{Cells, rows_of}
-use Rattle.sql_keep.specs.Description.{columns, declared, desk_schema}
-use Rattle.sql_keep.specs.Statements.{PutsRow}
+use Rattle.sql_keep.specs.Description.{declared, desk_schema}
+use Rattle.sql_keep.specs.Statements.{InsertsRow, PutsRow}
 use Rattle.keep.specs.declared.table_row.TableName.{TableName}
 use Rattle.keep.specs.declared.table_row.TableName.TheVariants as table
 use Rattle.sql_keep.specs.StoreContent.{Holds, Stores}
 use Rattle.sql_keep.specs.Laws.{is_among}
 use Rattle.sql_keep.specs.Laws.{is_now}
 use Rattle.keep.specs.Content.{with_changes}
-use Rattle.sql_keep.specs.Transactions.{PutsIn}
+use Rattle.sql_keep.specs.Transactions.{PutsIn, cells_of, columns_of, table_of}
 use Rattle.sql_keep.proofs.LaterTables.{content_now}
 use Rattle.keep.proofs.Among.{of_each}
+use Rattle.sql_keep.proofs.Insertions.{inserts_into}
 use Rattle.sql_keep.proofs.Upserts.{PutsIntoTable, puts_into}
 
 -- where the statement has put them in, the transaction goes on
@@ -36,25 +36,6 @@ upserted text columns changes old new holds (Ok count) h = record {
 upserted text columns changes old new holds (Err e) h = tt
 
 -- ---- a row put into its table
-
--- the table of a change, and its row
-abbrev table_of : Change → TableName
-table_of (change.Desk row) = table.Desk
-table_of (change.Field row) = table.Field
-table_of (change.Move row) = table.Move
-table_of (change.Order row) = table.Orders
-table_of (change.Line row) = table.Line
-table_of (change.Kept row) = table.Kept
-table_of (change.Firm row) = table.Firm
-
-abbrev cells_of : (c : Change) → Cells (table_of c)
-cells_of (change.Desk row) = desk_cells row
-cells_of (change.Field row) = field_cells row
-cells_of (change.Move row) = move_cells row
-cells_of (change.Order row) = order_cells row
-cells_of (change.Line row) = line_cells row
-cells_of (change.Kept row) = kept_cells row
-cells_of (change.Firm row) = firm_cells row
 
 rows_put : (c : Change) (t : TableName) (old new : Database) (x : Content)
     → PutsIntoTable (table_of c) (cells_of c) old new → Stores t (old.trees (declared t).tree) (rows_of t x)
@@ -80,13 +61,25 @@ holds_put c old new x puts held = record {
       (λ t. rows_put c t old new x puts (held.content.has.rows t (is_now t)));
 }
 
--- what the statement of a row's table does
-pub row_upserted : (c : Change) (text : List ℕ) → PutsRow (table_of c) text → (old new : State) (r : Result ℕ Error)
-    → ExecutesInside 0 text (columns (table_of c) (cells_of c)) old new r → OnOk r (PutsIn old new (c ∷ []))
-row_upserted c text means old new = upserted text (columns (table_of c) (cells_of c)) (c ∷ []) old new (λ count h x held.
-    holds_put c old.now new.now x
-    (puts_into (table_of c) text means old new (cells_of c) count held.schema_is h (rows_of (table_of c) x)
+row_put : (c : Change) (text : List ℕ) (old new : State)
+    → ((count : ℕ) → old.now.schema ≡ desk_schema → Executes text (columns_of c) old new (Ok count)
+    → (xs : List (Cells (table_of c))) → Stores (table_of c) (old.now.trees (declared (table_of c)).tree) xs
+    → PutsIntoTable (table_of c) (cells_of c) old.now new.now)
+    → (r : Result ℕ Error) → ExecutesInside 0 text (columns_of c) old new r → OnOk r (PutsIn old new (c ∷ []))
+row_put c text old new puts = upserted text (columns_of c) (c ∷ []) old new (λ count h x held.
+    holds_put c old.now new.now x (puts count held.schema_is h (rows_of (table_of c) x)
     (held.content.has.rows (table_of c) (is_now (table_of c)))) held)
+
+-- what the statements of a row's table do
+pub row_upserted : (c : Change) (text : List ℕ) → PutsRow (table_of c) text → (old new : State) (r : Result ℕ Error)
+    → ExecutesInside 0 text (columns_of c) old new r → OnOk r (PutsIn old new (c ∷ []))
+row_upserted c text means old new =
+    row_put c text old new (puts_into (table_of c) text means old new (cells_of c))
+
+pub row_inserted : (c : Change) (text : List ℕ) → InsertsRow (table_of c) text → (old new : State) (r : Result ℕ Error)
+    → ExecutesInside 0 text (columns_of c) old new r → OnOk r (PutsIn old new (c ∷ []))
+row_inserted c text means old new =
+    row_put c text old new (inserts_into (table_of c) text means old new (cells_of c))
 
 -- ---- rows put in one after another
 
@@ -114,3 +107,13 @@ puts_then a b c xs x p q = record {
   committed = q.committed ∙ p.committed;
   is = λ y held. subst (Holds c.now) (sym (one_more xs x y)) (q.is _ (p.is y held));
 }
+
+-- rows that are put in where nothing was done before
+pub puts_from : (a b c : State) (xs : List Change) (r : Result ℕ Error) → IsUnchanged a b → OnOk r (PutsIn b c xs)
+    → OnOk r (PutsIn a c xs)
+puts_from a b c xs (Ok count) same q = record {
+  mode = q.mode;
+  committed = q.committed ∙ same.0.committed_is;
+  is = λ x held. q.is x (subst (λ d. Holds d x) (sym same.0.now_is) held);
+}
+puts_from a b c xs (Err e) same q = tt

@@ -1,7 +1,16 @@
 -- Steps of a connection, one after the other.
-use Rattle.std.proofs.Common.{◌≡◌, ◌∙◌, ap, arith, inl, refl, subst}
+use Rattle.std.proofs.Common.{◌≡◌, ◌∙◌, ap, arith, inl, inr, refl, subst, false, ℕ, List, Err}
+use Rattle.std.proofs.lemmas.Bool.{cases_Bool}
 use Rattle.sqlite.specs.Effect.{Database}
-use Rattle.sqlite.specs.State.{State, HasCleanDisk, IsUnchanged, Survives}
+use Rattle.sqlite.specs.Order.{Row}
+use Rattle.sqlite.specs.declared.error.Error.{Error}
+use Rattle.sqlite.specs.declared.error.Error.TheVariants.{SqliteFailure}
+use Rattle.sqlite.specs.declared.error.ErrorCode.TheVariants.{ConstraintViolation}
+use Rattle.sqlite.specs.State.{State, HasCleanDisk, IsUnchanged, Survives, ExecutesIn, ExecutesInside, IsNotRun}
+use Rattle.sqlite.specs.State.{shows_rows, store_error}
+use Rattle.sqlite_schema.specs.declared.schema.Constraint.{Constraint}
+use Rattle.sqlite_trees.specs.declared.error.StoreError.{StoreError}
+use Rattle.sqlite_trees.specs.declared.error.StoreError.TheVariants.{OutOfMemory, Io, Corrupt, Full, Broken, Unstorable}
 use Rattle.sqlite.proofs.Callers.{unchanged_then}
 use Rattle.sqlite.proofs.StateLemmas.{survives_then}
 use Rattle.sqlite_trees.specs.Tree.{Trees}
@@ -36,3 +45,25 @@ reads_only a b c second same first =
     survives_then a b c _ _ _ (λ _ db h. h)
     (λ clean db other has.
     other (ap (λ d. d.schema) (same (omega (arith, clean, second.clean)) has).0.now_is ∙ has)) first second
+
+-- a statement that is refused, and not for a fault of the store, leaves the connection as it was
+pub refused_stays : (text : List ℕ) (params : Row) (old new : State) (e : Error)
+    → ((cause : StoreError) → e ≡ store_error cause → ⊥) → ExecutesInside 0 text params old new (Err e) → IsUnchanged old new
+unfolding ExecutesIn IsNotRun
+refused_stays text params old new e no_fault (inl ran) = elim ran.0 [
+  | inl early ↦ elim early [ inl none ↦ none.1 | inr fails ↦ absurd (no_fault fails.0 fails.1) ]
+  | inr it ↦ elim (cases_Bool (shows_rows false it.0)) [
+    | inl shows ↦ (rw shows at it.2).1
+    | inr runs ↦ elim (rw runs at it.2) [ inl refused ↦ refused.1 | inr fails ↦ absurd (no_fault fails.0 fails.1) ]
+  ]
+]
+refused_stays text params old new e no_fault (inr ended) = ended.2
+
+-- a row that breaks a rule is no fault of the store
+pub no_fault : (rule : Constraint) (cause : StoreError) → SqliteFailure (ConstraintViolation rule) ≡ store_error cause → ⊥
+no_fault rule OutOfMemory e = cc
+no_fault rule Io e = cc
+no_fault rule Corrupt e = cc
+no_fault rule Full e = cc
+no_fault rule Broken e = cc
+no_fault rule Unstorable e = cc

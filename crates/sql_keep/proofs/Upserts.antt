@@ -61,10 +61,10 @@ use Rattle.sql_keep.proofs.UpsertRows.{has_permuted, rows_kept, shown_key}
 
 -- ---- a row as it goes in
 
-abbrev terms : TableName → List Term
+abbrev pub terms : TableName → List Term
 terms t = new_terms (declared t).key (length (declared t).columns)
 
-abbrev width : TableName → ℕ
+abbrev pub width : TableName → ℕ
 width t = length (declared t).columns + 1
 
 abbrev without_key : Option ℕ → Row → Row
@@ -76,7 +76,7 @@ first None c = Null
 first (Some key) c = column c 0
 
 -- its columns behind the rowid, as the table stores them
-abbrev kept : (t : TableName) → Cells t → Row
+abbrev pub kept : (t : TableName) → Cells t → Row
 kept t x = without_key (declared t).key (columns t x)
 
 -- as VALUES gives it, its rowid first, which is Null where SQLite chooses it
@@ -125,11 +125,11 @@ steady_fresh t rows x =
     let is = fresh_is t rows x in
     subst (λ r. cast_row (declared t) r ≡ r) (sym is.1) (steady t (Int is.0) x (cast_int is.0))
 
-fresh_number : (t : TableName) (rows : List Row) (x : Cells t) → IsTrue (is_int (rowid (fresh t rows x)))
+pub fresh_number : (t : TableName) (rows : List Row) (x : Cells t) → IsTrue (is_int (rowid (fresh t rows x)))
 fresh_number t rows x = grind arith
 
 -- it shows the columns of the row
-shown_fresh : (t : TableName) (rows : List Row) (x : Cells t) → stored t (fresh t rows x) ≡ columns t x
+pub shown_fresh : (t : TableName) (rows : List Row) (x : Cells t) → stored t (fresh t rows x) ≡ columns t x
 shown_fresh t rows x = grind arith
 
 -- ---- rows with its key
@@ -242,7 +242,7 @@ set_is : (t : TableName) (x : Cells t) (new was : Row)
     (columns t x)
 set_is t x new was = grind arith
 
-again : (t : TableName) (x : Cells t) (was : Row)
+pub again : (t : TableName) (x : Cells t) (was : Row)
     → take (length (declared t).primary) (stored t was) ≡ take (length (declared t).primary) (columns t x)
     → stored t (rowid was ∷ kept t x) ≡ columns t x
 again table.Desk x was e = ap (λ (k : Row). column k 0 ∷ drop 1 (columns table.Desk x)) e
@@ -255,17 +255,17 @@ again table.Firm x was e = ap (λ (k : Row). column k 0 ∷ drop 1 (columns tabl
 
 -- ---- the facts of a table that SQLite's steps ask for
 
-record Facts (t : TableName) : Type 0 where
-  at : slice_get desk_schema.tables (length (before t)) ≡ Some (declared t)
-  uncounted : (declared t).is_counted ≡ false
-  idle : (mode : Mode) (gone news : List Row) → works desk_schema mode.keys 0 (declared t).tree gone news ≡ []
-  low : (trees : Trees) → overlay trees [] (declared t).tree ≡ trees (declared t).tree
-  reads : (x : Cells t)
+pub record Facts (t : TableName) : Type 0 where
+  pub at : slice_get desk_schema.tables (length (before t)) ≡ Some (declared t)
+  pub uncounted : (declared t).is_counted ≡ false
+  pub idle : (mode : Mode) (gone news : List Row) → works desk_schema mode.keys 0 (declared t).tree gone news ≡ []
+  pub low : (trees : Trees) → overlay trees [] (declared t).tree ≡ trees (declared t).tree
+  pub reads : (x : Cells t)
       → value_rows (stamped (declared t) (columns t x)) (width t) (length (terms t) / width t) (terms t)
       ≡ source t x ∷ []
-  placed : (x : Cells t) (v : Value) (more : Row) → column (columns t x ++ v ∷ more) (length (declared t).columns) ≡ v
+  pub placed : (x : Cells t) (v : Value) (more : Row) → column (columns t x ++ v ∷ more) (length (declared t).columns) ≡ v
 
-facts : (t : TableName) → Facts t
+pub facts : (t : TableName) → Facts t
 facts t = record {
   at = grind arith;
   uncounted = grind arith;

@@ -1,7 +1,7 @@
 -- Values of SQL: what a column stores of them, and when one equals a number or a text.
-use Rattle.std.proofs.Common.{◌≡◌, ◌∙◌, ℕ, ℤ, Bool, true, false, ◌&&◌, cond, List, [], ◌∷◌, Some, refl, sym, ap, ap₂}
+use Rattle.std.proofs.Common.{◌≡◌, ◌∙◌, ℕ, ℤ, Bool, true, false, not, ◌&&◌, cond, List, [], ◌∷◌, Some, refl, sym, ap, ap₂}
 use Rattle.std.proofs.Common.{Ordering, Less, Equal, Greater, is_eq, nat_cmp, true≢false}
-use Rattle.std.specs.Ordering.{ordering_then}
+use Rattle.std.specs.Ordering.{is_ne, ordering_then}
 use Rattle.std.specs.Cmp.Lexicographic.{slice_cmp}
 use Rattle.std.proofs.lemmas.Cmp.{ranked, int_ranked}
 use Rattle.sqlite.specs.declared.types.Value.{Value}
@@ -11,7 +11,7 @@ use Rattle.sqlite.specs.Kind.TheVariants.{Integer}
 use Rattle.sqlite.specs.Order.{value_cmp}
 use Rattle.sqlite.specs.Ops.{unary, binary, is_true, from_truth}
 use Rattle.sqlite_rules.specs.Cast.{cast}
-use Rattle.sqlite_schema.specs.Rules.{equal}
+use Rattle.sqlite_schema.specs.Rules.{differ, equal}
 use Rattle.sqlite_value.proofs.OrderLemmas.{value_cmp-Int, value_cmp-Null}
 
 either : (b : Bool) (x : Value) → cond b x x ≡ x
@@ -39,7 +39,17 @@ equal_int (Real x) n = as_test _
 equal_int (Text t) n = as_test _
 equal_int (Blob b) n = as_test _
 
--- the same of a text
+unequal : (o : Ordering) → is_true (from_truth (Some (is_ne o))) ≡ not (is_eq o)
+unequal Less = refl
+unequal Equal = refl
+unequal Greater = refl
+
+-- two numbers differ where they do not compare as one
+pub differ_int : (m n : ℤ) → differ (Int m) (Int n) ≡ not (is_eq (value_cmp (Int m) (Int n)))
+unfolding binary
+differ_int m n = unequal _
+
+-- a value equals a text where it compares as one
 pub equal_text : (v : Value) (t : List ℕ) → equal Binary v (Text t) ≡ is_eq (value_cmp v (Text t))
 unfolding binary
 equal_text Null t = ap is_eq (sym (value_cmp-Null (Text t)))

@@ -4,11 +4,12 @@ use Rattle.std.specs.Prelude.{negsuc, pos}
 use Rattle.std.specs.List.{range_with_len}
 use Rattle.sqlite.specs.Change.{created}
 use Rattle.sqlite.specs.Command.{Command}
-use Rattle.sqlite.specs.Command.TheVariants.{CreateTable, InsertOr, Select}
+use Rattle.sqlite.specs.Command.TheVariants.{CreateTable, Insert, InsertOr, Select}
 use Rattle.sqlite.specs.Compile.{table_defined_by}
 use Rattle.sqlite.specs.Listing.{reads_listing, understood}
 use Rattle.sqlite.specs.Query.{Query, end, inner}
 use Rattle.sqlite.specs.Schema.{Schema}
+use Rattle.sqlite.specs.Source.{Source}
 use Rattle.sqlite.specs.Source.TheVariants.{Values}
 use Rattle.sqlite.specs.Table.{Table}
 use Rattle.sqlite.specs.Term.{Term, col, lit, op2}
@@ -73,6 +74,10 @@ abbrev pub new_terms : Option ℕ → ℕ → List Term
 new_terms None count = lit Null ∷ map (col 0) (range_with_len 0 count)
 new_terms (Some key) count = col 0 0 ∷ lit Null ∷ map (col 0) (range_with_len 1 (count - 1))
 
+-- the one row that goes in
+abbrev pub new_row : Table → Source
+new_row table = Values (new_terms table.key (length table.columns)) (length table.columns + 1)
+
 -- what a row that has the key already becomes, but for its rowid: its key stays, and the other columns are the new
 -- ones
 abbrev pub set_terms : Table → List Term
@@ -105,8 +110,7 @@ update_of table (other ∷ others) = Some (record { lets = []; body = updated ta
 
 abbrev pub upsert : TableName → Command
 upsert t = let table = declared t in
-    InsertOr (length (before t)) Abort (Values (new_terms table.key (length table.columns)) (length table.columns + 1))
-    (record {
+    InsertOr (length (before t)) Abort (new_row table) (record {
       target = Some table.primary;
       update = update_of table (range_with_len 0 (length table.columns - length table.primary));
     } ∷ [])
@@ -114,4 +118,9 @@ upsert t = let table = declared t in
 -- over the schema of a desk, the text puts a row in by the key of the table
 pub record PutsRow (t : TableName) (text : List ℕ) : Type 0 where
   pub command : command_of (understood desk_schema text) ≡ upsert t
+  pub plain : IsPlain (understood desk_schema text)
+
+-- over the schema of a desk, the text inserts a row into the table, which is refused where a row has its key
+pub record InsertsRow (t : TableName) (text : List ℕ) : Type 0 where
+  pub command : command_of (understood desk_schema text) ≡ Insert (length (before t)) (new_row (declared t))
   pub plain : IsPlain (understood desk_schema text)

@@ -1,11 +1,11 @@
 //! How SQL keeps the tables of a desk: the texts of their statements, and their declarations.
 
-ghost use Rattle.std.specs.Prelude.{◌≡◌, ◌≤◌, ℕ, is_some, map};
+ghost use Rattle.std.specs.Prelude.{◌≡◌, ◌≤◌, ℕ, IfSome, is_some, map};
 ghost use Rattle.keep.specs.Content.{newest};
 ghost use Rattle.sql_keep.specs.Description.{all_tables, declared, desk_schema, schema_of, tables_after, tables_of};
 ghost use Rattle.keep.specs.declared.table_row.TableName.TheVariants as TableName;
 ghost use Rattle.sql_keep.specs.Schema.{column};
-ghost use Rattle.sql_keep.specs.Statements.{ListsTable, MakesTable, PutsRow};
+ghost use Rattle.sql_keep.specs.Statements.{InsertsRow, ListsTable, MakesTable, PutsRow};
 
 use keep::TableName;
 use sqlite_schema::schema::Kind;
@@ -84,6 +84,24 @@ pub(crate) fn upsert_text(table: TableName) -> &'static str
             "INSERT INTO kept (reqkey, place, words) VALUES (?1, ?2, ?3) ON CONFLICT (reqkey) DO UPDATE SET place = ?2, words = ?3"
         }
         TableName::Firm => "INSERT INTO firm (number) VALUES (?1) ON CONFLICT (number) DO NOTHING",
+    }
+}
+
+/// Returns the text that inserts a row, where the rows of the table mostly have a new key. Where a row has the key, the
+/// statement is refused.
+pub(crate) fn insert_text(table: TableName) -> Option<&'static str>
+    ensures { IfSome result (λ text. InsertsRow table text.now) }
+{
+    match table {
+        TableName::Move => {
+            Some("INSERT INTO move (place, branch, article, qty) VALUES (?1, ?2, ?3, ?4)")
+        }
+        TableName::Kept => Some("INSERT INTO kept (reqkey, place, words) VALUES (?1, ?2, ?3)"),
+        TableName::Desk
+        | TableName::Field
+        | TableName::Orders
+        | TableName::Line
+        | TableName::Firm => None,
     }
 }
 

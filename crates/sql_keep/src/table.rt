@@ -5,14 +5,19 @@ ghost use Rattle.std.specs.List.{AllZip};
 ghost use Rattle.std.specs.List.Sorted.{IsStrictlySortedBy};
 ghost use Rattle.sqlite.specs.Held.{state};
 ghost use Rattle.sqlite.specs.State.{HasCleanDisk, IsUnchanged, Survives};
+ghost use Rattle.sqlite.specs.Values.{bound};
 ghost use Rattle.sql_keep.specs.StoreContent.{Stores};
 ghost use Rattle.keep.specs.TableRows.{key_cmp};
 ghost use Rattle.sql_keep.specs.Description.{declared, desk_schema, selected};
 ghost use Rattle.sql_keep.specs.Loads.{FindsTrees, IsShown};
+ghost use Rattle.sql_keep.specs.Statements.{InsertsRow};
+ghost use Rattle.sql_keep.specs.Transactions.{PutsIn, columns_of, table_of};
+ghost use Rattle.ledger.specs.declared.rows.Change.{Change};
 
 use crate::answers::all_rows;
-use crate::description::select_text;
+use crate::description::{insert_text, select_text, upsert_text};
 use keep::{TableName, TableRow};
+use sqlite::types::ValueRef;
 use sqlite::{Alter, Connection, Error, ErrorCode, Row, Transaction};
 use std::alloc::Global;
 
@@ -44,6 +49,46 @@ pub(crate) trait SqlRow: TableRow {
     /// Returns the row that the answer shows.
     fn read(row: &Row) -> Result<Self, Error>
         ensures { IfOk result (λ found. IsShown Self.TableRow.which row.now (Self.TableRow.cells found)) };
+}
+
+/// Inserts a row by the text. Where the table has its key already, the row is put in by its key.
+fn insert<S: Alter>(
+    tx: &mut Transaction<'_, S>,
+    text: &str,
+    table: TableName,
+    values: &[ValueRef<'_>],
+) -> Result<usize, Error>
+    requires { InsertsRow table text.now }
+    ensures same_reference { tx.new.conn.ghost_name ≡ tx.old.conn.ghost_name }
+    ensures put { HasCleanDisk (state S.Store tx.new.conn.now) → IsTrue (state S.Store tx.old.conn.now).in_transaction
+        → (change : Change) → table_of change ≡ table → bound values.now ≡ columns_of change
+        → OnOk result (PutsIn (state S.Store tx.old.conn.now) (state S.Store tx.new.conn.now) (change ∷ [])) }
+    ensures survives { Survives (state S.Store tx.old.conn.now) (state S.Store tx.new.conn.now) (λ _. ⊥) }
+{
+    match tx.execute(text, values) {
+        Err(Error::SqliteFailure(ErrorCode::ConstraintViolation(_))) => {
+            tx.execute(upsert_text(table), values)
+        }
+        done => done,
+    }
+}
+
+/// Puts a row of the table in by its key.
+pub(crate) fn put_row<S: Alter>(
+    tx: &mut Transaction<'_, S>,
+    table: TableName,
+    values: &[ValueRef<'_>],
+) -> Result<usize, Error>
+    ensures same_reference { tx.new.conn.ghost_name ≡ tx.old.conn.ghost_name }
+    ensures put { HasCleanDisk (state S.Store tx.new.conn.now) → IsTrue (state S.Store tx.old.conn.now).in_transaction
+        → (change : Change) → table_of change ≡ table → bound values.now ≡ columns_of change
+        → OnOk result (PutsIn (state S.Store tx.old.conn.now) (state S.Store tx.new.conn.now) (change ∷ [])) }
+    ensures survives { Survives (state S.Store tx.old.conn.now) (state S.Store tx.new.conn.now) (λ _. ⊥) }
+{
+    match insert_text(table) {
+        Some(text) => insert(tx, text, table, values),
+        None => tx.execute(upsert_text(table), values),
+    }
 }
 
 /// Selects all rows of the table, by its key; where the rowid is not the key, it comes last in each row.

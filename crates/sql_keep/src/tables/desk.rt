@@ -11,8 +11,8 @@ ghost use Rattle.sql_keep.specs.Description.{IsSchemaWith, selected};
 ghost use Rattle.sql_keep.specs.Loads.{IsOneAnswer, Reads};
 ghost use Rattle.keep.specs.declared.table_row.TableName.TheVariants as table;
 
-use crate::description::{select_text, upsert_text};
-use crate::table::SqlRow;
+use crate::description::select_text;
+use crate::table::{SqlRow, put_row};
 use keep::TableName;
 use ledger::DeskRow;
 use sqlite::{Alter, Connection, Error, Row, Transaction, params};
@@ -27,8 +27,9 @@ impl SqlRow for DeskRow {
     }
 
     fn upsert<S: Alter>(&self, tx: &mut Transaction<'_, S>) -> Result<usize, Error> {
-        tx.execute(
-            upsert_text(TableName::Desk),
+        put_row(
+            tx,
+            TableName::Desk,
             params![self.one, self.version, self.clock, self.places],
         )
     }

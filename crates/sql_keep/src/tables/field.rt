@@ -1,7 +1,6 @@
 //! The table `field`.
 
-use crate::description::upsert_text;
-use crate::table::SqlRow;
+use crate::table::{SqlRow, put_row};
 use keep::TableName;
 use ledger::FieldRow;
 use sqlite::{Alter, Connection, Error, Row, Transaction, params};
@@ -16,8 +15,9 @@ impl SqlRow for FieldRow {
     }
 
     fn upsert<S: Alter>(&self, tx: &mut Transaction<'_, S>) -> Result<usize, Error> {
-        tx.execute(
-            upsert_text(TableName::Field),
+        put_row(
+            tx,
+            TableName::Field,
             params![
                 &self.branch,
                 &self.article,

@@ -1,7 +1,6 @@
 //! The table `firm`.
 
-use crate::description::upsert_text;
-use crate::table::SqlRow;
+use crate::table::{SqlRow, put_row};
 use keep::TableName;
 use ledger::FirmRow;
 use sqlite::{Alter, Connection, Error, Row, Transaction, params};
@@ -16,7 +15,7 @@ impl SqlRow for FirmRow {
     }
 
     fn upsert<S: Alter>(&self, tx: &mut Transaction<'_, S>) -> Result<usize, Error> {
-        tx.execute(upsert_text(TableName::Firm), params![self.number])
+        put_row(tx, TableName::Firm, params![self.number])
     }
 
     fn read(row: &Row) -> Result<Self, Error> {

@@ -1,7 +1,6 @@
 //! The table `kept`.
 
-use crate::description::upsert_text;
-use crate::table::SqlRow;
+use crate::table::{SqlRow, put_row};
 use keep::TableName;
 use ledger::KeptRow;
 use sqlite::{Alter, Connection, Error, Row, Transaction, params};
@@ -16,8 +15,9 @@ impl SqlRow for KeptRow {
     }
 
     fn upsert<S: Alter>(&self, tx: &mut Transaction<'_, S>) -> Result<usize, Error> {
-        tx.execute(
-            upsert_text(TableName::Kept),
+        put_row(
+            tx,
+            TableName::Kept,
             params![&self.reqkey, self.place, &self.words],
         )
     }

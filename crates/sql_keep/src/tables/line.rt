@@ -1,7 +1,6 @@
 //! The table `line`.
 
-use crate::description::upsert_text;
-use crate::table::SqlRow;
+use crate::table::{SqlRow, put_row};
 use keep::TableName;
 use ledger::LineRow;
 use sqlite::{Alter, Connection, Error, Row, Transaction, params};
@@ -16,8 +15,9 @@ impl SqlRow for LineRow {
     }
 
     fn upsert<S: Alter>(&self, tx: &mut Transaction<'_, S>) -> Result<usize, Error> {
-        tx.execute(
-            upsert_text(TableName::Line),
+        put_row(
+            tx,
+            TableName::Line,
             params![
                 self.number,
                 self.nr,

@@ -1,7 +1,6 @@
 //! The table `move`.
 
-use crate::description::upsert_text;
-use crate::table::SqlRow;
+use crate::table::{SqlRow, put_row};
 use keep::TableName;
 use ledger::MoveRow;
 use sqlite::{Alter, Connection, Error, Row, Transaction, params};
@@ -16,8 +15,9 @@ impl SqlRow for MoveRow {
     }
 
     fn upsert<S: Alter>(&self, tx: &mut Transaction<'_, S>) -> Result<usize, Error> {
-        tx.execute(
-            upsert_text(TableName::Move),
+        put_row(
+            tx,
+            TableName::Move,
             params![self.place, &self.branch, &self.article, self.qty],
         )
     }

@@ -1,7 +1,6 @@
 //! The table `orders`.
 
-use crate::description::upsert_text;
-use crate::table::SqlRow;
+use crate::table::{SqlRow, put_row};
 use keep::TableName;
 use ledger::OrderRow;
 use sqlite::{Alter, Connection, Error, Row, Transaction, params};
@@ -16,8 +15,9 @@ impl SqlRow for OrderRow {
     }
 
     fn upsert<S: Alter>(&self, tx: &mut Transaction<'_, S>) -> Result<usize, Error> {
-        tx.execute(
-            upsert_text(TableName::Orders),
+        put_row(
+            tx,
+            TableName::Orders,
             params![self.number, self.kind, self.until, self.state],
         )
     }

@@ -1,9 +1,7 @@
-use Rattle.std.proofs.Common.{◌≡◌, rules}
-use Rattle.sqlite.specs.Held.{state}
+use Rattle.std.proofs.Common.{◌≡◌, refl, rules}
 use Rattle.sqlite_value.specs.Value.{owned}
 use Rattle.sqlite.specs.declared.types.Value.TheVariants.{Int}
 use Rattle.ledger.specs.declared.rows.Change.TheVariants as change
-use Rattle.sql_keep.proofs.Puts.{row_upserted}
 use Rattle.sql_keep.proofs.tables.field.FieldRowSqlRow.upsert.Goals as goal
 
 pub returns-clause-put : goal.returns-clause-put
@@ -14,6 +12,5 @@ returns-clause-put g c clean begun =
     let v5 : owned c.params-to_sql-6.result ≡ Int c.args.self.now.value = search rules in
     let v6 : owned c.params-to_sql-7.result ≡ Int c.args.self.now.inf = search rules in
     let v7 : owned c.params-to_sql-8.result ≡ Int c.args.self.now.sup = search rules in
-    row_upserted (change.Field c.args.self.now) c.upsert_text.result.now c.upsert_text.ensures
-    (state g.S.Store c.args.tx.now.conn.now) (state g.S.Store c.execute.new.self.conn.now) c.execute.result
-    (rw (c.params-to_sql.ensures, c.params-to_sql-2.ensures, v2, v3, v4, v5, v6, v7) at (c.execute.ensures.runs clean begun))
+    c.put_row.ensures.put clean begun (change.Field c.args.self.now) refl
+    (rw (c.params-to_sql.ensures, c.params-to_sql-2.ensures, v2, v3, v4, v5, v6, v7) refl)

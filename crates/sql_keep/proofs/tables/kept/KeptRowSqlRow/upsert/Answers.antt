@@ -1,14 +1,11 @@
-use Rattle.std.proofs.Common.{◌≡◌, rules}
-use Rattle.sqlite.specs.Held.{state}
+use Rattle.std.proofs.Common.{◌≡◌, refl, rules}
 use Rattle.sqlite_value.specs.Value.{owned}
 use Rattle.sqlite.specs.declared.types.Value.TheVariants.{Int}
 use Rattle.ledger.specs.declared.rows.Change.TheVariants as change
-use Rattle.sql_keep.proofs.Puts.{row_upserted}
 use Rattle.sql_keep.proofs.tables.kept.KeptRowSqlRow.upsert.Goals as goal
 
 pub returns-clause-put : goal.returns-clause-put
 returns-clause-put g c clean begun =
     let v1 : owned c.params-to_sql-2.result ≡ Int c.args.self.now.place = search rules in
-    row_upserted (change.Kept c.args.self.now) c.upsert_text.result.now c.upsert_text.ensures
-    (state g.S.Store c.args.tx.now.conn.now) (state g.S.Store c.execute.new.self.conn.now) c.execute.result
-    (rw (c.params-to_sql.ensures, v1, c.params-to_sql-3.ensures) at (c.execute.ensures.runs clean begun))
+    c.put_row.ensures.put clean begun (change.Kept c.args.self.now) refl
+    (rw (c.params-to_sql.ensures, v1, c.params-to_sql-3.ensures) refl)

@@ -1,9 +1,7 @@
-use Rattle.std.proofs.Common.{◌≡◌, rules}
-use Rattle.sqlite.specs.Held.{state}
+use Rattle.std.proofs.Common.{◌≡◌, refl, rules}
 use Rattle.sqlite_value.specs.Value.{owned}
 use Rattle.sqlite.specs.declared.types.Value.TheVariants.{Int}
 use Rattle.ledger.specs.declared.rows.Change.TheVariants as change
-use Rattle.sql_keep.proofs.Puts.{row_upserted}
 use Rattle.sql_keep.proofs.tables.line.LineRowSqlRow.upsert.Goals as goal
 
 pub returns-clause-put : goal.returns-clause-put
@@ -13,6 +11,5 @@ returns-clause-put g c clean begun =
     let v4 : owned c.params-to_sql-5.result ≡ Int c.args.self.now.way = search rules in
     let v5 : owned c.params-to_sql-6.result ≡ Int c.args.self.now.held = search rules in
     let v6 : owned c.params-to_sql-7.result ≡ Int c.args.self.now.used = search rules in
-    row_upserted (change.Line c.args.self.now) c.upsert_text.result.now c.upsert_text.ensures
-    (state g.S.Store c.args.tx.now.conn.now) (state g.S.Store c.execute.new.self.conn.now) c.execute.result
-    (rw (v0, v1, c.params-to_sql-3.ensures, c.params-to_sql-4.ensures, v4, v5, v6) at (c.execute.ensures.runs clean begun))
+    c.put_row.ensures.put clean begun (change.Line c.args.self.now) refl
+    (rw (v0, v1, c.params-to_sql-3.ensures, c.params-to_sql-4.ensures, v4, v5, v6) refl)

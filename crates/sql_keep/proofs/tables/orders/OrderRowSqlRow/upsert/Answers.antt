@@ -1,9 +1,7 @@
-use Rattle.std.proofs.Common.{◌≡◌, rules}
-use Rattle.sqlite.specs.Held.{state}
+use Rattle.std.proofs.Common.{◌≡◌, refl, rules}
 use Rattle.sqlite_value.specs.Value.{owned}
 use Rattle.sqlite.specs.declared.types.Value.TheVariants.{Int}
 use Rattle.ledger.specs.declared.rows.Change.TheVariants as change
-use Rattle.sql_keep.proofs.Puts.{row_upserted}
 use Rattle.sql_keep.proofs.tables.orders.OrderRowSqlRow.upsert.Goals as goal
 
 pub returns-clause-put : goal.returns-clause-put
@@ -12,6 +10,4 @@ returns-clause-put g c clean begun =
     let v1 : owned c.params-to_sql-2.result ≡ Int c.args.self.now.kind = search rules in
     let v2 : owned c.params-to_sql-3.result ≡ Int c.args.self.now.until = search rules in
     let v3 : owned c.params-to_sql-4.result ≡ Int c.args.self.now.state = search rules in
-    row_upserted (change.Order c.args.self.now) c.upsert_text.result.now c.upsert_text.ensures
-    (state g.S.Store c.args.tx.now.conn.now) (state g.S.Store c.execute.new.self.conn.now) c.execute.result
-    (rw (v0, v1, v2, v3) at (c.execute.ensures.runs clean begun))
+    c.put_row.ensures.put clean begun (change.Order c.args.self.now) refl (rw (v0, v1, v2, v3) refl)
