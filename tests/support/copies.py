@@ -30,7 +30,7 @@ PAUSE = 0.04
 # a desk that has not answered for so many seconds stands still; a slow disk stops it for less
 STANDS = 10
 
-SMALL_DISK = 16_000_000
+SMALL_DISK = 64_000_000
 
 NAME = re.compile("desk-[0-9]{8}T[0-9]{6}Z-([0-9]+)[.]db")
 HELD = re.compile("stockdesk-backup: the desk was held for ([0-9.]+) ms\n")
