@@ -51,7 +51,23 @@ pub(crate) trait SqlRow: TableRow {
         ensures { IfOk result (λ found. IsShown Self.TableRow.which row.now (Self.TableRow.cells found)) };
 }
 
-/// Inserts a row by the text. Where the table has its key already, the row is put in by its key.
+/// Puts a row of the table in by its key. Where a row has the key already, it gets the other columns.
+fn upsert<S: Alter>(
+    tx: &mut Transaction<'_, S>,
+    table: TableName,
+    values: &[ValueRef<'_>],
+) -> Result<usize, Error>
+    ensures same_reference { tx.new.conn.ghost_name ≡ tx.old.conn.ghost_name }
+    ensures put { HasCleanDisk (state S.Store tx.new.conn.now) → IsTrue (state S.Store tx.old.conn.now).in_transaction
+        → (change : Change) → table_of change ≡ table → bound values.now ≡ columns_of change
+        → OnOk result (PutsIn (state S.Store tx.old.conn.now) (state S.Store tx.new.conn.now) (change ∷ [])) }
+    ensures survives { Survives (state S.Store tx.old.conn.now) (state S.Store tx.new.conn.now) (λ _. ⊥) }
+{
+    tx.execute(upsert_text(table), values)
+}
+
+/// Puts a row of the table in by its key, which is mostly new: the text inserts it. Where that is refused, since a row
+/// has the key already, it gets the other columns.
 fn insert<S: Alter>(
     tx: &mut Transaction<'_, S>,
     text: &str,
@@ -66,9 +82,7 @@ fn insert<S: Alter>(
     ensures survives { Survives (state S.Store tx.old.conn.now) (state S.Store tx.new.conn.now) (λ _. ⊥) }
 {
     match tx.execute(text, values) {
-        Err(Error::SqliteFailure(ErrorCode::ConstraintViolation(_))) => {
-            tx.execute(upsert_text(table), values)
-        }
+        Err(Error::SqliteFailure(ErrorCode::ConstraintViolation(_))) => upsert(tx, table, values),
         done => done,
     }
 }
@@ -87,7 +101,7 @@ pub(crate) fn put_row<S: Alter>(
 {
     match insert_text(table) {
         Some(text) => insert(tx, text, table, values),
-        None => tx.execute(upsert_text(table), values),
+        None => upsert(tx, table, values),
     }
 }
 

@@ -3,10 +3,10 @@ use Rattle.sqlite.specs.Held.{state}
 use Rattle.sqlite.specs.State.{ExecutesInside}
 use Rattle.sql_keep.specs.Statements.{PutsRow}
 use Rattle.sql_keep.proofs.Puts.{row_upserted}
-use Rattle.sql_keep.proofs.table.put_row.Goals as goal
+use Rattle.sql_keep.proofs.table.upsert.Goals as goal
 
-pub returns-in-None-clause-put : goal.returns-in-None-clause-put
-returns-in-None-clause-put g c clean begun change is_table is =
+pub returns-clause-put : goal.returns-clause-put
+returns-clause-put g c clean begun change is_table is =
     let old = state g.S.Store c.args.tx.now.conn.now in
     let new = state g.S.Store c.execute.new.self.conn.now in
     row_upserted change c.upsert_text.result.now
