@@ -1,6 +1,6 @@
 //! The two files of a desk, and how the store over them is set.
 
-ghost use Rattle.std.specs.Prelude.{◌≡◌, ◌≤◌, ◌*◌, true, false, IsTrue, IfErr, IfOk};
+ghost use Rattle.std.specs.Prelude.{◌≡◌, ◌≤◌, ◌*◌, IsTrue, IfErr, IfOk, length};
 ghost use Rattle.sqlite.specs.Files.{image_of};
 ghost use Rattle.sqlite.specs.Opening.{is_open_error};
 ghost use Rattle.sqlite.specs.WalFiles.{image_at};
@@ -11,7 +11,8 @@ use sqlite_disk::Disk;
 use sqlite_std_file::OpenError;
 use std::fs::{self, File};
 use std::hash::{BuildHasher, RandomState};
-use std::io::{ErrorKind, Read};
+use std::io::{self, ErrorKind};
+use std::os::unix::fs::FileExt;
 
 /// How many bytes a page of a new desk's file has. A round of commands changes a row here and there, and the log gets
 /// each page with such a row whole. With pages of 4,096 bytes 64 commands write more than the log has zeros for, and
@@ -61,28 +62,33 @@ pub(crate) fn open_files<S: Start>(
     }
 }
 
-/// Returns how many bytes a page of the file at the path has, by the file's header; where there is no such header, how
-/// many a page of a new file has.
-pub(crate) fn page_bytes(rt: &HostRuntime, path: &str) -> usize
-    ensures { (1 ≤ result) × (result ≤ LONGEST_PAGE) }
+/// Returns how many bytes a page of the file at the path has, by the file's header; where there is no such header, or
+/// no file, how many a page of a new file has.
+pub(crate) fn page_bytes(rt: &HostRuntime, path: &str) -> Result<usize, Error>
+    ensures found { IfOk result (λ bytes. (1 ≤ bytes) × (bytes ≤ LONGEST_PAGE)) }
+    ensures error { IfErr result (λ error. IsTrue (is_open_error error)) }
 {
     let mut head = [0; 18];
     match read_head(rt, path, &mut head) {
-        Some(18) => match u16::from_be_bytes([head[16], head[17]]) {
+        Ok(18) => Ok(match u16::from_be_bytes([head[16], head[17]]) {
             0 => PAGE_BYTES,
             1 => LONGEST_PAGE,
             bytes => usize::from(bytes),
-        },
-        _ => PAGE_BYTES,
+        }),
+        Ok(_) => Ok(PAGE_BYTES),
+        Err(error) if error.kind() == ErrorKind::NotFound => Ok(PAGE_BYTES),
+        Err(_) => Err(Error::SqliteFailure(ErrorCode::SystemIoFailure)),
     }
 }
 
-/// Reads the first bytes of a regular file, and returns how many there are.
-fn read_head(rt: &HostRuntime, path: &str, head: &mut [u8]) -> Option<usize> {
-    if !fs::metadata(rt, path).ok()?.is_file() {
-        return None;
+/// Reads the first bytes of a file, and returns how many there are; none of what is no regular file.
+pub fn read_head(rt: &HostRuntime, path: &str, head: &mut [u8]) -> io::Result<usize>
+    ensures { IfOk result (λ count. count ≤ length head.old) }
+{
+    if !fs::metadata(rt, path)?.is_file() {
+        return Ok(0);
     }
-    File::open(rt, path).ok()?.read(head).ok()
+    File::open(rt, path)?.read_at(head, 0)
 }
 
 /// Returns how the store is set over a file with pages of so many bytes.

@@ -17,7 +17,7 @@ mod tables;
 mod trials;
 mod upgrade;
 
-pub use files::PAGE_BYTES;
+pub use files::{PAGE_BYTES, read_head};
 pub use new_file::create_path;
 pub use opening::open_path;
 pub use sql::SqlKeep;

@@ -43,7 +43,7 @@ fn connect<S: Start>(
         → (view conn.store).has_sums ≡ false) }
     ensures error { IfErr result (λ error. IsTrue (is_open_error error)) }
 {
-    let options = options(rt, page_bytes(rt, path))?;
+    let options = options(rt, page_bytes(rt, path)?)?;
     let files = open_files(rt, path, start)?;
     match Connection::open_files_with(rt.alloc(), files, options, false) {
         Ok(conn) => Ok(conn),

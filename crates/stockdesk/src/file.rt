@@ -30,10 +30,10 @@ use crate::{upgrade, work};
 use command_line::Work;
 use keep::Keep;
 use ledger::Change;
-use sql_keep::{PAGE_BYTES, SqlKeep, create_path, open_path};
+use sql_keep::{PAGE_BYTES, SqlKeep, create_path, open_path, read_head};
 use sqlite::{Connection, Error, ErrorCode, FileFrom, FileStore, Start};
 use sqlite_disk::{Disk, Files};
-use std::fs::{self, File};
+use std::fs;
 use std::io::{ErrorKind, Read, Write};
 
 /// The keeper of what a file holds; `S` names the bytes of the file.
@@ -62,12 +62,9 @@ fn look_inside(rt: &HostRuntime, path: &str, len: u64) -> Result<Found, Fault>
     ensures { IfErr result (λ fault. fault ≡ Fault.Store) }
 {
     let mut head = [0; MAGIC.len()];
-    let Ok(mut file) = File::open(rt, path) else {
+    let Ok(_) = read_head(rt, path, &mut head) else {
         return Err(Fault::Store);
     };
-    if file.read(&mut head).is_err() {
-        return Err(Fault::Store);
-    }
     Ok(if head[0] == 0 {
         Found::Unfinished
     } else if len == 1 {
