@@ -295,7 +295,7 @@ class Messages(ProgramCase):
         path = new_desk(self.program, self.folder)
         done(self.program, ["run", path], "K1 field N1 A-1 0 100000 0\n")
         delivered = "".join(f"K{n} deliver N1 A-1 1\n" for n in range(2, 400))
-        service = Service(self.program, path, 2, limit=1_048_576, options=self.few)
+        service = Service(self.program, path, 2, limit=524_288, options=self.few)
         rows = [(COMMANDS, f'{{"command":"deliver N1 A-1 1","key":"K{n}"}}', 200, f'{{"place":{n}}}') for n in range(2, 400)]
         found = answered(service.port, [messages_of(rows) + messages_of(ON_A_STOPPED_DESK)])
         # as many are done as find room, and none behind one that does not
