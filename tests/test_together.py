@@ -417,9 +417,9 @@ class Stops(ProgramCase):
         """The files may not grow as far as the whole file needs: the replies written are those of whole batches, and one batch
         more may be kept."""
         files, failed = Deliveries(self.program, self.folder), set()
-        ends, size = ends_of(files.replies, 1, 100), os.path.getsize(files.desk)
+        ends, size = ends_of(files.replies, 1, 10), os.path.getsize(files.desk)
         for limit in range(size, size + GROWTH, GROWTH // 20):
-            words, of = files.words(100), f"{limit} bytes"
+            words, of = files.words(10), f"{limit} bytes"
             status, out, errors = ended(self.program, words, limit=(resource.RLIMIT_FSIZE, limit))
             expect((status, errors) in [(0, b""), (1, b"stockdesk: store\n")], f"{of}: status {status}, {errors}")
             told = files.told(out, of)
